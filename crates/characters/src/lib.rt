@@ -1,0 +1,13 @@
+// The service characters of an interchange (paper 01, "Service characters"): which six bytes are
+// usable, which ones an input uses, where its body begins, and what part a byte then plays.
+// The definitions are in specs/. What the bytes of the body mean is left to `reading`.
+
+// Six bytes in the advice's order. `release` is a space where there is no release character.
+pub struct Characters {
+    pub component: u8,
+    pub element: u8,
+    pub mark: u8,
+    pub release: u8,
+    pub reserved: u8,
+    pub terminator: u8,
+}

@@ -1,0 +1,4 @@
+pub mod Tokens
+pub mod Values
+pub mod Trimming
+pub mod Spelling

@@ -1,0 +1,27 @@
+// Refusals (paper 01, "Refusals by number"): the sixteen by name, and the rule that picks one:
+// the first failing stage answers; within a stage the lowest place, then the lowest number.
+// The definitions are in specs/. When each refusal is met is left to `verdict` and `operations`.
+
+pub enum Fault {
+    TooLong,
+    UnusableAdvice,
+    NoOpening,
+    StrayRelease,
+    UnendedSegment,
+    BrokenTag,
+    ForeignLevel,
+    OutsideLevel,
+    MisplacedSegment,
+    BadControl,
+    ReferenceDiffers,
+    CountWrong,
+    NormalTooLong,
+    BufferShort,
+    BadList,
+    NeedsRelease,
+}
+
+pub struct Refusal {
+    pub fault: Fault,
+    pub place: usize,
+}

@@ -1,0 +1,3 @@
+pub mod Kinds
+pub mod Tags
+pub mod Order

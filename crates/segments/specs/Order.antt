@@ -1,0 +1,86 @@
+-- Paper 01, "Order of segments". What passed is a list of kinds, the nearest first. Assumes nothing.
+use Prim.Native.Nat.{ℕ}
+use mathlib.Core.Bool.{Bool, true, false, _&&_, _||_}
+use mathlib.Core.List.{List, [], _∷_}
+use lib.ListN.{length}
+use lib.Dec.{eqb, ltb}
+use Rattle.lists.specs.Lists.{if_then_else_, through, those}
+use Rattle.segments.specs.declared.Kind.{Kind}
+use Rattle.segments.specs.declared.Kind.the-variants.{Unb, Ung, Unh, Uns, Unt, Une, Unz, User}
+use Rattle.segments.specs.declared.Standing.{Standing}
+use Rattle.segments.specs.declared.Standing.the-variants.{BeforeInterchange, BetweenGroups, InGroup, InGroupMessage, InMessage, BehindInterchange}
+use Rattle.segments.specs.declared.Walk.{Walk}
+use Rattle.segments.specs.Kinds.{is}
+
+-- ---- the three counts
+
+unfoldable pub segmentsIn : List Kind → ℕ
+segmentsIn past = length past
+
+unfoldable pub messagesIn : List Kind → ℕ
+messagesIn past = length (those (is Unh) past)
+
+unfoldable pub groupsIn : List Kind → ℕ
+groupsIn past = length (those (is Ung) past)
+
+-- the segments since the nearest UNH, which is one of them
+unfoldable pub segmentsSinceHeader : List Kind → ℕ
+segmentsSinceHeader past = segmentsIn (through (is Unh) past)
+
+-- the messages since the nearest UNG
+unfoldable pub messagesSinceGroup : List Kind → ℕ
+messagesSinceGroup past = messagesIn (through (is Ung) past)
+
+-- ---- where the check stands
+
+-- of the two, the header is the nearer: what it opened is not closed yet
+unfoldable pub isOpen : Kind → Kind → List Kind → Bool
+isOpen header trailer [] = false
+isOpen header trailer (kind ∷ past) =
+    let rest = isOpen header trailer past in
+    if is header kind then true else if is trailer kind then false else rest
+
+-- "before UNB, between groups, inside a group, or inside a message of a group or of none"
+unfoldable pub standing : List Kind → Standing
+standing past =
+    if isOpen Unz Unb past then BehindInterchange
+    else if isOpen Unh Unt past then (if isOpen Ung Une past then InGroupMessage else InMessage)
+    else if isOpen Ung Une past then InGroup
+    else if isOpen Unb Unz past then BetweenGroups else BeforeInterchange
+
+-- ---- which segment is allowed there
+
+-- "any number of user segments and UNS, UNT"
+unfoldable pub insideMessage : Kind → Bool
+insideMessage kind = is User kind || is Uns kind || is Unt kind
+
+-- "UNB; then one or more groups, or one or more messages, not both; then UNZ and nothing more. A group is UNG, one or more messages, UNE."
+unfoldable pub allowedAt : Standing → List Kind → Kind → Bool
+allowedAt BeforeInterchange past kind = is Unb kind
+allowedAt BetweenGroups past kind =
+    (is Ung kind && (ltb 0 (groupsIn past) || eqb (messagesIn past) 0))
+    || (is Unh kind && eqb (groupsIn past) 0)
+    || (is Unz kind && ltb 0 (messagesIn past))
+allowedAt InGroup past kind = is Unh kind || (is Une kind && ltb 0 (messagesSinceGroup past))
+allowedAt InGroupMessage past kind = insideMessage kind
+allowedAt InMessage past kind = insideMessage kind
+allowedAt BehindInterchange past kind = false
+
+unfoldable pub allowed : List Kind → Kind → Bool
+allowed past kind = allowedAt (standing past) past kind
+
+-- what passed is a whole interchange, if each segment was allowed where it stood
+unfoldable pub isComplete : List Kind → Bool
+isComplete past = isOpen Unz Unb past
+
+-- the walk's state behind what passed
+unfoldable pub walkOver : List Kind → Walk
+walkOver past =
+    record {
+      standing = standing past;
+      segments = record { 0 = segmentsIn past };
+      messages = record { 0 = messagesIn past };
+      groups = record { 0 = groupsIn past };
+      in_message = record { 0 = segmentsSinceHeader past };
+      in_group = record { 0 = messagesSinceGroup past };
+    }

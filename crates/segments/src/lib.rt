@@ -1,0 +1,44 @@
+// Segments (paper 01, the tag rule and "Order of segments"): the kind that a tag names, the rule for
+// tags, where the check stands as it walks, which segment is allowed there, and the three counters.
+// The definitions are in specs/. What trailers must say is left to `control`.
+
+// The service segments, and every other one.
+pub enum Kind {
+    Unb,
+    Ung,
+    Unh,
+    Uns,
+    Unt,
+    Une,
+    Unz,
+    User,
+}
+
+// Where the check stands: before UNB, outside every group and message, inside a group,
+// inside a message of a group or of none, and behind UNZ.
+pub enum Standing {
+    BeforeInterchange,
+    BetweenGroups,
+    InGroup,
+    InGroupMessage,
+    InMessage,
+    BehindInterchange,
+}
+
+// Three counters that the standard keeps apart.
+pub struct Segments(pub u32);
+
+pub struct Messages(pub u32);
+
+pub struct Groups(pub u32);
+
+// Where the walk stands and what it has counted so far: in the interchange, since the last UNH
+// (which is one of them) and since the last UNG.
+pub struct Walk {
+    pub standing: Standing,
+    pub segments: Segments,
+    pub messages: Messages,
+    pub groups: Groups,
+    pub in_message: Segments,
+    pub in_group: Messages,
+}
