@@ -56,17 +56,17 @@ module _ {A : Type 0} where
   -- those that pass the test
   unfoldable pub those : (A → Bool) → List A → List A
   those t [] = []
-  those t (x ∷ xs) = let rest = those t xs in if t x then x ∷ rest else rest
+  those t (x ∷ xs) = if t x then x ∷ those t xs else those t xs
 
   -- those up to the first that passes the test, which is one of them
   unfoldable pub through : (A → Bool) → List A → List A
   through t [] = []
-  through t (x ∷ xs) = let rest = through t xs in x ∷ (if t x then [] else rest)
+  through t (x ∷ xs) = x ∷ (if t x then [] else through t xs)
 
   -- the first that passes the test
   unfoldable pub first : (A → Bool) → List A → Option A
   first t [] = none
-  first t (x ∷ xs) = let rest = first t xs in if t x then some x else rest
+  first t (x ∷ xs) = if t x then some x else first t xs
 
   -- the one at a number, from 0
   unfoldable pub at : List A → ℕ → Option A

@@ -2,7 +2,7 @@
 use Prim.Native.Nat.{ℕ, zero, _-_}
 use mathlib.Core.Bool.{Bool, true, false, not, _&&_}
 use mathlib.Core.List.{List, [], _∷_, map}
-use Rattle.lists.specs.Lists.{cut, all, lastOr, gather}
+use Rattle.lists.specs.Lists.{cut, all, lastOr, gather, isEmpty}
 use Rattle.reading.specs.Tokens.{Token, byte, separator, fault, ends, placeOf, Segment, start}
 
 -- the value's bytes without their release characters, and where it is spelled in the input
@@ -46,6 +46,10 @@ isFault (fault place) = true
 unfoldable pub endedBy : ℕ → List Token → Bool
 endedBy kind [] = false
 endedBy kind (t ∷ ts) = ends kind (lastOr t ts)
+
+-- the tokens end inside a segment
+unfoldable pub endsInside : List Token → Bool
+endsInside ts = not (isEmpty ts) && not (endedBy 0 ts)
 
 -- "A segment is finished when its terminator ends it and no fault 4 lies in it."
 unfoldable pub finished : Segment → Bool

@@ -37,8 +37,7 @@ messagesSinceGroup past = messagesIn (through (is Ung) past)
 unfoldable pub isOpen : Kind → Kind → List Kind → Bool
 isOpen header trailer [] = false
 isOpen header trailer (kind ∷ past) =
-    let rest = isOpen header trailer past in
-    if is header kind then true else if is trailer kind then false else rest
+    if is header kind then true else if is trailer kind then false else isOpen header trailer past
 
 -- "before UNB, between groups, inside a group, or inside a message of a group or of none"
 unfoldable pub standing : List Kind → Standing

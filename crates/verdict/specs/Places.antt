@@ -8,7 +8,7 @@ use Rattle.lists.specs.Lists.{gather, at, maybe}
 use Rattle.characters.specs.Characters.{bodyStart, badAdvice, opens}
 use Rattle.refusals.specs.Refusals.{placeIf}
 use Rattle.reading.specs.Tokens.{Token, byte, separator, fault, Segment, placeOf, start}
-use Rattle.reading.specs.Values.{isFault, finished, endedBy}
+use Rattle.reading.specs.Values.{isFault, finished, endsInside}
 use Rattle.levels.specs.Levels.{levelOf, inLevel}
 use Rattle.segments.specs.Tags.{kindOf, tagRule}
 use Rattle.segments.specs.Order.{allowed, isComplete}
@@ -43,7 +43,7 @@ module _ (s : List ℕ) where
 
   -- 5: "the body ends inside a segment": "input length"
   unfoldable pub unendedSegment : List ℕ
-  unendedSegment = placeIf (not (endedBy 0 (bodyTokens s))) (length s)
+  unendedSegment = placeIf (endsInside (bodyTokens s)) (length s)
 
   -- 6: "tag rule broken, in a finished segment": "segment start"
   unfoldable pub brokenTags : List ℕ

@@ -1,0 +1,63 @@
+-- Laws of lists that are cut into pieces. Assumes nothing.
+use mathlib.Core.Path.{_≡_, refl, sym, ap, _∙_}
+use mathlib.Core.Bool.{Bool, true, false, not, _&&_, false≢true}
+use mathlib.Core.List.{List, [], _∷_, _++_}
+use Rattle.lists.specs.Lists.{if_then_else_, all, through, onto, cut}
+use Rattle.lists.proofs.Texts.{and-left, and-right}
+
+module _ {A : Type 0} (t : A → Bool) where
+  -- what follows the first that passes the test
+  unfoldable pub beyond : List A → List A
+  beyond [] = []
+  beyond (x ∷ xs) = if t x then xs else beyond xs
+
+  -- a list is its first piece and what follows it
+  pub through-beyond : (xs : List A) → through t xs ++ beyond xs ≡ xs
+  unfolding through beyond
+  through-beyond [] = refl
+  through-beyond (x ∷ xs) = step (t x) (through-beyond xs)
+    where
+      step : (b : Bool) → through t xs ++ beyond xs ≡ xs
+          → x ∷ ((if b then [] else through t xs) ++ (if b then xs else beyond xs)) ≡ x ∷ xs
+      step true ih = refl
+      step false ih = ap (λ (l : List A). x ∷ l) ih
+
+  -- the pieces of a list are its first piece and the pieces of what follows it
+  pub cut-first : (x : A) (xs : List A) → cut t (x ∷ xs) ≡ through t (x ∷ xs) ∷ cut t (beyond (x ∷ xs))
+  unfolding cut onto through beyond
+  cut-first x [] = step (t x)
+    where
+      step : (b : Bool) → onto b x [] ≡ (x ∷ (if b then [] else [])) ∷ cut t (if b then [] else [])
+      step true = refl
+      step false = refl
+  cut-first x (y ∷ ys) = step (t x) (cut-first y ys)
+    where
+      step : (b : Bool) → cut t (y ∷ ys) ≡ through t (y ∷ ys) ∷ cut t (beyond (y ∷ ys))
+          → onto b x (cut t (y ∷ ys)) ≡ (x ∷ (if b then [] else through t (y ∷ ys))) ∷ cut t (if b then y ∷ ys else beyond (y ∷ ys))
+      step true ih = refl
+      step false ih = ap (onto false x) ih
+
+  -- none of them passes the test
+  abbrev pub None : List A → Type 0
+  None xs = all (λ x. not (t x)) xs ≡ true
+
+  head-fails : (b : Bool) (rest : Bool) → (not b && rest) ≡ true → b ≡ false
+  head-fails true rest h = absurd (false≢true h)
+  head-fails false rest h = refl
+
+  -- in front of what ends a piece, nothing is cut
+  pub cut-append : (xs : List A) (e : A) (ys : List A) → None xs → t e ≡ true
+      → cut t (xs ++ e ∷ ys) ≡ (xs ++ e ∷ []) ∷ cut t ys
+  unfolding cut onto all
+  cut-append [] e ys h k = ap (λ (b : Bool). onto b e (cut t ys)) k
+  cut-append (x ∷ xs) e ys h k =
+      ap (λ (b : Bool). onto b x (cut t (xs ++ e ∷ ys))) (head-fails (t x) (all (λ z. not (t z)) xs) h)
+      ∙ ap (onto false x) (cut-append xs e ys (and-right (not (t x)) (all (λ z. not (t z)) xs) h) k)
+
+  -- a list that nothing cuts is one piece
+  pub cut-none : (x : A) (xs : List A) → None (x ∷ xs) → cut t (x ∷ xs) ≡ (x ∷ xs) ∷ []
+  unfolding cut onto all
+  cut-none x [] h = ap (λ (b : Bool). onto b x []) (head-fails (t x) true h)
+  cut-none x (y ∷ ys) h =
+      ap (λ (b : Bool). onto b x (cut t (y ∷ ys))) (head-fails (t x) (all (λ z. not (t z)) (y ∷ ys)) h)
+      ∙ ap (onto false x) (cut-none y ys (and-right (not (t x)) (all (λ z. not (t z)) (y ∷ ys)) h))
