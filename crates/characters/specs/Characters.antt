@@ -6,6 +6,8 @@ use lib.ListN.{length, getD, drop}
 use lib.Dec.{eqb, leb, ltb}
 use Rattle.lists.specs.Lists.{if_then_else_, text, begins, member, allDiffer, all}
 use Rattle.characters.specs.declared.Characters.{Characters}
+use Rattle.characters.specs.declared.Role.{Role}
+use Rattle.characters.specs.declared.Role.the-variants.{Separator, Release, Plain}
 
 -- ---- bytes
 
@@ -99,15 +101,9 @@ opens s = begins (text "UNB" ++ charactersOf s .element ∷ []) (body s)
 
 -- ---- what part a byte plays
 
--- A separator of kind 0 ends a segment, 1 an element, 2 a component.
-pub data Role : Type 0 where
-  separator : ℕ → Role
-  release : Role
-  plain : Role
-
 unfoldable pub role : Characters → ℕ → Role
 role c b =
-    if eqb b (c .terminator) then separator 0
-    else if eqb b (c .element) then separator 1
-    else if eqb b (c .component) then separator 2
-    else if released c && eqb b (c .release) then release else plain
+    if eqb b (c .terminator) then Separator 0
+    else if eqb b (c .element) then Separator 1
+    else if eqb b (c .component) then Separator 2
+    else if released c && eqb b (c .release) then Release else Plain

@@ -11,3 +11,10 @@ pub struct Characters {
     pub reserved: u8,
     pub terminator: u8,
 }
+
+// The part that a byte plays. A separator of kind 0 ends a segment, 1 an element, 2 a component.
+pub enum Role {
+    Separator(u8),
+    Release,
+    Plain,
+}

@@ -5,7 +5,9 @@ use mathlib.Core.List.{List, [], _∷_}
 use mathlib.Core.Option.{Option, none, some}
 use lib.Dec.{leb}
 use Rattle.characters.specs.declared.Characters.{Characters}
-use Rattle.characters.specs.Characters.{Role, role}
+use Rattle.characters.specs.declared.Role.{Role}
+use Rattle.characters.specs.declared.Role.the-variants.{Separator, Release, Plain}
+use Rattle.characters.specs.Characters.{role}
 use Rattle.lists.specs.Lists.{cut}
 
 -- A byte of a value stands at `place` and is spelled from `from`, which is its release character's place where it has one.
@@ -18,21 +20,21 @@ pub data Token : Type 0 where
 
 -- an unreleased byte, in front of the tokens that follow it; a release character is taken with the next byte
 unfoldable pub unreleased : Role → ℕ → ℕ → List Token → List Token
-unreleased (Role.separator kind) b place rest = separator kind place ∷ rest
-unreleased Role.release b place rest = rest
-unreleased Role.plain b place rest = byte b place place ∷ rest
+unreleased (Separator kind) b place rest = separator kind place ∷ rest
+unreleased Release b place rest = rest
+unreleased Plain b place rest = byte b place place ∷ rest
 
 -- the place of the release character that takes the next byte with it, if this byte is one
 unfoldable pub releasing : Role → ℕ → Option ℕ
-releasing (Role.separator kind) place = none
-releasing Role.release place = some place
-releasing Role.plain place = none
+releasing (Separator kind) place = none
+releasing Release place = some place
+releasing Plain place = none
 
 -- "The release character takes the next byte with it": a byte behind the release character at `from`
 unfoldable pub taken : Role → ℕ → ℕ → ℕ → List Token → List Token
-taken (Role.separator kind) b from place rest = byte b from place ∷ rest
-taken Role.release b from place rest = byte b from place ∷ rest
-taken Role.plain b from place rest = fault from ∷ rest
+taken (Separator kind) b from place rest = byte b from place ∷ rest
+taken Release b from place rest = byte b from place ∷ rest
+taken Plain b from place rest = fault from ∷ rest
 
 -- the tokens of the bytes from a place on, where a release character may stand directly before them
 unfoldable pub tokensFrom : Characters → Option ℕ → ℕ → List ℕ → List Token

@@ -1,0 +1,82 @@
+-- Reading from a place on, token by token: what stands at a place, and where reading goes on. Assumes nothing.
+use Prim.Native.Nat.{ℕ, zero, suc, _+_, _≤_, _<_}
+use mathlib.Core.Path.{_≡_, refl, sym, ap, _∙_}
+use mathlib.Core.List.{List, [], _∷_}
+use mathlib.Core.Option.{Option, none, some}
+use native.Mathlib.Numerals.{add-one, add-two}
+use native.Mathlib.Omega.{arith}
+use lib.ListN.{length, getD, drop, drop-of-length-le}
+use lib.Seq.{drop-cons}
+use Rattle.characters.specs.declared.Characters.{Characters}
+use Rattle.characters.specs.declared.Role.{Role}
+use Rattle.characters.specs.declared.Role.the-variants.{Separator, Release, Plain}
+use Rattle.characters.specs.Characters.{role}
+use Rattle.reading.specs.Tokens.{Token, byte, separator, fault, unreleased, releasing, taken, tokensFrom, tokens}
+
+module _ (c : Characters) (s : List ℕ) where
+  -- the tokens of the input from a place on
+  unfoldable pub tokensAt : ℕ → List Token
+  tokensAt at = tokens c at (drop at s)
+
+  -- what follows the byte at a place
+  drop-next : (at : ℕ) → at < length s → drop at s ≡ getD s at 0 ∷ drop (at + 1) s
+  drop-next at h = drop-cons s at 0 h ∙ ap (λ (n : ℕ). getD s at 0 ∷ drop n s) (sym (add-one at))
+
+  -- at the end there is nothing
+  pub at-end : (at : ℕ) → length s ≤ at → tokensAt at ≡ []
+  unfolding tokensAt tokens tokensFrom
+  at-end at h = ap (tokensFrom c none at) (drop-of-length-le s h)
+
+  -- a plain byte is a byte of a value
+  pub at-plain : (at : ℕ) → at < length s → role c (getD s at 0) ≡ Plain
+      → tokensAt at ≡ byte (getD s at 0) at at ∷ tokensAt (at + 1)
+  unfolding tokensAt tokens tokensFrom unreleased releasing
+  at-plain at h r =
+      ap (tokensFrom c none at) (drop-next at h)
+      ∙ ap (λ (o : Role). unreleased o (getD s at 0) at (tokensFrom c (releasing o at) (at + 1) (drop (at + 1) s))) r
+
+  pub at-separator : (at kind : ℕ) → at < length s → role c (getD s at 0) ≡ Separator kind
+      → tokensAt at ≡ separator kind at ∷ tokensAt (at + 1)
+  unfolding tokensAt tokens tokensFrom unreleased releasing
+  at-separator at kind h r =
+      ap (tokensFrom c none at) (drop-next at h)
+      ∙ ap (λ (o : Role). unreleased o (getD s at 0) at (tokensFrom c (releasing o at) (at + 1) (drop (at + 1) s))) r
+
+  -- a release character leaves what follows to the byte behind it
+  releases : (at : ℕ) → at < length s → role c (getD s at 0) ≡ Release
+      → tokensAt at ≡ tokensFrom c (some at) (at + 1) (drop (at + 1) s)
+  unfolding tokensAt tokens tokensFrom unreleased releasing
+  releases at h r =
+      ap (tokensFrom c none at) (drop-next at h)
+      ∙ ap (λ (o : Role). unreleased o (getD s at 0) at (tokensFrom c (releasing o at) (at + 1) (drop (at + 1) s))) r
+
+  -- "release followed by .. the end"
+  pub at-last-release : (at : ℕ) → at + 1 ≡ length s → role c (getD s at 0) ≡ Release → tokensAt at ≡ fault at ∷ []
+  unfolding tokensFrom
+  at-last-release at h r =
+      releases at (omega arith) r ∙ ap (tokensFrom c (some at) (at + 1)) (drop-of-length-le s {i = at + 1} (omega arith))
+
+  released : (at : ℕ) → at + 1 < length s → role c (getD s at 0) ≡ Release
+      → tokensAt at ≡ taken (role c (getD s (at + 1) 0)) (getD s (at + 1) 0) at (at + 1) (tokensAt (at + 1 + 1))
+  unfolding tokensAt tokens tokensFrom
+  released at h r = releases at (omega arith) r ∙ ap (tokensFrom c (some at) (at + 1)) (drop-next (at + 1) h)
+
+  -- "release followed by no service character"
+  pub at-stray-release : (at : ℕ) → at + 1 < length s → role c (getD s at 0) ≡ Release
+      → role c (getD s (at + 1) 0) ≡ Plain → tokensAt at ≡ fault at ∷ tokensAt (at + 1 + 1)
+  unfolding taken
+  at-stray-release at h r q =
+      released at h r ∙ ap (λ (o : Role). taken o (getD s (at + 1) 0) at (at + 1) (tokensAt (at + 1 + 1))) q
+
+  pub at-released-release : (at : ℕ) → at + 1 < length s → role c (getD s at 0) ≡ Release
+      → role c (getD s (at + 1) 0) ≡ Release → tokensAt at ≡ byte (getD s (at + 1) 0) at (at + 1) ∷ tokensAt (at + 1 + 1)
+  unfolding taken
+  at-released-release at h r q =
+      released at h r ∙ ap (λ (o : Role). taken o (getD s (at + 1) 0) at (at + 1) (tokensAt (at + 1 + 1))) q
+
+  pub at-released-separator : (at kind : ℕ) → at + 1 < length s → role c (getD s at 0) ≡ Release
+      → role c (getD s (at + 1) 0) ≡ Separator kind
+      → tokensAt at ≡ byte (getD s (at + 1) 0) at (at + 1) ∷ tokensAt (at + 1 + 1)
+  unfolding taken
+  at-released-separator at kind h r q =
+      released at h r ∙ ap (λ (o : Role). taken o (getD s (at + 1) 0) at (at + 1) (tokensAt (at + 1 + 1))) q

@@ -1,0 +1,112 @@
+-- What the scanner says at a place is the token that `reading` has there. Assumes nothing.
+use Prim.Native.Nat.{ℕ, _+_, _≤_, _<_}
+use native.Mathlib.Omega.{arith}
+use native.Mathlib.Decide.{decLe}
+use native.Mathlib.Nat.{lt-of-not-le}
+use mathlib.Core.Logic.{_⊎_, inl, inr, ⊎-elim}
+use mathlib.Core.Path.{_≡_, refl, sym, ap, _∙_, subst}
+use mathlib.Core.List.{List, [], _∷_}
+use lib.ListN.{length, getD}
+use lib.Dec.{ltb}
+use borrow.Author.Tests.{lt-ltb, le-ltb}
+use Rattle.lists.specs.Lists.{if_then_else_}
+use Rattle.lists.proofs.Texts.{if-true, if-false}
+use Rattle.characters.specs.declared.Characters.{Characters}
+use Rattle.characters.specs.declared.Role.{Role}
+use Rattle.characters.specs.declared.Role.the-variants as role
+use Rattle.characters.specs.Characters.{role as roleIn}
+use Rattle.reading.specs.Tokens.{Token, byte, separator, fault}
+use Rattle.reading.proofs.Steps.{tokensAt, at-end, at-plain, at-separator, at-last-release, at-stray-release, at-released-release, at-released-separator}
+use Rattle.scanner.specs.declared.Lexed.{Lexed}
+use Rattle.scanner.specs.declared.Lexed.the-variants.{Byte, Separator, Stray, End}
+use Rattle.scanner.specs.Scanner.{lexTaken, lexRole, lexAt}
+
+module _ (c : Characters) (s : List ℕ) (at : ℕ) where
+  -- behind the last byte is the end
+  pub lex-end : length s ≤ at → End ≡ lexAt c s at
+  unfolding lexAt
+  lex-end h = sym (if-false (ltb at (length s)) (lexRole c s at (roleIn c (getD s at 0))) End (le-ltb at (length s) h))
+
+  -- elsewhere the byte's part decides
+  pub lex-role : (o : Role) → at < length s → roleIn c (getD s at 0) ≡ o → lexRole c s at o ≡ lexAt c s at
+  unfolding lexAt
+  lex-role o h e =
+      ap (lexRole c s at) (sym e)
+      ∙ sym (if-true (ltb at (length s)) (lexRole c s at (roleIn c (getD s at 0))) End (lt-ltb at (length s) h))
+
+  -- a release character with nothing behind it
+  pub lex-last : at < length s → length s ≤ at + 1 → roleIn c (getD s at 0) ≡ role.Release → Stray (at + 1) ≡ lexAt c s at
+  unfolding lexRole
+  lex-last h k e =
+      sym
+      (if-false
+      (ltb (at + 1) (length s))
+      (lexTaken (roleIn c (getD s (at + 1) 0)) (getD s (at + 1) 0) (at + 1) (at + 1 + 1))
+      (Stray (at + 1))
+      (le-ltb (at + 1) (length s) k))
+      ∙ lex-role role.Release h e
+
+  -- a release character with a byte behind it
+  pub lex-taken : (o : Role) → at < length s → at + 1 < length s → roleIn c (getD s at 0) ≡ role.Release
+      → roleIn c (getD s (at + 1) 0) ≡ o → lexTaken o (getD s (at + 1) 0) (at + 1) (at + 1 + 1) ≡ lexAt c s at
+  unfolding lexRole
+  lex-taken o h k e d =
+      ap (λ (q : Role). lexTaken q (getD s (at + 1) 0) (at + 1) (at + 1 + 1)) (sym d)
+      ∙ sym
+      (if-true
+      (ltb (at + 1) (length s))
+      (lexTaken (roleIn c (getD s (at + 1) 0)) (getD s (at + 1) 0) (at + 1) (at + 1 + 1))
+      (Stray (at + 1))
+      (lt-ltb (at + 1) (length s) k))
+      ∙ lex-role role.Release h e
+
+  -- The token that stands there and the tokens behind it, as the scanner says them. Every caller goes by this alone.
+  abbrev pub Lexes : Lexed → Type 0
+  Lexes (Byte b place next) = (tokensAt c s at ≡ byte b at place ∷ tokensAt c s next) × (at < next) × (next ≤ length s)
+  Lexes (Separator kind next) = (tokensAt c s at ≡ separator kind at ∷ tokensAt c s next) × (at < next) × (next ≤ length s)
+  Lexes (Stray next) = (tokensAt c s at ≡ fault at ∷ tokensAt c s next) × (at < next) × (next ≤ length s)
+  Lexes End = (tokensAt c s at ≡ []) × (length s ≤ at)
+
+  -- behind a release character
+  lexes-taken : (o : Role) → at + 1 < length s → roleIn c (getD s at 0) ≡ role.Release → roleIn c (getD s (at + 1) 0) ≡ o
+      → Lexes (lexTaken o (getD s (at + 1) 0) (at + 1) (at + 1 + 1))
+  lexes-taken (role.Separator kind) h e d = (at-released-separator c s at kind h e d, omega arith, omega arith)
+  lexes-taken role.Release h e d = (at-released-release c s at h e d, omega arith, omega arith)
+  lexes-taken role.Plain h e d = (at-stray-release c s at h e d, omega arith, omega arith)
+
+  lexes-release : at < length s → roleIn c (getD s at 0) ≡ role.Release → Lexes (lexRole c s at role.Release)
+  unfolding lexRole
+  lexes-release h e = elim (decLe (length s) (at + 1)) [ yes k ↦ last k | no k ↦ more (lt-of-not-le k) ]
+    where
+      last : length s ≤ at + 1 → Lexes (lexRole c s at role.Release)
+      last k =
+          subst Lexes (lex-last h k e ∙ sym (lex-role role.Release h e)) (
+            at-last-release c s at (omega arith) e
+                ∙ ap (λ (ts : List Token). fault at ∷ ts) (sym (at-end c s (at + 1) k)),
+            omega arith,
+            omega arith,
+          )
+
+      more : at + 1 < length s → Lexes (lexRole c s at role.Release)
+      more k =
+          subst Lexes (lex-taken (roleIn c (getD s (at + 1) 0)) h k e refl ∙ sym (lex-role role.Release h e))
+          (lexes-taken (roleIn c (getD s (at + 1) 0)) k e refl)
+
+  lexes-role : (o : Role) → at < length s → roleIn c (getD s at 0) ≡ o → Lexes (lexRole c s at o)
+  unfolding lexRole
+  lexes-role (role.Separator kind) h e = (at-separator c s at kind h e, omega arith, omega arith)
+  lexes-role role.Release h e = lexes-release h e
+  lexes-role role.Plain h e = (at-plain c s at h e, omega arith, omega arith)
+
+  pub lexes : Lexes (lexAt c s at)
+  lexes = elim (decLe (length s) at) [ yes k ↦ ended k | no k ↦ inside (lt-of-not-le k) ]
+    where
+      ended : length s ≤ at → Lexes (lexAt c s at)
+      ended k = subst Lexes (lex-end k) (at-end c s at k, k)
+
+      inside : at < length s → Lexes (lexAt c s at)
+      inside k = subst Lexes (lex-role (roleIn c (getD s at 0)) k refl) (lexes-role (roleIn c (getD s at 0)) k refl)
+
+  -- what a match on the scanner's answer shows
+  pub lexes-as : {r answer : Lexed} → answer ≡ lexAt c s at → answer ≡ r → Lexes r
+  lexes-as e d = subst Lexes (sym e ∙ d) lexes

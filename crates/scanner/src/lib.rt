@@ -1,0 +1,73 @@
+// The scanner: what stands at a place of the input (a byte of a value, a separator, a stray release
+// character, the end) and where reading goes on. It promises the tokens of `reading`, one at a time.
+ghost use mathlib.Core.Path.{_≡_};
+ghost use Rattle.characters.specs.Characters.{role};
+ghost use Rattle.scanner.specs.Scanner.{lexTaken, lexAt};
+use characters::Characters;
+use characters::Role;
+
+pub fn role_of(c: Characters, b: u8) -> Role
+    ensures { λ r. ⌜ r ≡ role c b ⌝ }
+{
+    if b == c.terminator {
+        return Role::Separator(0);
+    }
+    if b == c.element {
+        return Role::Separator(1);
+    }
+    if b == c.component {
+        return Role::Separator(2);
+    }
+    if c.release == 32 {
+        return Role::Plain;
+    }
+    if b == c.release {
+        return Role::Release;
+    }
+    Role::Plain
+}
+
+// What stands at a place. `next` is the place at which reading goes on.
+pub enum Lexed {
+    Byte { byte: u8, place: usize, next: usize },
+    Separator { kind: u8, next: usize },
+    Stray { next: usize },
+    End,
+}
+
+// The byte at `place`, behind a release character.
+fn taken(role: Role, byte: u8, place: usize, next: usize) -> Lexed
+    ensures { λ r. ⌜ r ≡ lexTaken role byte place next ⌝ }
+{
+    match role {
+        Role::Separator(_) => Lexed::Byte { byte, place, next },
+        Role::Release => Lexed::Byte { byte, place, next },
+        Role::Plain => Lexed::Stray { next },
+    }
+}
+
+pub fn lex(s: &[u8], c: Characters, at: usize) -> Lexed
+    ensures { λ r. ⌜ r ≡ lexAt c (now (s .entry)) at ⌝ }
+{
+    if s.len() <= at {
+        return Lexed::End;
+    }
+    let b = s[at];
+    let next = at + 1;
+    match role_of(c, b) {
+        Role::Separator(kind) => Lexed::Separator { kind, next },
+        Role::Plain => Lexed::Byte {
+            byte: b,
+            place: at,
+            next,
+        },
+        Role::Release => {
+            if s.len() <= next {
+                Lexed::Stray { next }
+            } else {
+                let d = s[next];
+                taken(role_of(c, d), d, next, next + 1)
+            }
+        }
+    }
+}
