@@ -3,23 +3,41 @@ use Prim.Native.Nat.{ℕ, _+_, _≤_, _<_}
 use native.Mathlib.Omega.{arith}
 use native.Mathlib.Decide.{decLe}
 use native.Mathlib.Nat.{lt-of-not-le}
-use mathlib.Core.Logic.{_⊎_, inl, inr, ⊎-elim}
 use mathlib.Core.Path.{_≡_, refl, sym, ap, _∙_, subst}
 use mathlib.Core.List.{List, [], _∷_}
 use lib.ListN.{length, getD}
-use lib.Dec.{ltb}
+use mathlib.Core.Bool.{Bool, true, false, _&&_}
+use lib.Dec.{ltb, eqb, lit≤}
 use borrow.Author.Tests.{lt-ltb, le-ltb}
 use Rattle.lists.specs.Lists.{if_then_else_}
 use Rattle.lists.proofs.Texts.{if-true, if-false}
 use Rattle.characters.specs.declared.Characters.{Characters}
 use Rattle.characters.specs.declared.Role.{Role}
 use Rattle.characters.specs.declared.Role.the-variants as role
-use Rattle.characters.specs.Characters.{role as roleIn}
+use Rattle.characters.specs.Characters.{role as roleIn, released}
 use Rattle.reading.specs.Tokens.{Token, byte, separator, fault}
 use Rattle.reading.proofs.Steps.{tokensAt, at-end, at-plain, at-separator, at-last-release, at-stray-release, at-released-release, at-released-separator}
 use Rattle.scanner.specs.declared.Lexed.{Lexed}
 use Rattle.scanner.specs.declared.Lexed.the-variants.{Byte, Separator, Stray, End}
 use Rattle.scanner.specs.Scanner.{lexTaken, lexRole, lexAt}
+
+-- there are three kinds of separators
+abbrev Known : Role → Type 0
+Known (role.Separator kind) = kind ≤ 2
+Known role.Release = Unit {0}
+Known role.Plain = Unit {0}
+
+role-known : (c : Characters) (b : ℕ) → Known (roleIn c b)
+unfolding roleIn
+role-known c b =
+    either (eqb b (c .terminator)) (role.Separator 0) _ (lit≤ tt)
+    (either (eqb b (c .element)) (role.Separator 1) _ (lit≤ tt)
+    (either (eqb b (c .component)) (role.Separator 2) _ (lit≤ tt)
+    (either (released c && eqb b (c .release)) role.Release role.Plain tt tt)))
+  where
+    either : (t : Bool) (a o : Role) → Known a → Known o → Known (if t then a else o)
+    either true a o k l = k
+    either false a o k l = l
 
 module _ (c : Characters) (s : List ℕ) (at : ℕ) where
   -- behind the last byte is the end
@@ -63,7 +81,8 @@ module _ (c : Characters) (s : List ℕ) (at : ℕ) where
   -- The token that stands there and the tokens behind it, as the scanner says them. Every caller goes by this alone.
   abbrev pub Lexes : Lexed → Type 0
   Lexes (Byte b place next) = (tokensAt c s at ≡ byte b at place ∷ tokensAt c s next) × (at < next) × (next ≤ length s)
-  Lexes (Separator kind next) = (tokensAt c s at ≡ separator kind at ∷ tokensAt c s next) × (at < next) × (next ≤ length s)
+  Lexes (Separator kind next) =
+      (tokensAt c s at ≡ separator kind at ∷ tokensAt c s next) × (at < next) × (next ≤ length s) × (kind ≤ 2)
   Lexes (Stray next) = (tokensAt c s at ≡ fault at ∷ tokensAt c s next) × (at < next) × (next ≤ length s)
   Lexes End = (tokensAt c s at ≡ []) × (length s ≤ at)
 
@@ -94,7 +113,8 @@ module _ (c : Characters) (s : List ℕ) (at : ℕ) where
 
   lexes-role : (o : Role) → at < length s → roleIn c (getD s at 0) ≡ o → Lexes (lexRole c s at o)
   unfolding lexRole
-  lexes-role (role.Separator kind) h e = (at-separator c s at kind h e, omega arith, omega arith)
+  lexes-role (role.Separator kind) h e =
+      (at-separator c s at kind h e, omega arith, omega arith, subst Known e (role-known c (getD s at 0)))
   lexes-role role.Release h e = lexes-release h e
   lexes-role role.Plain h e = (at-plain c s at h e, omega arith, omega arith)
 

@@ -1,1 +1,2 @@
 pub mod Scanner
+pub mod Scan

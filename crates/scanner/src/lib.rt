@@ -3,6 +3,7 @@
 ghost use mathlib.Core.Path.{_≡_};
 ghost use Rattle.characters.specs.Characters.{role};
 ghost use Rattle.scanner.specs.Scanner.{lexTaken, lexAt};
+ghost use Rattle.scanner.specs.Scan.{Scans};
 use characters::Characters;
 use characters::Role;
 
@@ -67,6 +68,43 @@ pub fn lex(s: &[u8], c: Characters, at: usize) -> Lexed
             } else {
                 let d = s[next];
                 taken(role_of(c, d), d, next, next + 1)
+            }
+        }
+    }
+}
+
+// How the segment that begins at a place ends: with its terminator, or before that with a stray
+// release character, or not at all.
+pub enum Scanned {
+    Ended { next: usize },
+    Stray { place: usize },
+    Unended,
+}
+
+pub fn scan(s: &[u8], c: Characters, from: usize) -> Scanned
+    ensures { λ r. ⌜ Scans c (now (s .entry)) from r ⌝ }
+{
+    let mut at = from;
+    loop {
+        match lex(s, c, at) {
+            Lexed::Byte {
+                byte: _,
+                place: _,
+                next,
+            } => {
+                at = next;
+            }
+            Lexed::Separator { kind, next } => {
+                if kind == 0 {
+                    return Scanned::Ended { next };
+                }
+                at = next;
+            }
+            Lexed::Stray { next: _ } => {
+                return Scanned::Stray { place: at };
+            }
+            Lexed::End => {
+                return Scanned::Unended;
             }
         }
     }
