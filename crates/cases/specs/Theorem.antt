@@ -1,6 +1,6 @@
 -- Every case of the table is answered as the paper says. Assumes nothing.
 use lib.Dec.{T}
-use Rattle.lists.specs.Lists.{same, begins, member, allDiffer, isEmpty, all, those, through, first, at, lastOr, onto, cut, unlessIdle, dropEnd, trimEnd, behind, joined, gather, maybe}
+use Rattle.lists.specs.Lists.{same, begins, member, allDiffer, isEmpty, all, any, those, through, first, at, lastOr, onto, cut, unlessIdle, dropEnd, trimEnd, behind, joined, gather, maybe}
 use Rattle.characters.specs.Characters.{between, upper, lower, digit, separates, released, serviceCharacters, isService, usable, sixBytes, spelledOut, advised, adviceOf, plusCharacters, controlCharacters, charactersOf, bodyStart, body, badAdvice, opens, role}
 use Rattle.refusals.specs.Refusals.{number, met, isLower, lowerOf, lowest, orElse, answering, placeIf}
 use Rattle.reading.specs.Tokens.{unreleased, releasing, taken, tokensFrom, tokens, ends, placeOf, segments, start}
@@ -26,5 +26,5 @@ use Rattle.operations.specs.Write.{numbersWhere, badTable, badEntry, badList, u
 use Rattle.cases.specs.Cases.{cases, says, meets, holds}
 
 pub all-cases-hold : T (all holds cases)
-unfolding same begins member allDiffer isEmpty all those through first at lastOr onto cut unlessIdle dropEnd trimEnd behind joined gather maybe between upper lower digit separates released serviceCharacters isService usable sixBytes spelledOut advised adviceOf plusCharacters controlCharacters charactersOf bodyStart body badAdvice opens role number met isLower lowerOf lowest orElse answering placeIf unreleased releasing taken tokensFrom tokens ends placeOf segments start byteOf bytesOf endPlace valueOf valuesOf elementsOf isFault endedBy endsInside finished trimElement isIdle trimSegment trimmed valueAt contentsOf spellByte spellValue spellElement spellSegment spell inLevelA inLevelB classOf tabulate classTable levelNamed inLevel isOurVersion levelOf is kindNamed tagPiece tagOf kindOf isTag tagRule segmentsIn messagesIn groupsIn segmentsSinceHeader messagesSinceGroup isOpen standing insideMessage allowedAt allowed isComplete walkOver positionTable positionsOf single controlElement isReference isCount standsWell controlRule headerOf referenceOf sameValue referenceDiffers decimalFrom decimal trueCount countOf countWrong bodyTokens segmentsOf contents kindsOf normalCharacters interchange normalForm isOver startsWhere tooLong unusableAdvice noOpening strayReleases unendedSegment brokenTags foreignLevel level placeOutside outsideLevel misplacedSegments badControls differingReferences wrongCounts normalTooLong laterStages stages refusalOf given refused refusedInput accepted toldJudged toldStored toldCompared toldLocated toldListed interchangeOf judge shortFor storedIn unlessRefused normaliseRefusal normalise normaliseBuffer isAccepted areSame compare keep located locate partOffset partLength part listElement listSegment listOf listBytes tableFrom listTable entries valueIn listedIn closed closes segmentsListed trimList valueBytes valueTable readRefusal read readBytes readTable numbersWhere badTable badEntry badList unusableBytes lacksRelease needsRelease writtenText writeRefusal write writeOutput cases says meets holds
+unfolding same begins member allDiffer isEmpty all any those through first at lastOr onto cut unlessIdle dropEnd trimEnd behind joined gather maybe between upper lower digit separates released serviceCharacters isService usable sixBytes spelledOut advised adviceOf plusCharacters controlCharacters charactersOf bodyStart body badAdvice opens role number met isLower lowerOf lowest orElse answering placeIf unreleased releasing taken tokensFrom tokens ends placeOf segments start byteOf bytesOf endPlace valueOf valuesOf elementsOf isFault endedBy endsInside finished trimElement isIdle trimSegment trimmed valueAt contentsOf spellByte spellValue spellElement spellSegment spell inLevelA inLevelB classOf tabulate classTable levelNamed inLevel isOurVersion levelOf is kindNamed tagPiece tagOf kindOf isTag tagRule segmentsIn messagesIn groupsIn segmentsSinceHeader messagesSinceGroup isOpen standing insideMessage allowedAt allowed isComplete walkOver positionTable positionsOf single controlElement isReference isCount standsWell controlRule headerOf referenceOf sameValue referenceDiffers decimalFrom decimal trueCount countOf countWrong bodyTokens segmentsOf contents kindsOf normalCharacters interchange normalForm isOver startsWhere tooLong unusableAdvice noOpening strayReleases unendedSegment brokenTags foreignLevel level placeOutside outsideLevel misplacedSegments badControls differingReferences wrongCounts normalTooLong laterStages stages refusalOf given refused refusedInput accepted toldJudged toldStored toldCompared toldLocated toldListed interchangeOf judge shortFor storedIn unlessRefused normaliseRefusal normalise normaliseBuffer isAccepted areSame compare keep located locate partOffset partLength part listElement listSegment listOf listBytes tableFrom listTable entries valueIn listedIn closed closes segmentsListed trimList valueBytes valueTable readRefusal read readBytes readTable numbersWhere badTable badEntry badList unusableBytes lacksRelease needsRelease writtenText writeRefusal write writeOutput cases says meets holds
 all-cases-hold = tt

@@ -98,7 +98,7 @@ trueCount User past = none
 unfoldable pub countOf : Segment → Option (List ℕ)
 countOf segment = controlElement segment (positionsOf (kindOf segment) .count)
 
--- refusal 12: "trailer's count wrong"
+-- refusal 12: "trailer's count wrong"; a malformed count is met by 10 at the same place
 unfoldable pub countWrong : List Segment → Segment → Bool
 countWrong past segment =
     maybe false (λ count. not (eqb (maybe 0 decimal (countOf segment)) count)) (trueCount (kindOf segment) (map kindOf past))

@@ -14,7 +14,7 @@ if false then a else b = b
 
 -- ---- texts
 
--- the bytes of a text
+-- the bytes of a text, which is written in ASCII
 abbrev pub text : String → List ℕ
 text ε = []
 text (c ◂ s) = code c ∷ text s
@@ -53,12 +53,17 @@ module _ {A : Type 0} where
   all t [] = true
   all t (x ∷ xs) = t x && all t xs
 
+  -- one of them passes the test
+  unfoldable pub any : (A → Bool) → List A → Bool
+  any t [] = false
+  any t (x ∷ xs) = t x || any t xs
+
   -- those that pass the test
   unfoldable pub those : (A → Bool) → List A → List A
   those t [] = []
   those t (x ∷ xs) = if t x then x ∷ those t xs else those t xs
 
-  -- those up to the first that passes the test, which is one of them
+  -- those up to the first that passes the test, which is one of them; all where none passes
   unfoldable pub through : (A → Bool) → List A → List A
   through t [] = []
   through t (x ∷ xs) = x ∷ (if t x then [] else through t xs)

@@ -9,33 +9,33 @@ use Rattle.reading.specs.Trimming.{trimSegment}
 use Rattle.reading.specs.Spelling.{Bytes, SegmentList}
 
 -- "kind (0 new segment, 1 new element, 2 next component)"
-pub record Listed : Type 0 where
+pub record Item : Type 0 where
   pub kind : ℕ
   pub value : Bytes
 
 -- ---- from segments to a value list
 
-unfoldable pub listElement : ℕ → List Bytes → List Listed
+unfoldable pub listElement : ℕ → List Bytes → List Item
 listElement kind [] = []
 listElement kind (v ∷ vs) = record { kind = kind; value = v } ∷ map (λ w. record { kind = 2; value = w }) vs
 
-unfoldable pub listSegment : List (List Bytes) → List Listed
+unfoldable pub listSegment : List (List Bytes) → List Item
 listSegment [] = []
 listSegment (tag ∷ elements) = listElement 0 tag ++ gather (listElement 1) elements
 
-unfoldable pub listOf : SegmentList → List Listed
+unfoldable pub listOf : SegmentList → List Item
 listOf segments = gather listSegment segments
 
 -- "values, without their release characters and end to end"
-unfoldable pub listBytes : List Listed → Bytes
+unfoldable pub listBytes : List Item → Bytes
 listBytes list = gather (λ l. l .value) list
 
--- "kind, start, length", the first start being the number given
-unfoldable pub tableFrom : ℕ → List Listed → List ℕ
+-- kind, start and length of each, the first start being the number given
+unfoldable pub tableFrom : ℕ → List Item → List ℕ
 tableFrom start [] = []
 tableFrom start (l ∷ ls) = l .kind ∷ start ∷ length (l .value) ∷ tableFrom (start + length (l .value)) ls
 
-unfoldable pub listTable : List Listed → List ℕ
+unfoldable pub listTable : List Item → List ℕ
 listTable list = tableFrom 0 list
 
 -- ---- from a value list to segments
@@ -55,20 +55,20 @@ entries (a ∷ b ∷ c ∷ rest) = record { kind = a; start = b; size = c } ∷ 
 unfoldable pub valueIn : Bytes → Entry → Bytes
 valueIn bytes e = take (e .size) (drop (e .start) bytes)
 
-unfoldable pub listedIn : Bytes → List ℕ → List Listed
+unfoldable pub listedIn : Bytes → List ℕ → List Item
 listedIn bytes table = map (λ e. record { kind = e .kind; value = valueIn bytes e }) (entries table)
 
 -- each value with the kind of what ends it: that of the next one, or 0 at the end
-unfoldable pub closed : List Listed → List Listed
+unfoldable pub closed : List Item → List Item
 closed [] = []
 closed (l ∷ []) = record { kind = 0; value = l .value } ∷ []
 closed (l ∷ next ∷ ls) = record { kind = next .kind; value = l .value } ∷ closed (next ∷ ls)
 
 -- a value with which what a separator of this kind ends has ended
-unfoldable pub closes : ℕ → Listed → Bool
+unfoldable pub closes : ℕ → Item → Bool
 closes kind l = leb (l .kind) kind
 
-unfoldable pub segmentsListed : List Listed → SegmentList
+unfoldable pub segmentsListed : List Item → SegmentList
 segmentsListed list = map (λ segment. map (map (λ l. l .value)) (cut (closes 1) segment)) (cut (closes 0) (closed list))
 
 -- "the trimmed list"

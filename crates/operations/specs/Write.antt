@@ -5,7 +5,7 @@ use mathlib.Core.List.{List, [], _∷_, _++_}
 use mathlib.Core.Option.{Option}
 use lib.ListN.{length, replicate}
 use lib.Dec.{eqb, ltb}
-use Rattle.lists.specs.Lists.{all, at, maybe}
+use Rattle.lists.specs.Lists.{any, at, maybe}
 use Rattle.characters.specs.declared.Characters.{Characters}
 use Rattle.characters.specs.Characters.{sixBytes, usable, released, isService}
 use Rattle.refusals.specs.declared.Fault.the-variants.{TooLong, UnusableAdvice, BadList, NeedsRelease}
@@ -44,7 +44,7 @@ unusableBytes service = placeIf (not (eqb (length service) 6 && usable (sixBytes
 
 -- "a value holds a service character and there is no release"
 unfoldable pub lacksRelease : Characters → List ℕ → Bool
-lacksRelease c value = not (released c) && not (all (λ b. not (isService c b)) value)
+lacksRelease c value = not (released c) && any (isService c) value
 
 module _ (service bytes table : List ℕ) where
   -- 16: "lowest such record number"

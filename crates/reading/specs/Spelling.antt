@@ -14,6 +14,7 @@ Bytes = List ℕ
 abbrev pub SegmentList : Type 0
 SegmentList = List (List (List Bytes))
 
+-- Where there is no release character, a list is spelled only if no value holds a service character: refusal 16 of Write.
 module _ (c : Characters) where
   unfoldable pub spellByte : ℕ → Bytes
   spellByte b = if isService c b then c .release ∷ b ∷ [] else b ∷ []

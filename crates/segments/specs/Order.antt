@@ -23,23 +23,24 @@ messagesIn past = length (those (is Unh) past)
 unfoldable pub groupsIn : List Kind → ℕ
 groupsIn past = length (those (is Ung) past)
 
--- the segments since the nearest UNH, which is one of them
+-- the segments since the nearest UNH, which is one of them; since the start where there is none
 unfoldable pub segmentsSinceHeader : List Kind → ℕ
 segmentsSinceHeader past = segmentsIn (through (is Unh) past)
 
--- the messages since the nearest UNG
+-- the messages since the nearest UNG; since the start where there is none
 unfoldable pub messagesSinceGroup : List Kind → ℕ
 messagesSinceGroup past = messagesIn (through (is Ung) past)
 
 -- ---- where the check stands
 
--- of the two, the header is the nearer: what it opened is not closed yet
+-- of the two, the one named first is the nearer: as a header, what it opened is not closed yet
 unfoldable pub isOpen : Kind → Kind → List Kind → Bool
-isOpen header trailer [] = false
-isOpen header trailer (kind ∷ past) =
-    if is header kind then true else if is trailer kind then false else isOpen header trailer past
+isOpen nearer farther [] = false
+isOpen nearer farther (kind ∷ past) =
+    if is nearer kind then true else if is farther kind then false else isOpen nearer farther past
 
--- "before UNB, between groups, inside a group, or inside a message of a group or of none"
+-- "before UNB, between groups, inside a group, or inside a message of a group or of none"; or behind UNZ.
+-- Between messages of none the check stands where it stands between groups. Behind a segment that is not allowed it says nothing.
 unfoldable pub standing : List Kind → Standing
 standing past =
     if isOpen Unz Unb past then BehindInterchange

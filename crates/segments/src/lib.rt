@@ -33,7 +33,7 @@ pub struct Messages(pub u32);
 pub struct Groups(pub u32);
 
 // Where the walk stands and what it has counted so far: in the interchange, since the last UNH
-// (which is one of them) and since the last UNG.
+// (which is one of them) and since the last UNG, or since the start where there was none.
 pub struct Walk {
     pub standing: Standing,
     pub segments: Segments,

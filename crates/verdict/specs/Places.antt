@@ -1,4 +1,6 @@
--- Paper 01, "Refusals by number": for each of 1 to 13, all the places at which an input meets it. Assumes nothing.
+-- Paper 01, "Refusals by number": for each of 1 to 13, all the places at which an input meets it. A stage is asked only where those
+-- before it are not met: behind a fault of an earlier stage, and for 9 behind the first such place, these lists say nothing.
+-- Assumes nothing.
 use Prim.Native.Nat.{ℕ}
 use mathlib.Core.Bool.{Bool, true, false, not, _&&_}
 use mathlib.Core.List.{List, [], _∷_, _++_, map}

@@ -1,0 +1,296 @@
+//! Damages: each aims at one refusal number, on the draft or on its bytes.
+//!
+//! Paper, clause "Refusals by number", numbers 2 to 12; the long inputs of 1
+//! and 13 stand in `limits`.
+
+use super::draft::{single, Draft, DraftSegment, Value};
+use super::random::Random;
+use crate::level::{holds, Level};
+
+const HEADERS: [&str; 3] = ["UNB", "UNG", "UNH"];
+const TRAILERS: [&str; 3] = ["UNT", "UNE", "UNZ"];
+
+/// The numbers that a damage aims at.
+pub const AIMS: [u32; 11] = [2, 3, 4, 5, 6, 7, 8, 9, 10, 11, 12];
+
+/// Is this damage done to the draft, before it is spelled?
+pub fn is_done_to_draft(aim: u32) -> bool {
+    aim >= 6
+}
+
+/// Damages a draft, aiming at 6 to 12.
+pub fn damage_draft(random: &mut Random, draft: &mut Draft, aim: u32) {
+    match aim {
+        6 => damage_tag(random, draft),
+        7 => damage_level(random, draft),
+        8 => damage_byte(random, draft),
+        9 => damage_order(random, draft),
+        10 => damage_control(random, draft),
+        11 => damage_reference(random, draft),
+        _ => damage_count(random, draft),
+    }
+}
+
+/// Damages the spelled bytes, aiming at 2 to 5.
+pub fn damage_bytes(random: &mut Random, draft: &Draft, input: &mut Vec<u8>, aim: u32) {
+    match aim {
+        2 => damage_advice(random, input),
+        3 => damage_beginning(random, draft, input),
+        4 => damage_release(random, draft, input),
+        _ => damage_end(random, input),
+    }
+}
+
+fn damage_tag(random: &mut Random, draft: &mut Draft) {
+    let number = random.below(draft.segments.len() - 1) + 1;
+    if number >= draft.segments.len() {
+        return;
+    }
+    let mut tag = draft.segments[number][0][0].clone();
+    match random.below(7) {
+        0 => tag.push(b'A'),
+        1 => drop(tag.pop()),
+        2 => tag.clear(),
+        3 => tag = random.pick(&["UNA", "UNX", "UN0", "UNb", "bgm", "B M", "B+M"]).into(),
+        4 => tag.make_ascii_lowercase(),
+        5 => draft.segments[number][0].push(random.pick(&["", "1"]).into()),
+        _ => {
+            let place = random.below(tag.len());
+            tag.truncate(place);
+            tag.push(random.pick(b"a_ +:?'.\x00\xff[@/"));
+            tag.resize(3, b'A');
+        }
+    }
+    draft.segments[number][0][0] = tag;
+}
+
+fn damage_level(random: &mut Random, draft: &mut Draft) {
+    let header = &mut draft.segments[0];
+    if header.len() < 2 {
+        return;
+    }
+    match random.below(4) {
+        0 => {
+            let levels = ["UNOC", "UNO", "UNOAA", "unoa", "", "UNOa", "UNO:", " UNOA", "UNOA "];
+            header[1][0] = random.pick(&levels).into();
+        }
+        1 => {
+            let versions = ["0", "3", "01", "", "12", " 1", "1 ", "+", "a"];
+            header[1].resize(2, Vec::new());
+            header[1][1] = random.pick(&versions).into();
+        }
+        2 => header[1].truncate(1),
+        _ => header.truncate(random.between(1, 2)),
+    }
+}
+
+fn damage_byte(random: &mut Random, draft: &mut Draft) {
+    let number = random.below(draft.segments.len());
+    let segment = &mut draft.segments[number];
+    let least = if segment.len() > 1 { 1 } else { 0 };
+    let element = random.between(least, segment.len() - 1);
+    let component = random.below(segment[element].len());
+    let value = &mut segment[element][component];
+    let outside: Vec<u8> = (0..=255u8).filter(|&byte| !holds(draft.level, byte)).collect();
+    let near = b"#$@[]^_`{|}~\x00\x1b\x1c\x1d\x1e\x1f\n\x7f\x80\xff";
+    let service = draft.characters.six();
+    let released: Vec<u8> = service.into_iter().filter(|byte| outside.contains(byte)).collect();
+    let byte = match random.below(4) {
+        3 if draft.characters.release.is_some() && !released.is_empty() => random.pick(&released),
+        0 if draft.level == Level::A => random.pick(b"abz"),
+        1 => random.pick(&outside),
+        _ => random.pick(near),
+    };
+    value.insert(random.below(value.len() + 1), byte);
+}
+
+fn damage_order(random: &mut Random, draft: &mut Draft) {
+    let segments = &mut draft.segments;
+    if segments.len() < 2 {
+        return;
+    }
+    let here = random.between(1, segments.len() - 1);
+    let there = random.between(1, segments.len() - 1);
+    match random.below(6) {
+        0 => drop(segments.remove(here)),
+        1 => segments.swap(here, there),
+        2 => segments.insert(there, segments[here].clone()),
+        3 => segments.push(segments[here].clone()),
+        4 => segments.truncate(here),
+        _ => {
+            let tags = ["UNB", "UNG", "UNH", "UNS", "UNT", "UNE", "UNZ", "BGM"];
+            let tag = random.pick(&tags);
+            segments.insert(there, vec![single(tag), single("1"), single("1")]);
+        }
+    }
+}
+
+/// The element number of a reference, by tag.
+fn reference_number(tag: &[u8]) -> usize {
+    match tag {
+        b"UNB" | b"UNG" => 5,
+        b"UNH" => 1,
+        _ => 2,
+    }
+}
+
+/// A segment with one of these tags, if there is any.
+fn some_tagged(random: &mut Random, draft: &Draft, tags: &[&str]) -> Option<usize> {
+    let numbers = draft.tagged(tags);
+    (!numbers.is_empty()).then(|| random.pick(&numbers))
+}
+
+fn damage_control(random: &mut Random, draft: &mut Draft) {
+    let of_count = random.chance(40);
+    let tags = if of_count || random.chance(50) { TRAILERS } else { HEADERS };
+    let Some(number) = some_tagged(random, draft, &tags) else {
+        return;
+    };
+    let segment = &mut draft.segments[number];
+    let place = if of_count { 1 } else { reference_number(&segment[0][0]) };
+    if random.chance(20) || segment.len() <= place {
+        segment.truncate(random.between(1, place));
+        return;
+    }
+    let element = &mut segment[place];
+    match random.below(6) {
+        0 => element.push(b"1".to_vec()),
+        1 => element.insert(0, Vec::new()),
+        2 => element[0].clear(),
+        3 => element.push(Vec::new()),
+        4 if of_count => {
+            let counts = ["1A", "-1", "+1", " 1", "1 ", "1.0", "0000001", "1000000", "1:", "?"];
+            element[0] = random.pick(&counts).into();
+        }
+        _ => lengthen(random, &mut element[0], if of_count { 7 } else { 15 }),
+    }
+}
+
+/// Lengthens a value to this length or one below.
+fn lengthen(random: &mut Random, value: &mut Value, length: usize) {
+    let length = if random.chance(25) { length - 1 } else { length };
+    while value.len() < length {
+        value.insert(0, b'0');
+    }
+}
+
+fn damage_reference(random: &mut Random, draft: &mut Draft) {
+    let tags = random.pick(&[HEADERS, TRAILERS]);
+    let Some(number) = some_tagged(random, draft, &tags) else {
+        return;
+    };
+    let segment = &mut draft.segments[number];
+    let place = reference_number(&segment[0][0]);
+    let Some(element) = segment.get_mut(place) else {
+        return;
+    };
+    let value = &mut element[0];
+    match random.below(5) {
+        0 => value.push(random.pick(b" A0")),
+        1 => value.insert(0, b'0'),
+        2 => drop(value.pop()),
+        3 => *value = b"Q".to_vec(),
+        _ => {
+            if let Some(first) = value.first_mut() {
+                *first = if *first == b'A' { b'B' } else { b'A' };
+            }
+        }
+    }
+}
+
+fn damage_count(random: &mut Random, draft: &mut Draft) {
+    let Some(number) = some_tagged(random, draft, &TRAILERS) else {
+        return;
+    };
+    let Some(element) = draft.segments[number].get_mut(1) else {
+        return;
+    };
+    let count: i64 = String::from_utf8_lossy(&element[0]).parse().unwrap_or(1);
+    let wrong = match random.below(5) {
+        0 | 1 => (count + 1).to_string(),
+        2 => (count - 1).max(0).to_string(),
+        3 => random.pick(&["0", "00", "000000", "999999", "10", "100000"]).to_string(),
+        _ => format!("{:06}", count + 1),
+    };
+    element[0] = wrong.into_bytes();
+    if random.chance(20) {
+        lengthen_reference(random, &mut draft.segments[number]);
+    }
+}
+
+/// A second fault in the same trailer.
+fn lengthen_reference(random: &mut Random, trailer: &mut DraftSegment) {
+    if let Some(element) = trailer.get_mut(2) {
+        let byte = random.pick(b"AB");
+        element[0].extend(vec![byte; random.pick(&[1, 1, 1, 14])]);
+    }
+}
+
+fn damage_advice(random: &mut Random, input: &mut Vec<u8>) {
+    if !input.starts_with(b"UNA") {
+        input.splice(0..0, *b"UNA:+.? '");
+    }
+    if input.len() < 9 {
+        return;
+    }
+    let place = random.between(3, 8);
+    match random.below(4) {
+        0 => input.truncate(random.between(3, 8)),
+        1 => input[place] = input[random.between(3, 8)],
+        2 => input[place] = random.pick(b"A0z \x1b\x1e\x20\x7f\x80.,;\x00"),
+        _ => drop(input.remove(place)),
+    }
+}
+
+fn damage_beginning(random: &mut Random, draft: &Draft, input: &mut Vec<u8>) {
+    let body = if draft.advice { 9 } else { 0 };
+    let place = body + random.below(4);
+    if place >= input.len() {
+        return;
+    }
+    match random.below(4) {
+        0 => input.truncate(place),
+        1 => input[place] = random.pick(b"UNBnHA+:'?\x1d\x1c "),
+        2 => drop(input.remove(place)),
+        _ => input.insert(place, random.pick(b"UNB+ \n\xef")),
+    }
+}
+
+fn damage_release(random: &mut Random, draft: &Draft, input: &mut Vec<u8>) {
+    let release = draft.characters.release.unwrap_or(b'?');
+    let body = if draft.advice { 13 } else { 4 };
+    if body > input.len() {
+        return;
+    }
+    let place = random.between(body, input.len());
+    match random.below(4) {
+        0 => input.insert(place, release),
+        1 => drop(input.splice(place..place, [release, b'A'])),
+        2 => input.push(release),
+        _ => drop(input.splice(place..place, [release, draft.characters.mark])),
+    }
+}
+
+fn damage_end(random: &mut Random, input: &mut Vec<u8>) {
+    match random.below(4) {
+        0 => drop(input.pop()),
+        1 => input.push(random.pick(b"\n\r A+:?'\x00")),
+        2 => input.extend(b"\r\n"),
+        _ => input.truncate(random.between(4.min(input.len()), input.len())),
+    }
+}
+
+/// A damage with no aim: cut short, a byte changed, put in or taken out.
+pub fn damage_anywhere(random: &mut Random, input: &mut Vec<u8>) {
+    let place = random.below(input.len());
+    let byte = match random.below(3) {
+        0 => random.byte(),
+        _ => random.pick(b"UNABHTZGES+:'?.,;*!~ 01Ra\x1c\x1d\x1f\n"),
+    };
+    match random.below(5) {
+        0 => input.truncate(place),
+        1 | 2 if !input.is_empty() => input[place] = byte,
+        3 if !input.is_empty() => drop(input.remove(place)),
+        _ => input.insert(place, byte),
+    }
+}

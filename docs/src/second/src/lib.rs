@@ -1,0 +1,25 @@
+//! A second program for the paper "What we will build and its rules": it
+//! judges one EDIFACT interchange, reads its values, writes interchanges,
+//! makes a normal form and says whether two interchanges are the same.
+//!
+//! One module for one idea; the first comment of each module names the clause
+//! of the paper it follows. The operations stand in `operations`.
+
+pub mod cases;
+pub mod contents;
+pub mod control;
+pub mod generator;
+pub mod judging;
+pub mod level;
+pub mod normal_form;
+pub mod operations;
+pub mod order;
+pub mod reading;
+pub mod refusal;
+pub mod report_lines;
+pub mod request_stream;
+pub mod selftest;
+pub mod service_characters;
+pub mod standard_examples;
+pub mod trimming;
+pub mod value_list;

@@ -1,0 +1,98 @@
+//! The command line: `second judge|answers|generate|cases|selftest`.
+
+use std::fs::File;
+use std::io::{self, BufReader, BufWriter, Read, Write};
+use std::path::Path;
+use std::process::ExitCode;
+
+use second::{cases, generator, operations, report_lines, request_stream, selftest};
+
+const USAGE: &str = "usage: second judge [FILE] | answers [FILE] | \
+                     generate SEED COUNT [KINDS] | cases DIR | selftest";
+
+fn main() -> ExitCode {
+    let arguments: Vec<String> = std::env::args().skip(1).collect();
+    let words: Vec<&str> = arguments.iter().map(String::as_str).collect();
+    let done = match words[..] {
+        ["judge"] => judge(None),
+        ["judge", file] => judge(Some(file)),
+        ["answers"] => answers(None),
+        ["answers", file] => answers(Some(file)),
+        ["generate", seed, count] => generate(seed, count, generator::ALL_KINDS),
+        ["generate", seed, count, kinds] => generate(seed, count, kinds),
+        ["cases", folder] => write_cases(folder),
+        ["selftest"] => run_selftest(),
+        _ => Err(fault(USAGE)),
+    };
+    match done {
+        Ok(status) => status,
+        Err(error) => {
+            eprintln!("second: {error}");
+            ExitCode::from(2)
+        }
+    }
+}
+
+fn fault(message: &str) -> io::Error {
+    io::Error::new(io::ErrorKind::InvalidInput, message.to_string())
+}
+
+/// A file, or standard input.
+fn source(file: Option<&str>) -> io::Result<Box<dyn Read>> {
+    Ok(match file {
+        Some(name) => Box::new(BufReader::new(File::open(name)?)),
+        None => Box::new(BufReader::new(io::stdin())),
+    })
+}
+
+fn judge(file: Option<&str>) -> io::Result<ExitCode> {
+    let mut input = Vec::new();
+    source(file)?.read_to_end(&mut input)?;
+    let answer = operations::judge(&input);
+    writeln!(io::stdout(), "{}", report_lines::judge_line(&answer))?;
+    Ok(ExitCode::SUCCESS)
+}
+
+fn answers(file: Option<&str>) -> io::Result<ExitCode> {
+    let mut out = BufWriter::new(io::stdout());
+    let answered = request_stream::answer_all(&mut source(file)?, &mut out);
+    out.flush()?;
+    answered.map(|()| ExitCode::SUCCESS)
+}
+
+fn generate(seed: &str, count: &str, kinds: &str) -> io::Result<ExitCode> {
+    let seed = seed.parse().map_err(|_| fault("SEED is not a number"))?;
+    let count = count.parse().map_err(|_| fault("COUNT is not a number"))?;
+    if kinds.is_empty() || !kinds.chars().all(|kind| generator::ALL_KINDS.contains(kind)) {
+        return Err(fault("KINDS are letters of JNCKLPRW"));
+    }
+    let mut out = BufWriter::new(io::stdout());
+    generator::generate(seed, count, kinds.as_bytes(), &mut out)?;
+    out.flush()?;
+    Ok(ExitCode::SUCCESS)
+}
+
+fn write_cases(folder: &str) -> io::Result<ExitCode> {
+    let disagreements = cases::check_cases();
+    for line in &disagreements {
+        eprintln!("second: {line}");
+    }
+    if !disagreements.is_empty() {
+        return Ok(ExitCode::FAILURE);
+    }
+    cases::write_cases(Path::new(folder))?;
+    Ok(ExitCode::SUCCESS)
+}
+
+fn run_selftest() -> io::Result<ExitCode> {
+    match selftest::run() {
+        Ok(count) => {
+            writeln!(io::stdout(), "selftest {count} ok")?;
+            Ok(ExitCode::SUCCESS)
+        }
+        Err(message) => {
+            eprintln!("selftest failed: {message}");
+            Ok(ExitCode::FAILURE)
+        }
+    }
+}

@@ -1,0 +1,119 @@
+//! The service characters of an interchange and how it begins: stages 2 and 3.
+//!
+//! Paper, clause "Service characters" and refusals 2 and 3.
+
+use crate::refusal::{refuse, Answer, ADVICE, BEGINNING};
+
+/// Bytes in a service string advice: `UNA` and six.
+pub const ADVICE_LENGTH: usize = 9;
+
+#[derive(Clone, Copy, Debug, PartialEq, Eq)]
+pub struct ServiceCharacters {
+    pub component: u8,
+    pub element: u8,
+    pub mark: u8,
+    /// None where the advice has a space.
+    pub release: Option<u8>,
+    pub terminator: u8,
+}
+
+/// The characters of an input that begins `UNB+`.
+pub const PRINTABLE: ServiceCharacters = ServiceCharacters {
+    component: b':',
+    element: b'+',
+    mark: b'.',
+    release: Some(b'?'),
+    terminator: b'\'',
+};
+
+/// The characters of an input that begins `UNB` and byte 29.
+pub const INFORMATION_SEPARATORS: ServiceCharacters =
+    ServiceCharacters { component: 31, element: 29, mark: b'.', release: None, terminator: 28 };
+
+impl ServiceCharacters {
+    /// One of the four (three without release); never the mark.
+    pub fn is_service(&self, byte: u8) -> bool {
+        (byte == self.component)
+            | (byte == self.element)
+            | (byte == self.terminator)
+            | (Some(byte) == self.release)
+    }
+
+    /// The six bytes in the advice's order.
+    pub fn six(&self) -> [u8; 6] {
+        let release = self.release.unwrap_or(b' ');
+        [self.component, self.element, self.mark, release, b' ', self.terminator]
+    }
+
+    /// The whole advice: `UNA` and the six bytes.
+    pub fn advice(&self) -> [u8; ADVICE_LENGTH] {
+        let six = self.six();
+        [b'U', b'N', b'A', six[0], six[1], six[2], six[3], six[4], six[5]]
+    }
+}
+
+/// May this byte be a separator, the terminator or the release character?
+fn may_serve(byte: u8) -> bool {
+    let printable = (33..=126).contains(&byte) && !byte.is_ascii_alphanumeric();
+    printable || byte == 28 || byte == 29 || byte == 31
+}
+
+fn all_differ(bytes: &[u8]) -> bool {
+    bytes.iter().enumerate().all(|(number, byte)| !bytes[..number].contains(byte))
+}
+
+/// The service characters that six bytes name, or None when they are not six
+/// or not usable.
+pub fn from_six(six: &[u8]) -> Option<ServiceCharacters> {
+    let &[component, element, mark, release, reserved, terminator] = six else {
+        return None;
+    };
+    let mut serving = vec![component, element, terminator];
+    if release != b' ' {
+        serving.push(release);
+    }
+    let each_may = serving.iter().all(|&byte| may_serve(byte));
+    serving.push(mark);
+    let mark_is_usable = mark == b'.' || mark == b',';
+    if reserved != b' ' || !mark_is_usable || !each_may || !all_differ(&serving) {
+        return None;
+    }
+    let release = (release != b' ').then_some(release);
+    Some(ServiceCharacters { component, element, mark, release, terminator })
+}
+
+/// The service characters in force and the offset where the body begins.
+#[derive(Clone, Copy, Debug, PartialEq, Eq)]
+pub struct Opening {
+    pub characters: ServiceCharacters,
+    pub body: usize,
+}
+
+/// Stages 2 and 3.
+pub fn opening(input: &[u8]) -> Answer<Opening> {
+    if input.starts_with(b"UNA") {
+        opening_with_advice(input)
+    } else {
+        opening_without_advice(input)
+    }
+}
+
+fn opening_with_advice(input: &[u8]) -> Answer<Opening> {
+    let Some(characters) = input.get(3..ADVICE_LENGTH).and_then(from_six) else {
+        return refuse(ADVICE, 0);
+    };
+    let beginning = [b'U', b'N', b'B', characters.element];
+    if !input[ADVICE_LENGTH..].starts_with(&beginning) {
+        return refuse(BEGINNING, ADVICE_LENGTH);
+    }
+    Ok(Opening { characters, body: ADVICE_LENGTH })
+}
+
+fn opening_without_advice(input: &[u8]) -> Answer<Opening> {
+    for characters in [PRINTABLE, INFORMATION_SEPARATORS] {
+        if input.starts_with(&[b'U', b'N', b'B', characters.element]) {
+            return Ok(Opening { characters, body: 0 });
+        }
+    }
+    refuse(BEGINNING, 0)
+}

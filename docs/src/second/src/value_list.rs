@@ -1,0 +1,106 @@
+//! Value lists: the records of a table, their refusals 15 and 16, and the way
+//! from records to segments and back.
+//!
+//! Paper, clause "Operations" (Read, Write) and refusals 15 and 16. Records
+//! are numbered from 0.
+
+use crate::contents::{Contents, Part, ValueKind};
+use crate::refusal::{refuse, Answer, LIST, LONGEST_TABLE, NO_RELEASE};
+use crate::service_characters::ServiceCharacters;
+
+/// Numbers a record in the table.
+pub const RECORD: usize = 3;
+
+pub const NEW_SEGMENT: u32 = 0;
+pub const NEW_ELEMENT: u32 = 1;
+pub const NEXT_COMPONENT: u32 = 2;
+
+#[derive(Clone, Copy, Debug, PartialEq, Eq)]
+pub struct Record {
+    pub kind: u32,
+    pub start: u32,
+    pub length: u32,
+}
+
+impl Record {
+    fn part(&self) -> Part {
+        Part { offset: self.start, length: self.length }
+    }
+
+    fn is_faulty(&self, number: usize, byte_count: usize) -> bool {
+        let first_is_no_segment = number == 0 && self.kind != NEW_SEGMENT;
+        let end = u64::from(self.start) + u64::from(self.length);
+        first_is_no_segment || self.kind > NEXT_COMPONENT || end > byte_count as u64
+    }
+}
+
+/// Refusal 15, or the records of the table.
+pub fn records_of(table: &[u32], byte_count: usize) -> Answer<Vec<Record>> {
+    let rows = table.chunks_exact(RECORD);
+    if table.len() > LONGEST_TABLE || !rows.remainder().is_empty() {
+        return refuse(LIST, 0);
+    }
+    let record = |row: &[u32]| Record { kind: row[0], start: row[1], length: row[2] };
+    let records: Vec<Record> = rows.map(record).collect();
+    let faulty =
+        records.iter().enumerate().find(|(number, record)| record.is_faulty(*number, byte_count));
+    match faulty {
+        Some((number, _)) => refuse(LIST, number),
+        None => Ok(records),
+    }
+}
+
+/// Refusal 16: a value holds a service character and there is no release.
+pub fn check_spellable(
+    records: &[Record],
+    values: &[u8],
+    characters: &ServiceCharacters,
+) -> Answer<()> {
+    if characters.release.is_some() {
+        return Ok(());
+    }
+    let holds_service = |record: &Record| {
+        let value = record.part().of(values);
+        value.iter().any(|&byte| characters.is_service(byte))
+    };
+    match records.iter().position(holds_service) {
+        Some(number) => refuse(NO_RELEASE, number),
+        None => Ok(()),
+    }
+}
+
+/// The list of segments that the records tell. The first record, if any,
+/// begins a segment.
+pub fn contents_of<'a>(records: &[Record], values: &'a [u8]) -> Contents<'a> {
+    let mut contents = Contents::new(values, None);
+    for record in records {
+        let kind = match record.kind {
+            NEW_SEGMENT => ValueKind::NewSegment,
+            NEW_ELEMENT => ValueKind::NewElement,
+            _ => ValueKind::NextComponent,
+        };
+        contents.add(kind, record.part());
+    }
+    contents
+}
+
+/// The values end to end and the table of an accepted interchange's contents.
+pub fn list_of(contents: &Contents) -> (Vec<u8>, Vec<u32>) {
+    let mut bytes: Vec<u8> = Vec::new();
+    let mut table: Vec<u32> = Vec::new();
+    for segment in &contents.segments {
+        for (element_number, element) in contents.elements_of(segment).iter().enumerate() {
+            for (number, part) in contents.components_of(element).iter().enumerate() {
+                let kind = match (element_number, number) {
+                    (0, 0) => NEW_SEGMENT,
+                    (_, 0) => NEW_ELEMENT,
+                    _ => NEXT_COMPONENT,
+                };
+                let start = bytes.len();
+                bytes.extend(contents.bytes(part));
+                table.extend([kind, start as u32, (bytes.len() - start) as u32]);
+            }
+        }
+    }
+    (bytes, table)
+}
