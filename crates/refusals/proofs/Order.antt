@@ -14,8 +14,6 @@ use Rattle.refusals.specs.declared.Fault.the-variants.{TooLong, Unusable
 use Rattle.refusals.specs.declared.Refusal.{Refusal}
 use Rattle.refusals.specs.Refusals.{number, isLower}
 
--- ---- numbers
-
 -- the faults, each at its number; none has the number 0
 faults : List Fault
 faults =
@@ -49,8 +47,7 @@ number-tells f g e = sym (numbered f .0) ∙ ap (λ (n : ℕ). getD faults n Too
 pub number-below : (f : Fault) → number f < 17
 number-below f = ltb-true (number f) 17 (numbered f .1)
 
--- ---- the key
-
+-- the place, and the number as its last digit
 unfoldable pub key : Refusal → ℕ
 key r = r .place * 17 + number (r .fault)
 
@@ -90,8 +87,6 @@ pub farther : (q r : Refusal) → r .place < q .place → isLower q r ≡ false
 unfolding key
 farther q r h = not-lower q r (omega (arith, number-below (r .fault)))
 
--- ---- the lower of two
-
 -- the lower of two refusals
 unfoldable pub lower : Refusal → Refusal → Refusal
 lower r q = if isLower q r then q else r
@@ -104,14 +99,3 @@ key-lower r q = step (isLower q r) (sym (lower-key q r))
     step : (b : Bool) → ltb (key q) (key r) ≡ b → key (if b then q else r) ≡ min (key r) (key q)
     step true h = omega (arith, ltb-true (key q) (key r) h)
     step false h = omega (arith, ltb-false (key q) (key r) h)
-
-pub lower-first : (r q : Refusal) → isLower q r ≡ false → lower r q ≡ r
-lower-first r q h = key-tells (lower r q) r (omega (arith, key-lower r q, key-least q r h))
-
-pub lower-comm : (r q : Refusal) → lower r q ≡ lower q r
-lower-comm r q = key-tells (lower r q) (lower q r) (omega (arith, key-lower r q, key-lower q r))
-
-pub lower-assoc : (r q s : Refusal) → lower (lower r q) s ≡ lower r (lower q s)
-lower-assoc r q s =
-    key-tells (lower (lower r q) s) (lower r (lower q s))
-    (omega (arith, key-lower (lower r q) s, key-lower r q, key-lower r (lower q s), key-lower q s))
