@@ -1,0 +1,106 @@
+-- What is met at places, and which stage answers: the first in which anything is met. Assumes nothing.
+use Prim.Native.Nat.{ℕ, _≤_}
+use mathlib.Core.Path.{_≡_, refl, sym, ap, ap₂, subst, _∙_}
+use mathlib.Core.List.{List, [], _∷_, _++_, map, List·Memᴰ, List·Memᴰ·head, List·Memᴰ·tail, List·Memᴰ·not-nil, List·Memᴰ·cases-cons, IsChain, isChain-cons-cons}
+use mathlib.Core.Option.{Option, none, some}
+use mathlib.Core.Logic.{⊎-elim, _↔_}
+use native.Mathlib.Omega.{arith}
+use Rattle.lists.proofs.Texts.{if-false}
+use Rattle.refusals.specs.declared.Fault.{Fault}
+use Rattle.refusals.specs.declared.Refusal.{Refusal}
+use Rattle.refusals.specs.Refusals.{Stage, met, isLower, lowerOf, lowest, orElse, answering}
+use Rattle.refusals.proofs.Order.{key, not-lower}
+use Rattle.refusals.proofs.Lowest.{lowest-none}
+
+module _ (f : Fault) where
+  pub met-append : (ps qs : List ℕ) → met f (ps ++ qs) ≡ met f ps ++ met f qs
+  unfolding met
+  met-append [] qs = refl
+  met-append (p ∷ ps) qs = ap (λ (l : Stage). record { fault = f; place = p } ∷ l) (met-append ps qs)
+
+  pub met-places : (ps : List ℕ) → map (λ r. r .place) (met f ps) ≡ ps
+  unfolding met
+  met-places [] = refl
+  met-places (p ∷ ps) = ap (λ (l : List ℕ). p ∷ l) (met-places ps)
+
+  -- nothing is met exactly where there is no place
+  pub met-none : (ps : List ℕ) → (met f ps ≡ []) ↔ (ps ≡ [])
+  unfolding met
+  met-none ps = (λ e. sym (met-places ps) ∙ ap (map (λ (r : Refusal). r .place)) e, ap (met f))
+
+  -- a refusal is met exactly where it has the fault, at one of the places
+  pub met-member : (r : Refusal) (ps : List ℕ) → List·Memᴰ r (met f ps) ↔ ((r .fault ≡ f) × List·Memᴰ (r .place) ps)
+  unfolding met
+  met-member r ps = (there ps, λ m. back (m .0) (m .1))
+    where
+      there : (ps : List ℕ) → List·Memᴰ r (met f ps) → (r .fault ≡ f) × List·Memᴰ (r .place) ps
+      there [] m = absurd (List·Memᴰ·not-nil m)
+      there (p ∷ ps) (List·Memᴰ·head e) = (ap (λ (q : Refusal). q .fault) e, List·Memᴰ·head (ap (λ (q : Refusal). q .place) e))
+      there (p ∷ ps) (List·Memᴰ·tail m) = (there ps m .0, List·Memᴰ·tail (there ps m .1))
+
+      back : {ps : List ℕ} → r .fault ≡ f → List·Memᴰ (r .place) ps → List·Memᴰ r (met f ps)
+      back e (List·Memᴰ·head h) = List·Memᴰ·head (ap₂ (λ (g : Fault) (p : ℕ). record { fault = g; place = p }) e h)
+      back e (List·Memᴰ·tail m) = List·Memᴰ·tail (back e m)
+
+  -- of places that do not fall, the first is the lowest
+  pub met-rising : (p : ℕ) (ps : List ℕ) → IsChain _≤_ (p ∷ ps) → lowest (met f (p ∷ ps)) ≡ some (record { fault = f; place = p })
+  unfolding met lowest lowerOf key
+  met-rising p [] h = refl
+  met-rising p (q ∷ ps) h =
+      let at : ℕ → Refusal = λ n. record { fault = f; place = n } in
+      let chain : (p ≤ q) × IsChain _≤_ (q ∷ ps) = isChain-cons-cons .0 h in
+      ap (lowerOf (at p)) (met-rising q ps (chain .1))
+      ∙ ap some (if-false (isLower (at q) (at p)) (at q) (at p) (not-lower (at q) (at p) (omega arith)))
+
+pub answering-append : (xs ys : List Stage) → answering (xs ++ ys) ≡ orElse (answering xs) (answering ys)
+unfolding answering orElse
+answering-append [] ys = refl
+answering-append (x ∷ xs) ys = step (lowest x) (answering-append xs ys)
+  where
+    step : (o : Option Refusal) → answering (xs ++ ys) ≡ orElse (answering xs) (answering ys)
+        → orElse o (answering (xs ++ ys)) ≡ orElse (orElse o (answering xs)) (answering ys)
+    step none ih = ih
+    step (some r) ih = refl
+
+-- the first stage answers, and the others where nothing is met in it
+pub answering-first : (stage : Stage) (stages : List Stage) (o : Option Refusal) → lowest stage ≡ o
+    → answering (stage ∷ stages) ≡ orElse o (answering stages)
+unfolding answering
+answering-first stage stages o e = ap (λ (a : Option Refusal). orElse a (answering stages)) e
+
+-- nothing is met in any of the stages
+abbrev pub NoneMet : List Stage → Type 0
+NoneMet stages = (stage : Stage) → List·Memᴰ stage stages → stage ≡ []
+
+none-more : (stage : Stage) (stages : List Stage) → stage ≡ [] → NoneMet stages → NoneMet (stage ∷ stages)
+none-more stage stages e h s m = ⊎-elim (λ k. k ∙ e) (h s) (List·Memᴰ·cases-cons m)
+
+-- what an answer says: nothing is met in any stage, or r is the lowest of a stage before which nothing is met
+abbrev pub Answered : List Stage → Option Refusal → Type 0
+Answered stages none = NoneMet stages
+Answered stages (some r) =
+    (before : List Stage) × (stage : Stage) × (after : List Stage) × (stages ≡ before ++ stage ∷ after) × NoneMet before × (lowest stage ≡ some r)
+
+pub answered : (stages : List Stage) → Answered stages (answering stages)
+unfolding answering orElse
+answered [] = λ stage m. absurd (List·Memᴰ·not-nil m)
+answered (s ∷ ss) = step (lowest s) refl (answering ss) (answered ss)
+  where
+    step : (o : Option Refusal) → lowest s ≡ o → (p : Option Refusal) → Answered ss p → Answered (s ∷ ss) (orElse o p)
+    step none e none h = none-more s ss (lowest-none s .0 e) h
+    step none e (some r) (before, stage, after, split, earlier, answer) =
+        (s ∷ before, stage, after, ap (λ (l : List Stage). s ∷ l) split, none-more s before (lowest-none s .0 e) earlier, answer)
+    step (some r) e p h = ([], s, ss, refl, λ stage m. absurd (List·Memᴰ·not-nil m), e)
+
+-- the refusal that is answered is the lowest of the first stage in which anything is met
+pub answering-some : (stages : List Stage) (r : Refusal) → answering stages ≡ some r → Answered stages (some r)
+answering-some stages r e = subst (Answered stages) e (answered stages)
+
+-- no refusal is answered exactly where nothing is met in any stage
+pub answering-none : (stages : List Stage) → (answering stages ≡ none) ↔ NoneMet stages
+unfolding answering orElse
+answering-none stages = (λ e. subst (Answered stages) e (answered stages), back stages)
+  where
+    back : (ss : List Stage) → NoneMet ss → answering ss ≡ none
+    back [] h = refl
+    back (s ∷ ss) h = ap₂ orElse (lowest-none s .1 (h s (List·Memᴰ·head refl))) (back ss (λ t m. h t (List·Memᴰ·tail m)))
