@@ -3,13 +3,23 @@ use mathlib.Core.Path.{_≡_, refl, sym, ap, _∙_}
 use mathlib.Core.Bool.{Bool, true, false, not, _&&_, false≢true}
 use mathlib.Core.List.{List, [], _∷_, _++_}
 use Rattle.lists.specs.Lists.{if_then_else_, all, through, onto, cut}
-use Rattle.lists.proofs.Texts.{and-left, and-right}
+use Rattle.lists.proofs.Texts.{and-right, if-true, if-false}
 
 module _ {A : Type 0} (t : A → Bool) where
   -- what follows the first that passes the test
   unfoldable pub beyond : List A → List A
   beyond [] = []
   beyond (x ∷ xs) = if t x then xs else beyond xs
+
+  -- the first passes the test: the rest follows it
+  pub beyond-hit : {x : A} {xs rest : List A} → xs ≡ x ∷ rest → t x ≡ true → beyond xs ≡ rest
+  unfolding beyond
+  beyond-hit {x} {xs} {rest} e h = ap beyond e ∙ if-true (t x) rest (beyond rest) h
+
+  -- it does not: the search goes on in the rest
+  pub beyond-miss : {x : A} {xs rest : List A} → xs ≡ x ∷ rest → t x ≡ false → beyond xs ≡ beyond rest
+  unfolding beyond
+  beyond-miss {x} {xs} {rest} e h = ap beyond e ∙ if-false (t x) rest (beyond rest) h
 
   -- a list is its first piece and what follows it
   pub through-beyond : (xs : List A) → through t xs ++ beyond xs ≡ xs

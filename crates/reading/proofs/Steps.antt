@@ -7,11 +7,22 @@ use native.Mathlib.Numerals.{add-one, add-two}
 use native.Mathlib.Omega.{arith}
 use lib.ListN.{length, getD, drop, drop-of-length-le}
 use lib.Seq.{drop-cons}
+use mathlib.Core.Bool.{true, false}
+use borrow.Author.Tests.{le-leb, lt-leb}
 use Rattle.characters.specs.declared.Characters.{Characters}
 use Rattle.characters.specs.declared.Role.{Role}
 use Rattle.characters.specs.declared.Role.the-variants.{Separator, Release, Plain}
 use Rattle.characters.specs.Characters.{role}
-use Rattle.reading.specs.Tokens.{Token, byte, separator, fault, unreleased, releasing, taken, tokensFrom, tokens}
+use Rattle.reading.specs.Tokens.{Token, byte, separator, fault, unreleased, releasing, taken, tokensFrom, tokens, ends}
+
+-- a separator ends what those of its own kind and of higher kinds end
+pub ends-yes : (kind place : ℕ) {k : ℕ} → k ≤ kind → ends kind (separator k place) ≡ true
+unfolding ends
+ends-yes kind place {k} h = le-leb k kind h
+
+pub ends-no : (kind place : ℕ) {k : ℕ} → kind < k → ends kind (separator k place) ≡ false
+unfolding ends
+ends-no kind place {k} h = lt-leb k kind h
 
 module _ (c : Characters) (s : List ℕ) where
   -- the tokens of the input from a place on

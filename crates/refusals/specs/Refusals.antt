@@ -8,6 +8,8 @@ use Rattle.lists.specs.Lists.{if_then_else_}
 use Rattle.refusals.specs.declared.Fault.{Fault}
 use Rattle.refusals.specs.declared.Fault.the-variants.{TooLong, UnusableAdvice, NoOpening, StrayRelease, UnendedSegment, BrokenTag, ForeignLevel, OutsideLevel, MisplacedSegment, BadControl, ReferenceDiffers, CountWrong, NormalTooLong, BufferShort, BadList, NeedsRelease}
 use Rattle.refusals.specs.declared.Refusal.{Refusal}
+use Rattle.refusals.specs.declared.Outcome.{Outcome}
+use Rattle.refusals.specs.declared.Outcome.the-variants.{Passed, Failed}
 
 -- the paper's number of each
 unfoldable pub number : Fault → ℕ
@@ -57,6 +59,11 @@ orElse (some r) later = some r
 unfoldable pub answering : List Stage → Option Refusal
 answering [] = none
 answering (stage ∷ stages) = orElse (lowest stage) (answering stages)
+
+-- what a stage comes to, from the refusal that it answers
+unfoldable pub outcome : Option Refusal → Outcome
+outcome none = Passed
+outcome (some r) = Failed r
 
 -- the place, where the refusal is met
 unfoldable pub placeIf : Bool → ℕ → List ℕ

@@ -25,3 +25,9 @@ pub struct Refusal {
     pub fault: Fault,
     pub place: usize,
 }
+
+// What a stage comes to.
+pub enum Outcome {
+    Passed,
+    Failed(Refusal),
+}

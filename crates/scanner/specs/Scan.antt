@@ -2,9 +2,11 @@
 use Prim.Native.Nat.{ℕ, _≤_, _<_}
 use mathlib.Core.Path.{_≡_}
 use mathlib.Core.List.{List, [], _∷_}
+use mathlib.Core.Bool.{Bool}
 use lib.ListN.{length}
 use lib.Dec.{leb}
 use Rattle.lists.specs.Lists.{if_then_else_}
+use Rattle.lists.proofs.Pieces.{beyond}
 use Rattle.characters.specs.declared.Characters.{Characters}
 use Rattle.reading.specs.Tokens.{Token, byte, separator, fault}
 use Rattle.reading.proofs.Steps.{tokensAt}
@@ -29,3 +31,8 @@ module _ (c : Characters) (s : List ℕ) (from : ℕ) where
   Scans (Ended next) = (scanned (tokensAt c s from) ≡ ended (tokensAt c s next)) × (from < next) × (next ≤ length s)
   Scans (Stray place) = scanned (tokensAt c s from) ≡ stray place
   Scans Unended = scanned (tokensAt c s from) ≡ unended
+
+-- the place behind the first token that passes a test: what follows that token stands there, or nothing where none passes
+abbrev pub Skips : (Token → Bool) → Characters → List ℕ → ℕ → ℕ → Type 0
+Skips t c s from next =
+    (tokensAt c s next ≡ beyond t (tokensAt c s from)) × (from ≤ next) × (from < length s → from < next) × (from < length s → next ≤ length s)

@@ -3,7 +3,8 @@
 ghost use mathlib.Core.Path.{_≡_};
 ghost use Rattle.characters.specs.Characters.{role};
 ghost use Rattle.scanner.specs.Scanner.{lexTaken, lexAt};
-ghost use Rattle.scanner.specs.Scan.{Scans};
+ghost use Rattle.reading.specs.Tokens.{ends};
+ghost use Rattle.scanner.specs.Scan.{Scans, Skips};
 use characters::Characters;
 use characters::Role;
 
@@ -105,6 +106,36 @@ pub fn scan(s: &[u8], c: Characters, from: usize) -> Scanned
             }
             Lexed::End => {
                 return Scanned::Unended;
+            }
+        }
+    }
+}
+
+// Where the segment behind this one begins: past the next terminator, or at the end of the input.
+pub fn segment_end(s: &[u8], c: Characters, from: usize) -> usize
+    ensures { λ r. ⌜ Skips (ends 0) c (now (s .entry)) from r ⌝ }
+{
+    let mut at = from;
+    loop {
+        match lex(s, c, at) {
+            Lexed::Byte {
+                byte: _,
+                place: _,
+                next,
+            } => {
+                at = next;
+            }
+            Lexed::Separator { kind, next } => {
+                if kind == 0 {
+                    return next;
+                }
+                at = next;
+            }
+            Lexed::Stray { next } => {
+                at = next;
+            }
+            Lexed::End => {
+                return at;
             }
         }
     }
