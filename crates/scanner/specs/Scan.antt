@@ -5,10 +5,10 @@ use mathlib.Core.List.{List, [], _∷_}
 use mathlib.Core.Bool.{Bool}
 use lib.ListN.{length}
 use lib.Dec.{leb}
-use Rattle.lists.specs.Lists.{if_then_else_}
+use Rattle.lists.specs.Lists.{if_then_else_, through}
 use Rattle.lists.proofs.Pieces.{beyond}
 use Rattle.characters.specs.declared.Characters.{Characters}
-use Rattle.reading.specs.Tokens.{Token, byte, separator, fault}
+use Rattle.reading.specs.Tokens.{Token, byte, separator, fault, Segment, ends}
 use Rattle.reading.proofs.Steps.{tokensAt}
 use Rattle.scanner.specs.declared.Scanned.{Scanned}
 use Rattle.scanner.specs.declared.Scanned.the-variants.{Ended, Stray, Unended}
@@ -31,6 +31,10 @@ module _ (c : Characters) (s : List ℕ) (from : ℕ) where
   Scans (Ended next) = (scanned (tokensAt c s from) ≡ ended (tokensAt c s next)) × (from < next) × (next ≤ length s)
   Scans (Stray place) = scanned (tokensAt c s from) ≡ stray place
   Scans Unended = scanned (tokensAt c s from) ≡ unended
+
+-- the segment that begins at a place
+unfoldable pub segmentAt : Characters → List ℕ → ℕ → Segment
+segmentAt c s at = through (ends 0) (tokensAt c s at)
 
 -- the place behind the first token that passes a test: what follows that token stands there, or nothing where none passes
 abbrev pub Skips : (Token → Bool) → Characters → List ℕ → ℕ → ℕ → Type 0

@@ -1,0 +1,52 @@
+-- The segments from a place on: the one that begins there, and those behind it. Assumes nothing.
+use Prim.Native.Nat.{ℕ, _≤_, _<_}
+use mathlib.Core.Path.{_≡_, refl, sym, ap, _∙_}
+use mathlib.Core.List.{List, [], _∷_}
+use native.Mathlib.Omega.{arith}
+use lib.ListN.{length}
+use Rattle.lists.specs.Lists.{through, cut}
+use Rattle.lists.proofs.Pieces.{beyond, cut-first}
+use Rattle.characters.specs.declared.Characters.{Characters}
+use Rattle.reading.specs.Tokens.{Token, byte, separator, fault, ends, placeOf, Segment, segments, start}
+use Rattle.reading.proofs.Steps.{tokensAt, at-end}
+use Rattle.scanner.specs.declared.Lexed.{Lexed}
+use Rattle.scanner.specs.declared.Lexed.the-variants.{Byte, Separator, Stray, End}
+use Rattle.scanner.specs.Scanner.{lexAt}
+use Rattle.scanner.specs.Scan.{segmentAt, Skips}
+use Rattle.scanner.proofs.Lexing.{Lexes, lexes}
+
+module _ (c : Characters) (s : List ℕ) (at : ℕ) where
+  -- inside the input a token stands at every place
+  abbrev pub Stands : Type 0
+  Stands = (t : Token) × (ts : List Token) × (tokensAt c s at ≡ t ∷ ts) × (placeOf t ≡ at)
+
+  pub stands : at < length s → Stands
+  unfolding placeOf
+  stands h = found (lexAt c s at) (lexes c s at)
+    where
+      found : (r : Lexed) → Lexes c s at r → Stands
+      found (Byte b place next) l = (byte b at place, tokensAt c s next, l .0, refl)
+      found (Separator kind next) l = (separator kind at, tokensAt c s next, l .0, refl)
+      found (Stray next) l = (fault at, tokensAt c s next, l .0, refl)
+      found End l = absurd (omega arith)
+
+  -- behind the last byte there is no segment
+  pub segments-end : length s ≤ at → segments (tokensAt c s at) ≡ []
+  unfolding segments cut
+  segments-end h = ap segments (at-end c s at h)
+
+  -- elsewhere there is one, and what follows it
+  pub segments-next : (next : ℕ) → at < length s → Skips (ends 0) c s at next
+      → segments (tokensAt c s at) ≡ segmentAt c s at ∷ segments (tokensAt c s next)
+  unfolding segments segmentAt
+  segments-next next h k =
+      let (t, ts, e, p) = stands h in
+      ap segments e
+      ∙ cut-first (ends 0) t ts
+      ∙ ap (λ (l : List Token). through (ends 0) l ∷ cut (ends 0) (beyond (ends 0) l)) (sym e)
+      ∙ ap (λ (l : List Token). through (ends 0) (tokensAt c s at) ∷ cut (ends 0) l) (sym (k .0))
+
+  -- it begins at this place
+  pub segment-start : at < length s → start (segmentAt c s at) ≡ at
+  unfolding segmentAt start through
+  segment-start h = let (t, ts, e, p) = stands h in ap (λ (l : List Token). start (through (ends 0) l)) e ∙ p
