@@ -1,0 +1,110 @@
+-- How long an emission is: the machine that only counts counts it, and it is at most twice as long as the body that was read.
+-- Assumes nothing.
+use Prim.Native.Nat.{ℕ, zero, suc, _+_, _*_, _≤_}
+use native.Mathlib.Omega.{arith}
+use mathlib.Core.Path.{_≡_, refl, sym, ap, _∙_}
+use mathlib.Core.Bool.{Bool, true, false}
+use mathlib.Core.List.{List, [], _∷_, _++_}
+use mathlib.Core.Option.{Option, none, some}
+use lib.Dec.{leb}
+use lib.ListN.{length, replicate, length-append, length-replicate}
+use Rattle.lists.specs.Lists.{if_then_else_}
+use Rattle.characters.specs.declared.Characters.{Characters}
+use Rattle.characters.specs.declared.Role.{Role}
+use Rattle.characters.specs.declared.Role.the-variants.{Separator, Release, Plain}
+use Rattle.characters.specs.Characters.{role, isService}
+use Rattle.reading.specs.Tokens.{Token, byte, separator, fault, unreleased, releasing, taken, tokensFrom, tokens}
+use Rattle.reading.specs.Spelling.{spellByte}
+use Rattle.emission.specs.Emission.{emitted, emittedLength}
+
+module _ (c : Characters) where
+  -- a service character is spelled with its release character
+  pub spelled-length : (b : ℕ) → length (spellByte c b) ≡ (if isService c b then 2 else 1)
+  unfolding spellByte
+  spelled-length b = step (isService c b)
+    where
+      step : (t : Bool) → length (if t then c .release ∷ b ∷ [] else b ∷ []) ≡ (if t then 2 else 1)
+      step true = refl
+      step false = refl
+
+  -- what a byte of a value lets out: all that is held back, and its own spelling
+  pub byte-length : (e k b : ℕ) (rest : List ℕ)
+      → length (replicate e (c .element) ++ (replicate k (c .component) ++ (spellByte c b ++ rest)))
+      ≡ e + k + (if isService c b then 2 else 1) + length rest
+  byte-length e k b rest =
+      simp (length-append, length-replicate, spelled-length) (omega arith)
+
+  -- the counting machine counts what is emitted
+  pub counts : (n e k : ℕ) (ts : List Token) → emittedLength c n e k ts ≡ n + length (emitted c e k ts)
+  unfolding emitted emittedLength
+  counts n e k [] = omega arith
+  counts n e k (byte b from place ∷ ts) =
+      counts (n + e + k + (if isService c b then 2 else 1)) 0 0 ts
+      ∙ omega (arith, byte-length e k b (emitted c 0 0 ts))
+  counts n e k (separator kind place ∷ ts) =
+      step (leb kind 0) (leb kind 1) (counts (n + 1) 0 0 ts) (counts n (e + 1) 0 ts) (counts n e (k + 1) ts)
+    where
+      step : (t u : Bool)
+          → emittedLength c (n + 1) 0 0 ts ≡ n + 1 + length (emitted c 0 0 ts)
+          → emittedLength c n (e + 1) 0 ts ≡ n + length (emitted c (e + 1) 0 ts)
+          → emittedLength c n e (k + 1) ts ≡ n + length (emitted c e (k + 1) ts)
+          → (if t then emittedLength c (n + 1) 0 0 ts else if u then emittedLength c n (e + 1) 0 ts else emittedLength c n e (k + 1) ts)
+          ≡ n + length (if t then c .terminator ∷ emitted c 0 0 ts else if u then emitted c (e + 1) 0 ts else emitted c e (k + 1) ts)
+      step true u p q r = omega (arith, p)
+      step false true p q r = q
+      step false false p q r = r
+  counts n e k (fault place ∷ ts) = counts n e k ts
+
+  pub length-emitted : (ts : List Token) → emittedLength c 0 0 0 ts ≡ length (emitted c 0 0 ts)
+  length-emitted ts = counts 0 0 0 ts ∙ omega arith
+
+  -- the tokens add at most so many bytes to what is held back
+  abbrev pub Adds : ℕ → List Token → Type 0
+  Adds n ts = (e k : ℕ) → length (emitted c e k ts) ≤ e + k + n
+
+  -- a token adds at most two bytes
+  token-adds : (n : ℕ) (t : Token) (ts : List Token) → Adds n ts → Adds (2 + n) (t ∷ ts)
+  unfolding emitted
+  token-adds n (byte b from place) ts h e k = omega (arith, byte-length e k b (emitted c 0 0 ts), h 0 0, small (isService c b))
+    where
+      small : (t : Bool) → (if t then 2 else 1) ≤ 2
+      small true = omega arith
+      small false = omega arith
+  token-adds n (separator kind place) ts h e k = step (leb kind 0) (leb kind 1)
+    where
+      step : (t u : Bool)
+          → length (if t then c .terminator ∷ emitted c 0 0 ts else if u then emitted c (e + 1) 0 ts else emitted c e (k + 1) ts)
+          ≤ e + k + (2 + n)
+      step true u = omega (arith, h 0 0)
+      step false true = omega (arith, h (e + 1) 0)
+      step false false = omega (arith, h e (k + 1))
+  token-adds n (fault place) ts h e k = omega (arith, h e k)
+
+  -- whatever part a byte of the body plays, it brings at most one token
+  unreleased-adds : (n : ℕ) (r : Role) (b place : ℕ) (ts : List Token) → Adds n ts → Adds (2 + n) (unreleased r b place ts)
+  unfolding unreleased
+  unreleased-adds n (Separator kind) b place ts h = token-adds n (separator kind place) ts h
+  unreleased-adds n Release b place ts h = λ e k. omega (arith, h e k)
+  unreleased-adds n Plain b place ts h = token-adds n (byte b place place) ts h
+
+  taken-adds : (n : ℕ) (r : Role) (b from place : ℕ) (ts : List Token) → Adds n ts → Adds (2 + n) (taken r b from place ts)
+  unfolding taken
+  taken-adds n (Separator kind) b from place ts h = token-adds n (byte b from place) ts h
+  taken-adds n Release b from place ts h = token-adds n (byte b from place) ts h
+  taken-adds n Plain b from place ts h = token-adds n (fault from) ts h
+
+  -- so what was read adds at most two bytes for each of its bytes
+  pub reading-adds : (d : Characters) (released : Option ℕ) (place : ℕ) (bs : List ℕ) → Adds (2 * length bs) (tokensFrom d released place bs)
+  unfolding tokensFrom emitted
+  reading-adds d none place [] = λ e k. omega arith
+  reading-adds d (some from) place [] = λ e k. omega arith
+  reading-adds d none place (b ∷ bs) =
+      let rest : List Token = tokensFrom d (releasing (role d b) place) (place + 1) bs in
+      λ e k. omega (arith, unreleased-adds (2 * length bs) (role d b) b place rest (reading-adds d (releasing (role d b) place) (place + 1) bs) e k)
+  reading-adds d (some from) place (b ∷ bs) =
+      let rest : List Token = tokensFrom d none (place + 1) bs in
+      λ e k. omega (arith, taken-adds (2 * length bs) (role d b) b from place rest (reading-adds d none (place + 1) bs) e k)
+
+  pub at-most-twice : (d : Characters) (place : ℕ) (body : List ℕ) → length (emitted c 0 0 (tokens d place body)) ≤ 2 * length body
+  unfolding tokens
+  at-most-twice d place body = omega (arith, reading-adds d none place body 0 0)
