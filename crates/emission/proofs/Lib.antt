@@ -1,1 +1,5 @@
 pub mod Measure
+pub mod Held
+pub mod Level
+pub mod Parts
+pub mod Spelled
