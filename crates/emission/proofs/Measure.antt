@@ -1,21 +1,20 @@
 -- How long an emission is: the machine that only counts counts it, and it is at most twice as long as the body that was read.
 -- Assumes nothing.
-use Prim.Native.Nat.{ℕ, zero, suc, _+_, _*_, _≤_}
+use Prim.Native.Nat.{ℕ, _+_, _*_, _≤_}
 use native.Mathlib.Omega.{arith}
-use mathlib.Core.Path.{_≡_, refl, sym, ap, _∙_}
+use mathlib.Core.Path.{_≡_, refl, _∙_}
 use mathlib.Core.Bool.{Bool, true, false}
 use mathlib.Core.List.{List, [], _∷_, _++_}
-use mathlib.Core.Option.{Option, none, some}
+use mathlib.Core.Option.{Option, none}
 use lib.Dec.{leb}
 use lib.ListN.{length, replicate, length-append, length-replicate}
 use Rattle.lists.specs.Lists.{if_then_else_}
 use Rattle.characters.specs.declared.Characters.{Characters}
-use Rattle.characters.specs.declared.Role.{Role}
-use Rattle.characters.specs.declared.Role.the-variants.{Separator, Release, Plain}
-use Rattle.characters.specs.Characters.{role, isService}
-use Rattle.reading.specs.Tokens.{Token, byte, separator, fault, unreleased, releasing, taken, tokensFrom, tokens}
+use Rattle.characters.specs.Characters.{isService}
+use Rattle.reading.specs.Tokens.{Token, byte, separator, fault, tokensFrom, tokens}
 use Rattle.reading.specs.Spelling.{spellByte}
 use Rattle.emission.specs.Emission.{emitted, emittedLength}
+use Rattle.emission.proofs.Readings.{of-reading}
 
 module _ (c : Characters) where
   -- a service character is spelled with its release character
@@ -80,30 +79,16 @@ module _ (c : Characters) where
       step false false = omega (arith, h e (k + 1))
   token-adds n (fault place) ts h e k = omega (arith, h e k)
 
-  -- whatever part a byte of the body plays, it brings at most one token
-  unreleased-adds : (n : ℕ) (r : Role) (b place : ℕ) (ts : List Token) → Adds n ts → Adds (2 + n) (unreleased r b place ts)
-  unfolding unreleased
-  unreleased-adds n (Separator kind) b place ts h = token-adds n (separator kind place) ts h
-  unreleased-adds n Release b place ts h = λ e k. omega (arith, h e k)
-  unreleased-adds n Plain b place ts h = token-adds n (byte b place place) ts h
-
-  taken-adds : (n : ℕ) (r : Role) (b from place : ℕ) (ts : List Token) → Adds n ts → Adds (2 + n) (taken r b from place ts)
-  unfolding taken
-  taken-adds n (Separator kind) b from place ts h = token-adds n (byte b from place) ts h
-  taken-adds n Release b from place ts h = token-adds n (byte b from place) ts h
-  taken-adds n Plain b from place ts h = token-adds n (fault from) ts h
-
-  -- so what was read adds at most two bytes for each of its bytes
-  pub reading-adds : (d : Characters) (released : Option ℕ) (place : ℕ) (bs : List ℕ) → Adds (2 * length bs) (tokensFrom d released place bs)
-  unfolding tokensFrom emitted
-  reading-adds d none place [] = λ e k. omega arith
-  reading-adds d (some from) place [] = λ e k. omega arith
-  reading-adds d none place (b ∷ bs) =
-      let rest : List Token = tokensFrom d (releasing (role d b) place) (place + 1) bs in
-      λ e k. omega (arith, unreleased-adds (2 * length bs) (role d b) b place rest (reading-adds d (releasing (role d b) place) (place + 1) bs) e k)
-  reading-adds d (some from) place (b ∷ bs) =
-      let rest : List Token = tokensFrom d none (place + 1) bs in
-      λ e k. omega (arith, taken-adds (2 * length bs) (role d b) b from place rest (reading-adds d none (place + 1) bs) e k)
+  -- so what was read adds at most two for each of its bytes
+  pub reading-adds : (d : Characters) (release : Option ℕ) (place : ℕ) (bs : List ℕ) → Adds (2 * length bs) (tokensFrom d release place bs)
+  unfolding emitted
+  reading-adds =
+      of-reading
+      (λ n ts. Adds (2 * n) ts)
+      (λ e k. omega arith)
+      (λ from e k. omega arith)
+      (λ n t ts h p e k. omega (arith, token-adds (2 * n) t ts p e k))
+      (λ n ts p e k. omega (arith, p e k))
 
   pub at-most-twice : (d : Characters) (place : ℕ) (body : List ℕ) → length (emitted c 0 0 (tokens d place body)) ≤ 2 * length body
   unfolding tokens

@@ -12,20 +12,15 @@ use Rattle.lists.proofs.Texts.{and-left}
 use Rattle.lists.proofs.Pieces.{beyond, cut-first}
 use Rattle.characters.specs.declared.Characters.{Characters}
 use Rattle.characters.specs.Characters.{isService}
-use Rattle.reading.specs.Tokens.{Token, byte, separator, fault, ends, Segment, segments}
+use Rattle.reading.specs.Tokens.{Token, byte, separator, fault, ends, Segment, segments, tokens}
 use Rattle.reading.specs.Values.{endedBy, endsInside}
 use Rattle.reading.specs.Trimming.{contentsOf}
 use Rattle.reading.specs.Spelling.{spellByte, spellSegment, spell}
 use Rattle.emission.specs.Emission.{emitted}
+use Rattle.emission.proofs.Readings.{known, reading-known}
 use Rattle.emission.proofs.Held.{held, held-none, held-more, held-both}
 use Rattle.emission.proofs.Level.{whole}
 use Rattle.emission.proofs.Parts.{elementText, segmentText, element-byte, element-fault, element-separator, element-ended, segment-step, contents-spelled}
-
--- a separator is of one of the three kinds
-unfoldable pub known : Token → Bool
-known (byte b from place) = true
-known (separator kind place) = leb kind 2
-known (fault place) = true
 
 module _ (c : Characters) where
   -- ---- inside a segment
@@ -145,3 +140,8 @@ module _ (c : Characters) where
   unfolding endsInside isEmpty spell gather segments cut emitted
   spelled-emitted [] h a = refl
   spelled-emitted (t ∷ ts) h a = spell-first t ts ∙ sym (emits (t ∷ ts) (not-false (endedBy 0 (t ∷ ts)) h) a 0 0)
+
+  -- so are those of a body that was read, in whatever characters
+  pub body-emitted : (d : Characters) (place : ℕ) (body : List ℕ) → endsInside (tokens d place body) ≡ false
+      → spell c (map contentsOf (segments (tokens d place body))) ≡ emitted c 0 0 (tokens d place body)
+  body-emitted d place body h = spelled-emitted (tokens d place body) h (reading-known d place body)
