@@ -1,8 +1,7 @@
 -- Separators held back in front of a text: they stand there, unless the text is empty. Assumes nothing.
-use Prim.Native.Nat.{ℕ, zero, suc, _+_}
+use Prim.Native.Nat.{ℕ, _+_}
 use mathlib.Core.Path.{_≡_, refl, sym, ap, _∙_}
 use mathlib.Core.List.{List, [], _∷_, _++_, append-assoc}
-use native.Mathlib.Numerals.{add-one}
 use lib.ListN.{replicate, replicate-append-replicate}
 
 -- n times x in front of a text, unless nothing follows

@@ -3,15 +3,13 @@
 use Prim.Native.Nat.{ℕ, zero, suc, _+_, _≤_, _<_}
 use native.Mathlib.Omega.{arith}
 use mathlib.Core.Path.{_≡_, refl, ap}
-use mathlib.Core.Bool.{Bool, true, false}
 use mathlib.Core.List.{List, [], _∷_, _++_}
 use lib.Dec.{leb}
-use lib.ListN.{replicate}
-use Rattle.lists.specs.Lists.{if_then_else_}
 use Rattle.characters.specs.declared.Characters.{Characters}
 use Rattle.reading.specs.Tokens.{Token, byte, separator, fault}
 use Rattle.reading.specs.Spelling.{spellByte}
-use Rattle.emission.specs.Emission.{emitted}
+use Rattle.emission.specs.Emission.{letOut, emitted}
+use Rattle.emission.proofs.Cases.{by-kind}
 
 module _ (c : Characters) where
   -- whatever is held back, the same is emitted
@@ -23,15 +21,15 @@ module _ (c : Characters) where
   unfolding emitted
   same-behind [] us vs h e k = h e k
   same-behind (byte b from place ∷ xs) us vs h e k =
-      ap (λ (l : List ℕ). replicate e (c .element) ++ (replicate k (c .component) ++ (spellByte c b ++ l))) (same-behind xs us vs h 0 0)
-  same-behind (separator kind place ∷ xs) us vs h e k = step (leb kind 0) (leb kind 1) (same-behind xs us vs h)
-    where
-      step : (t u : Bool) → Same (xs ++ us) (xs ++ vs)
-          → (if t then c .terminator ∷ emitted c 0 0 (xs ++ us) else if u then emitted c (e + 1) 0 (xs ++ us) else emitted c e (k + 1) (xs ++ us))
-          ≡ (if t then c .terminator ∷ emitted c 0 0 (xs ++ vs) else if u then emitted c (e + 1) 0 (xs ++ vs) else emitted c e (k + 1) (xs ++ vs))
-      step true u same = ap (λ (l : List ℕ). c .terminator ∷ l) (same 0 0)
-      step false true same = same (e + 1) 0
-      step false false same = same e (k + 1)
+      ap (λ (l : List ℕ). letOut c e k (spellByte c b ++ l)) (same-behind xs us vs h 0 0)
+  same-behind (separator kind place ∷ xs) us vs h e k =
+      by-kind
+      _≡_
+      (leb kind 0)
+      (leb kind 1)
+      (ap (λ (l : List ℕ). c .terminator ∷ l) (same-behind xs us vs h 0 0))
+      (same-behind xs us vs h (e + 1) 0)
+      (same-behind xs us vs h e (k + 1))
   same-behind (fault place ∷ xs) us vs h e k = same-behind xs us vs h e k
 
   idle-separator : (kind lower p q : ℕ) (ts : List Token) → lower < kind → kind ≤ 2

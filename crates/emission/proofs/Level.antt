@@ -2,7 +2,7 @@
 -- the others are joined by a separator. So are an element's values, and a segment's elements. Assumes nothing.
 use Prim.Native.Nat.{ℕ}
 use mathlib.Core.Path.{_≡_, refl, sym, ap, _∙_}
-use mathlib.Core.Bool.{Bool, true, false}
+use mathlib.Core.Bool.{Bool}
 use mathlib.Core.List.{List, [], _∷_, _++_, map}
 use Rattle.lists.specs.Lists.{if_then_else_, isEmpty, through, cut, unlessIdle, dropEnd, trimEnd, behind, joined}
 use Rattle.lists.proofs.Pieces.{beyond, cut-first}

@@ -7,18 +7,18 @@ use mathlib.Core.Bool.{Bool, true, false}
 use mathlib.Core.List.{List, [], _∷_, _++_}
 use mathlib.Core.Option.{Option, none}
 use lib.Dec.{leb}
-use lib.ListN.{length, replicate, length-append, length-replicate}
+use lib.ListN.{length, length-append, length-replicate}
 use Rattle.lists.specs.Lists.{if_then_else_}
 use Rattle.characters.specs.declared.Characters.{Characters}
 use Rattle.characters.specs.Characters.{isService}
 use Rattle.reading.specs.Tokens.{Token, byte, separator, fault, tokensFrom, tokens}
 use Rattle.reading.specs.Spelling.{spellByte}
-use Rattle.emission.specs.Emission.{emitted, emittedLength}
-use Rattle.emission.proofs.Readings.{of-reading}
+use Rattle.emission.specs.Emission.{letOut, emitted, emittedLength}
+use Rattle.emission.proofs.Cases.{by-spelling, by-kind, of-reading}
 
 module _ (c : Characters) where
   -- a service character is spelled with its release character
-  pub spelled-length : (b : ℕ) → length (spellByte c b) ≡ (if isService c b then 2 else 1)
+  spelled-length : (b : ℕ) → length (spellByte c b) ≡ (if isService c b then 2 else 1)
   unfolding spellByte
   spelled-length b = step (isService c b)
     where
@@ -26,12 +26,10 @@ module _ (c : Characters) where
       step true = refl
       step false = refl
 
-  -- what a byte of a value lets out: all that is held back, and its own spelling
-  pub byte-length : (e k b : ℕ) (rest : List ℕ)
-      → length (replicate e (c .element) ++ (replicate k (c .component) ++ (spellByte c b ++ rest)))
-      ≡ e + k + (if isService c b then 2 else 1) + length rest
-  byte-length e k b rest =
-      simp (length-append, length-replicate, spelled-length) (omega arith)
+  -- what a byte of a value adds: all that is held back, and its own spelling
+  byte-length : (e k b : ℕ) (rest : List ℕ)
+      → length (letOut c e k (spellByte c b ++ rest)) ≡ e + k + length (spellByte c b) + length rest
+  byte-length e k b rest = simp (length-append, length-replicate) (omega arith)
 
   -- the counting machine counts what is emitted
   pub counts : (n e k : ℕ) (ts : List Token) → emittedLength c n e k ts ≡ n + length (emitted c e k ts)
@@ -39,23 +37,19 @@ module _ (c : Characters) where
   counts n e k [] = omega arith
   counts n e k (byte b from place ∷ ts) =
       counts (n + e + k + (if isService c b then 2 else 1)) 0 0 ts
-      ∙ omega (arith, byte-length e k b (emitted c 0 0 ts))
+      ∙ omega (arith, byte-length e k b (emitted c 0 0 ts), spelled-length b)
   counts n e k (separator kind place ∷ ts) =
-      step (leb kind 0) (leb kind 1) (counts (n + 1) 0 0 ts) (counts n (e + 1) 0 ts) (counts n e (k + 1) ts)
-    where
-      step : (t u : Bool)
-          → emittedLength c (n + 1) 0 0 ts ≡ n + 1 + length (emitted c 0 0 ts)
-          → emittedLength c n (e + 1) 0 ts ≡ n + length (emitted c (e + 1) 0 ts)
-          → emittedLength c n e (k + 1) ts ≡ n + length (emitted c e (k + 1) ts)
-          → (if t then emittedLength c (n + 1) 0 0 ts else if u then emittedLength c n (e + 1) 0 ts else emittedLength c n e (k + 1) ts)
-          ≡ n + length (if t then c .terminator ∷ emitted c 0 0 ts else if u then emitted c (e + 1) 0 ts else emitted c e (k + 1) ts)
-      step true u p q r = omega (arith, p)
-      step false true p q r = q
-      step false false p q r = r
+      by-kind
+      (λ (m : ℕ) (l : List ℕ). m ≡ n + length l)
+      (leb kind 0)
+      (leb kind 1)
+      (omega (arith, counts (n + 1) 0 0 ts))
+      (counts n (e + 1) 0 ts)
+      (counts n e (k + 1) ts)
   counts n e k (fault place ∷ ts) = counts n e k ts
 
   pub length-emitted : (ts : List Token) → emittedLength c 0 0 0 ts ≡ length (emitted c 0 0 ts)
-  length-emitted ts = counts 0 0 0 ts ∙ omega arith
+  length-emitted ts = omega (arith, counts 0 0 0 ts)
 
   -- the tokens add at most so many bytes to what is held back
   abbrev pub Adds : ℕ → List Token → Type 0
@@ -64,11 +58,8 @@ module _ (c : Characters) where
   -- a token adds at most two bytes
   token-adds : (n : ℕ) (t : Token) (ts : List Token) → Adds n ts → Adds (2 + n) (t ∷ ts)
   unfolding emitted
-  token-adds n (byte b from place) ts h e k = omega (arith, byte-length e k b (emitted c 0 0 ts), h 0 0, small (isService c b))
-    where
-      small : (t : Bool) → (if t then 2 else 1) ≤ 2
-      small true = omega arith
-      small false = omega arith
+  token-adds n (byte b from place) ts h e k =
+      omega (arith, byte-length e k b (emitted c 0 0 ts), h 0 0, by-spelling (λ s. length s ≤ 2) c b (omega arith) (omega arith))
   token-adds n (separator kind place) ts h e k = step (leb kind 0) (leb kind 1)
     where
       step : (t u : Bool)

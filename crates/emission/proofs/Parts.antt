@@ -4,14 +4,14 @@ use mathlib.Core.Path.{_≡_, refl, sym, ap, _∙_}
 use mathlib.Core.Bool.{Bool, true, false}
 use mathlib.Core.List.{List, [], _∷_, _++_, map, append-nil, append-assoc, map-map}
 use lib.Dec.{leb}
-use Rattle.lists.specs.Lists.{if_then_else_, isEmpty, gather, through, onto, cut, trimEnd, dropEnd, behind, joined}
+use Rattle.lists.specs.Lists.{isEmpty, gather, through, onto, cut, trimEnd, dropEnd, behind, joined}
 use Rattle.lists.proofs.Pieces.{beyond, cut-first}
 use Rattle.characters.specs.declared.Characters.{Characters}
-use Rattle.characters.specs.Characters.{isService}
 use Rattle.reading.specs.Tokens.{Token, byte, separator, fault, ends, Segment}
 use Rattle.reading.specs.Values.{Value, byteOf, bytesOf, valueOf, valuesOf, elementsOf}
 use Rattle.reading.specs.Trimming.{trimElement, isIdle, trimSegment, trimmed, contentsOf}
 use Rattle.reading.specs.Spelling.{spellByte, spellValue, spellElement, spellSegment}
+use Rattle.emission.proofs.Cases.{by-spelling}
 use Rattle.emission.proofs.Held.{held}
 use Rattle.emission.proofs.Level.{whole, whole-step}
 
@@ -29,11 +29,11 @@ module _ (c : Characters) where
   abbrev spelledValues : List Value → List ℕ
   spelledValues vs = spellElement c (map (λ v. v .bytes) vs)
 
-  -- the element that the tokens begin with, spelled
+  -- the element that a piece is, trimmed and spelled
   unfoldable pub elementText : List Token → List ℕ
   elementText piece = spelledValues (valuesLeft piece)
 
-  -- the segment that the tokens are, spelled without its terminator
+  -- a segment, trimmed and spelled without its terminator
   unfoldable pub segmentText : Segment → List ℕ
   segmentText segment = whole (ends 1) valuesLeft (isIdle isBlank) spelledValues (c .element) segment
 
@@ -41,14 +41,11 @@ module _ (c : Characters) where
 
   -- only an empty value is spelled by nothing
   blank-value : (bs : List ℕ) → isEmpty bs ≡ isEmpty (spellValue c bs)
-  unfolding isEmpty spellValue spellByte gather
+  unfolding isEmpty spellValue gather
   blank-value [] = refl
-  blank-value (b ∷ bs) = step (isService c b)
-    where
-      step : (t : Bool) → false ≡ isEmpty ((if t then c .release ∷ b ∷ [] else b ∷ []) ++ spellValue c bs)
-      step true = refl
-      step false = refl
+  blank-value (b ∷ bs) = by-spelling (λ s. false ≡ isEmpty (s ++ spellValue c bs)) c b refl refl
 
+  -- an element is its first value and, held back behind it, the rest of the element
   element-step : (piece : List Token)
       → elementText piece ≡ spellValue c (bytesOf (through (ends 2) piece)) ++ held 1 (c .component) (elementText (beyond (ends 2) piece))
   unfolding elementText spellElement valuesOf valueOf trimElement bytesOf spellValue gather whole
@@ -104,6 +101,7 @@ module _ (c : Characters) where
       rw (cut-first (ends 2) t ts)
       (blank-values (valueOf (through (ends 2) (t ∷ ts))) (dropEnd isBlank (map valueOf (cut (ends 2) (beyond (ends 2) (t ∷ ts))))))
 
+  -- a segment is its first element and, held back behind it, the rest of the segment
   pub segment-step : (segment : Segment)
       → segmentText segment ≡ elementText (through (ends 1) segment) ++ held 1 (c .element) (segmentText (beyond (ends 1) segment))
   unfolding segmentText elementText trimElement trimEnd valuesOf cut spellElement joined
@@ -115,4 +113,6 @@ module _ (c : Characters) where
   contents-spelled segment =
       ap (λ (l : List (List ℕ)). joined (c .element) l ++ c .terminator ∷ [])
       (map-map (spellElement c) (map (λ v. v .bytes)) (trimmed segment)
-      ∙ ap (λ (l : List (List Value)). map spelledValues (trimEnd (isIdle isBlank) l)) (map-map (trimElement isBlank) valuesOf (cut (ends 1) segment)))
+      ∙ ap
+      (λ (l : List (List Value)). map spelledValues (trimEnd (isIdle isBlank) l))
+      (map-map (trimElement isBlank) valuesOf (cut (ends 1) segment)))

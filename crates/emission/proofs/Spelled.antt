@@ -2,25 +2,24 @@
 use Prim.Native.Nat.{ℕ, zero, suc, _+_, _≤_}
 use native.Mathlib.Omega.{arith}
 use mathlib.Core.Path.{_≡_, refl, sym, ap, _∙_}
-use mathlib.Core.Bool.{Bool, true, false, not, _&&_, false≢true}
+use mathlib.Core.Bool.{true, false, not, false≢true}
 use mathlib.Core.List.{List, [], _∷_, _++_, map, append-assoc}
 use lib.Dec.{leb}
-use lib.ListN.{replicate}
 use borrow.Author.Tests.{leb-true, not-false}
-use Rattle.lists.specs.Lists.{if_then_else_, isEmpty, all, gather, through, cut, lastOr, joined, trimEnd}
+use Rattle.lists.specs.Lists.{isEmpty, all, gather, through, cut, lastOr, joined, trimEnd}
 use Rattle.lists.proofs.Texts.{and-left}
 use Rattle.lists.proofs.Pieces.{beyond, cut-first}
 use Rattle.characters.specs.declared.Characters.{Characters}
-use Rattle.characters.specs.Characters.{isService}
-use Rattle.reading.specs.Tokens.{Token, byte, separator, fault, ends, Segment, segments, tokens}
+use Rattle.reading.specs.Tokens.{Token, byte, separator, fault, ends, Segment, segments}
 use Rattle.reading.specs.Values.{endedBy, endsInside}
 use Rattle.reading.specs.Trimming.{contentsOf}
 use Rattle.reading.specs.Spelling.{spellByte, spellSegment, spell}
-use Rattle.emission.specs.Emission.{emitted}
-use Rattle.emission.proofs.Readings.{known, reading-known}
+use Rattle.emission.specs.Emission.{letOut, emitted}
+use Rattle.emission.proofs.Cases.{by-spelling, known}
 use Rattle.emission.proofs.Held.{held, held-none, held-more, held-both}
 use Rattle.emission.proofs.Level.{whole}
-use Rattle.emission.proofs.Parts.{elementText, segmentText, element-byte, element-fault, element-separator, element-ended, segment-step, contents-spelled}
+use Rattle.emission.proofs.Parts.{elementText, element-byte, element-fault, element-separator, element-ended}
+use Rattle.emission.proofs.Parts.{segmentText, segment-step, contents-spelled}
 
 module _ (c : Characters) where
   -- ---- inside a segment
@@ -35,7 +34,9 @@ module _ (c : Characters) where
   first-held : (g : Segment)
       → held 0 (c .component) (elementText c (through (ends 1) g)) ++ held 1 (c .element) (segmentText c (beyond (ends 1) g)) ≡ segmentText c g
   first-held g =
-      ap (λ (l : List ℕ). l ++ held 1 (c .element) (segmentText c (beyond (ends 1) g))) (held-none (c .component) (elementText c (through (ends 1) g)))
+      ap
+      (λ (l : List ℕ). l ++ held 1 (c .element) (segmentText c (beyond (ends 1) g)))
+      (held-none (c .component) (elementText c (through (ends 1) g)))
       ∙ sym (segment-step c g)
 
   -- at its start nothing is held back
@@ -45,25 +46,23 @@ module _ (c : Characters) where
 
   -- a byte of a value lets out what is held back
   lets-out : (e k b : ℕ) (s r : List ℕ)
-      → held e (c .element) (held k (c .component) (spellByte c b ++ s) ++ r)
-      ≡ replicate e (c .element) ++ (replicate k (c .component) ++ (spellByte c b ++ (s ++ r)))
-  unfolding spellByte
-  lets-out e k b s r = step (isService c b)
-    where
-      step : (t : Bool)
-          → held e (c .element) (held k (c .component) ((if t then c .release ∷ b ∷ [] else b ∷ []) ++ s) ++ r)
-          ≡ replicate e (c .element) ++ (replicate k (c .component) ++ ((if t then c .release ∷ b ∷ [] else b ∷ []) ++ (s ++ r)))
-      step true = held-both e (c .element) k (c .component) (c .release) (b ∷ s) r
-      step false = held-both e (c .element) k (c .component) b s r
+      → held e (c .element) (held k (c .component) (spellByte c b ++ s) ++ r) ≡ letOut c e k (spellByte c b ++ (s ++ r))
+  lets-out e k b s r =
+      by-spelling
+      (λ z. held e (c .element) (held k (c .component) (z ++ s) ++ r) ≡ letOut c e k (z ++ (s ++ r)))
+      c
+      b
+      (held-both e (c .element) k (c .component) (c .release) (b ∷ s) r)
+      (held-both e (c .element) k (c .component) b s r)
 
   within-byte : (e k b from place : ℕ) (g : Segment)
-      → within e k (byte b from place ∷ g) ≡ replicate e (c .element) ++ (replicate k (c .component) ++ (spellByte c b ++ within 0 0 g))
+      → within e k (byte b from place ∷ g) ≡ letOut c e k (spellByte c b ++ within 0 0 g)
   unfolding within through beyond ends
   within-byte e k b from place g =
       let others : List ℕ = held 1 (c .element) (segmentText c (beyond (ends 1) g)) in
       ap (λ (l : List ℕ). held e (c .element) (held k (c .component) l ++ others)) (element-byte c b from place (through (ends 1) g))
       ∙ lets-out e k b (elementText c (through (ends 1) g)) others
-      ∙ ap (λ (l : List ℕ). replicate e (c .element) ++ (replicate k (c .component) ++ (spellByte c b ++ l))) (sym (within-start g ∙ segment-step c g))
+      ∙ ap (λ (l : List ℕ). letOut c e k (spellByte c b ++ l)) (sym (within-start g ∙ segment-step c g))
 
   within-fault : (e k place : ℕ) (g : Segment) → within e k (fault place ∷ g) ≡ within e k g
   unfolding within through beyond ends
@@ -114,7 +113,7 @@ module _ (c : Characters) where
   unfolding emitted through beyond ends endedBy lastOr all known spell gather segments cut
   emits [] h a e k = absurd (false≢true h)
   emits (byte b from place ∷ ts) h a e k =
-      ap (λ (l : List ℕ). replicate e (c .element) ++ (replicate k (c .component) ++ (spellByte c b ++ l))) (emits ts (ended-next (byte b from place) ts refl h) a 0 0)
+      ap (λ (l : List ℕ). letOut c e k (spellByte c b ++ l)) (emits ts (ended-next (byte b from place) ts refl h) a 0 0)
       ∙ sym (ap (λ (l : List ℕ). l ++ after ts) (within-byte e k b from place (through (ends 0) ts)) ∙ simp append-assoc)
   emits (separator zero place ∷ []) h a e k =
       sym (ap (λ (l : List ℕ). l ++ after (separator zero place ∷ [])) (within-terminator e k place))
@@ -140,8 +139,3 @@ module _ (c : Characters) where
   unfolding endsInside isEmpty spell gather segments cut emitted
   spelled-emitted [] h a = refl
   spelled-emitted (t ∷ ts) h a = spell-first t ts ∙ sym (emits (t ∷ ts) (not-false (endedBy 0 (t ∷ ts)) h) a 0 0)
-
-  -- so are those of a body that was read, in whatever characters
-  pub body-emitted : (d : Characters) (place : ℕ) (body : List ℕ) → endsInside (tokens d place body) ≡ false
-      → spell c (map contentsOf (segments (tokens d place body))) ≡ emitted c 0 0 (tokens d place body)
-  body-emitted d place body h = spelled-emitted (tokens d place body) h (reading-known d place body)

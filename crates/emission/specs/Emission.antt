@@ -1,7 +1,6 @@
 -- The trimmed contents of a body, spelled from left to right: a separator is held back until a value's byte follows it,
 -- and goes where what it would separate is empty to the end. Assumes nothing.
 use Prim.Native.Nat.{ℕ, _+_}
-use mathlib.Core.Bool.{Bool, true, false}
 use mathlib.Core.List.{List, [], _∷_, _++_}
 use lib.Dec.{leb}
 use lib.ListN.{replicate}
@@ -15,11 +14,14 @@ use Rattle.reading.specs.Spelling.{spellByte}
 -- A terminator drops them: "elements at a segment's end that are a single empty value go"; an element separator drops those
 -- of components: "empty components at the end of an element go".
 module _ (c : Characters) where
+  -- what is held back, let out in front of a text
+  abbrev pub letOut : (elements components : ℕ) → List ℕ → List ℕ
+  letOut e k text = replicate e (c .element) ++ (replicate k (c .component) ++ text)
+
   -- what is spelled from here on
   unfoldable pub emitted : (elements components : ℕ) → List Token → List ℕ
   emitted e k [] = []
-  emitted e k (byte b from place ∷ ts) =
-      replicate e (c .element) ++ (replicate k (c .component) ++ (spellByte c b ++ emitted 0 0 ts))
+  emitted e k (byte b from place ∷ ts) = letOut e k (spellByte c b ++ emitted 0 0 ts)
   emitted e k (separator kind place ∷ ts) =
       if leb kind 0 then c .terminator ∷ emitted 0 0 ts
       else if leb kind 1 then emitted (e + 1) 0 ts else emitted e (k + 1) ts

@@ -1,4 +1,4 @@
--- What holds of every list of tokens that is read from bytes. Assumes nothing.
+-- Case by case: how a byte is spelled, the three kinds of separators, and the tokens that a body may bring. Assumes nothing.
 use Prim.Native.Nat.{ℕ, suc, _+_}
 use mathlib.Core.Path.{_≡_, refl}
 use mathlib.Core.Bool.{Bool, true, false, _&&_}
@@ -11,8 +11,25 @@ use Rattle.lists.proofs.Texts.{and-both}
 use Rattle.characters.specs.declared.Characters.{Characters}
 use Rattle.characters.specs.declared.Role.{Role}
 use Rattle.characters.specs.declared.Role.the-variants.{Separator, Release, Plain}
-use Rattle.characters.specs.Characters.{role, released}
+use Rattle.characters.specs.Characters.{isService, role, released}
 use Rattle.reading.specs.Tokens.{Token, byte, separator, fault, unreleased, releasing, taken, tokensFrom, tokens}
+use Rattle.reading.specs.Spelling.{spellByte}
+
+-- a byte of a value is spelled with its release character or alone
+pub by-spelling : (P : List ℕ → Type 0) (c : Characters) (b : ℕ) → P (c .release ∷ b ∷ []) → P (b ∷ []) → P (spellByte c b)
+unfolding spellByte
+by-spelling P c b p q = step (isService c b)
+  where
+    step : (t : Bool) → P (if t then c .release ∷ b ∷ [] else b ∷ [])
+    step true = p
+    step false = q
+
+-- what is related for each kind of separator is related where tests choose the kind
+pub by-kind : {A B : Type 0} (R : A → B → Type 0) {a a′ a″ : A} {b b′ b″ : B} (t u : Bool) → R a b → R a′ b′ → R a″ b″
+    → R (if t then a else if u then a′ else a″) (if t then b else if u then b′ else b″)
+by-kind R true u p q r = p
+by-kind R false true p q r = q
+by-kind R false false p q r = r
 
 -- a separator is of one of the three kinds
 unfoldable pub known : Token → Bool
@@ -51,16 +68,15 @@ module _ (P : ℕ → List Token → Type 0) (end : P 0 []) (stray : (from : ℕ
     where
       step : (r : Role) → knownRole r ≡ true → P (length bs) (tokensFrom c (releasing r place) (place + 1) bs)
           → P (suc (length bs)) (unreleased r b place (tokensFrom c (releasing r place) (place + 1) bs))
-      step (Separator kind) h p = token (length bs) (separator kind place) (tokensFrom c none (place + 1) bs) h p
-      step Release h p = silent (length bs) (tokensFrom c (some place) (place + 1) bs) p
-      step Plain h p = token (length bs) (byte b place place) (tokensFrom c none (place + 1) bs) refl p
+      step (Separator kind) h p = token _ (separator kind place) _ h p
+      step Release h p = silent _ _ p
+      step Plain h p = token _ (byte b place place) _ refl p
   of-reading (some from) place (b ∷ bs) = step (role c b) (of-reading none (place + 1) bs)
     where
-      step : (r : Role) → P (length bs) (tokensFrom c none (place + 1) bs)
-          → P (suc (length bs)) (taken r b from place (tokensFrom c none (place + 1) bs))
-      step (Separator kind) p = token (length bs) (byte b from place) (tokensFrom c none (place + 1) bs) refl p
-      step Release p = token (length bs) (byte b from place) (tokensFrom c none (place + 1) bs) refl p
-      step Plain p = token (length bs) (fault from) (tokensFrom c none (place + 1) bs) refl p
+      step : (r : Role) {ts : List Token} → P (length bs) ts → P (suc (length bs)) (taken r b from place ts)
+      step (Separator kind) p = token _ (byte b from place) _ refl p
+      step Release p = token _ (byte b from place) _ refl p
+      step Plain p = token _ (fault from) _ refl p
 
 -- every token that is read is known
 pub reading-known : (c : Characters) (place : ℕ) (bs : List ℕ) → all known (tokens c place bs) ≡ true
