@@ -40,7 +40,7 @@ module _ (c : Characters) where
 
   -- ---- what a body of the grammar spells
 
-  spells-spell : {body : Bytes} {list : SegmentList} → Spells body list → spell c list ≡ body
+  pub spells-spell : {body : Bytes} {list : SegmentList} → Spells body list → spell c list ≡ body
   unfolding spell spellSegment spellElement spellValue gather joined behind
   spells-spell nothing = refl
   spells-spell (segmentEnd h) = ap (λ (bs : Bytes). c .terminator ∷ bs) (spells-spell h)
@@ -48,7 +48,7 @@ module _ (c : Characters) where
   spells-spell (componentEnd h) = ap (λ (bs : Bytes). c .component ∷ bs) (spells-spell h)
   spells-spell (valueByte {b} k h) = simp append-assoc (ap (λ (bs : Bytes). spellByte c b ++ bs) (simp append-assoc at (spells-spell h)))
 
-  spells-shaped : {body : Bytes} {list : SegmentList} → Spells body list → Shaped list
+  pub spells-shaped : {body : Bytes} {list : SegmentList} → Spells body list → Shaped list
   unfolding Shaped shapedSegment all isEmpty
   spells-shaped nothing = refl
   spells-shaped (segmentEnd h) = spells-shaped h
@@ -56,7 +56,7 @@ module _ (c : Characters) where
   spells-shaped (componentEnd h) = spells-shaped h
   spells-shaped (valueByte k h) = spells-shaped h
 
-  spells-releasable : {body : Bytes} {list : SegmentList} → Spells body list → Releasable c list
+  pub spells-releasable : {body : Bytes} {list : SegmentList} → Spells body list → Releasable c list
   unfolding Releasable all
   spells-releasable nothing r = refl
   spells-releasable (segmentEnd h) r = spells-releasable h r

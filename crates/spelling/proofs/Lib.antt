@@ -1,3 +1,5 @@
 pub mod Service
 pub mod Listing
 pub mod Grammar
+pub mod Parsing
+pub mod Laws

@@ -9,7 +9,7 @@ use Rattle.characters.specs.declared.Characters.{Characters}
 use Rattle.characters.specs.Characters.{released, isService}
 use Rattle.reading.specs.Tokens.{Token, Segment, segments, tokens}
 use Rattle.reading.specs.Values.{elementsOf, isFault, endsInside}
-use Rattle.reading.specs.Spelling.{Bytes, SegmentList}
+use Rattle.reading.specs.Spelling.{Bytes, SegmentList, spell}
 
 -- the values of a segment as they stand, untrimmed and without places
 unfoldable pub wordsOf : Segment → List (List Bytes)
@@ -41,3 +41,10 @@ Shaped list = all shapedSegment list ≡ true
 -- where there is no release character, no value of the list holds a service character
 unfoldable pub Releasable : Characters → SegmentList → Type 0
 Releasable c list = released c ≡ false → all (all (all (all (λ b. not (isService c b))))) list ≡ true
+
+-- "some list of segments is spelled by it, each service character inside a value being released and nothing else"
+pub record Spelled (c : Characters) (body : Bytes) : Type 0 where
+  pub list : SegmentList
+  pub shaped : Shaped list
+  pub releasable : Releasable c list
+  pub spelled : spell c list ≡ body
