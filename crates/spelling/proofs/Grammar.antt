@@ -1,41 +1,31 @@
--- The grammar of bodies: which body spells which list, growing from the end by a value's byte or by a separator at a time.
--- Every list that can be spelled has such a body, and every body that passes has such a list. Assumes nothing.
-use Prim.Native.Nat.{ℕ, zero, suc, _+_}
-use mathlib.Core.Path.{_≡_, refl, sym, ap, ap₂, _∙_, subst}
-use mathlib.Core.Bool.{Bool, true, false, not, _&&_, false≢true, true≢false}
-use mathlib.Core.List.{List, [], _∷_, _++_, map, append-assoc, append-nil}
-use mathlib.Core.Option.{Option, none, some}
-use native.Mathlib.Omega.{arith}
-use lib.ListN.{length, length-append}
-use borrow.Author.Tests.{not-true}
-use Rattle.lists.specs.Lists.{if_then_else_, isEmpty, all, lastOr, behind, joined, gather}
-use Rattle.lists.proofs.Texts.{and-left, and-right, and-both, if-true, if-false}
+-- The grammar of bodies: which body spells which list, a byte of a value or a separator at a time, from the end. What it relates is
+-- spelled so, and every list that can be spelled is in it. Assumes nothing.
+use Prim.Native.Nat.{ℕ}
+use mathlib.Core.Path.{_≡_, refl, ap}
+use mathlib.Core.Bool.{Bool, true, false, not, false≢true}
+use mathlib.Core.List.{List, [], _∷_, _++_, map, append-assoc}
+use Rattle.lists.specs.Lists.{isEmpty, all, behind, joined, gather}
+use Rattle.lists.proofs.Texts.{and-left, and-right}
 use Rattle.characters.specs.declared.Characters.{Characters}
-use Rattle.characters.specs.declared.Role.{Role}
-use Rattle.characters.specs.declared.Role.the-variants.{Separator, Release, Plain}
-use Rattle.characters.specs.Characters.{role, released, isService, usable}
-use Rattle.reading.specs.Tokens.{Token, byte, separator, fault, ends, unreleased, releasing, taken, tokensFrom, tokens}
-use Rattle.reading.specs.Values.{byteOf, isFault, endedBy, endsInside}
+use Rattle.characters.specs.Characters.{released, isService}
 use Rattle.reading.specs.Spelling.{Bytes, SegmentList, spellByte, spellValue, spellElement, spellSegment, spell}
-use Rattle.spelling.specs.Bodies.{listed, readList, Sound, Passes, shapedSegment, Shaped, Releasable}
-use Rattle.spelling.proofs.Service.{serves, Part, terminates, endsElement, endsComponent, releases, plain, part, service-serves, role-terminator, role-element, role-component, role-release}
-use Rattle.spelling.proofs.Listing.{push, pushed, listed-next}
+use Rattle.spelling.specs.Bodies.{shapedSegment, Shaped, Releasable}
 
 module _ (c : Characters) where
   -- the byte can stand in a value: where there is no release character, it is no service character
   abbrev pub Spellable : ℕ → Type 0
   Spellable b = released c ≡ false → not (isService c b) ≡ true
 
-  -- Behind the byte or separator in front, the first value of the list goes on: a byte is one more byte of that value, a separator
-  -- puts an empty value before it.
+  -- A byte in front is one byte more of the list's first value. A separator in front puts an empty value before that, in the same
+  -- element, in an element of its own or in a segment of its own.
   pub data Spells : Bytes → SegmentList → Type 0 where
     nothing : Spells [] []
     segmentEnd : {rest : Bytes} {list : SegmentList} → Spells rest list → Spells (c .terminator ∷ rest) ((([] ∷ []) ∷ []) ∷ list)
-    elementEnd : {rest : Bytes} {v : Bytes} {e : List Bytes} {s : List (List Bytes)} {list : SegmentList}
+    elementEnd : {rest v : Bytes} {e : List Bytes} {s : List (List Bytes)} {list : SegmentList}
         → Spells rest (((v ∷ e) ∷ s) ∷ list) → Spells (c .element ∷ rest) ((([] ∷ []) ∷ (v ∷ e) ∷ s) ∷ list)
-    componentEnd : {rest : Bytes} {v : Bytes} {e : List Bytes} {s : List (List Bytes)} {list : SegmentList}
+    componentEnd : {rest v : Bytes} {e : List Bytes} {s : List (List Bytes)} {list : SegmentList}
         → Spells rest (((v ∷ e) ∷ s) ∷ list) → Spells (c .component ∷ rest) ((([] ∷ v ∷ e) ∷ s) ∷ list)
-    valueByte : {b : ℕ} {rest : Bytes} {v : Bytes} {e : List Bytes} {s : List (List Bytes)} {list : SegmentList} → Spellable b
+    valueByte : {b : ℕ} {rest v : Bytes} {e : List Bytes} {s : List (List Bytes)} {list : SegmentList} → Spellable b
         → Spells rest (((v ∷ e) ∷ s) ∷ list) → Spells (spellByte c b ++ rest) ((((b ∷ v) ∷ e) ∷ s) ∷ list)
 
   -- ---- what a body of the grammar spells
@@ -66,26 +56,27 @@ module _ (c : Characters) where
 
   -- ---- every list that can be spelled is in the grammar
 
-  -- what has the right shape, and is plain where there is no release character; and a list of such
+  -- it has the right shape, and it is plain where there is no release character
   abbrev Good : {A : Type 0} → (A → Bool) → (A → Bool) → A → Type 0
   Good shape plainly x = (shape x ≡ true) × (released c ≡ false → plainly x ≡ true)
 
+  -- what is good of all is good of the first and of the others
   good-parts : {A : Type 0} (shape plainly : A → Bool) (x : A) (xs : List A) → Good (all shape) (all plainly) (x ∷ xs)
       → Good shape plainly x × Good (all shape) (all plainly) xs
   unfolding all
-  good-parts shape plainly x xs k =
-      (
-        (and-left (shape x) (all shape xs) (k .0), λ r. and-left (plainly x) (all plainly xs) (k .1 r)),
-        (and-right (shape x) (all shape xs) (k .0), λ r. and-right (plainly x) (all plainly xs) (k .1 r)),
-      )
+  good-parts shape plainly x xs k = (
+    (and-left (shape x) (all shape xs) (k .0), λ r. and-left (plainly x) (all plainly xs) (k .1 r)),
+    (and-right (shape x) (all shape xs) (k .0), λ r. and-right (plainly x) (all plainly xs) (k .1 r)),
+  )
 
-  -- One law for components and for elements. The list K begins with some of the kind: a separator puts an empty one in front of
-  -- them, and the spelling of one fills the empty one that stands there. So pieces with separators between become their list.
+  -- One law for the values of an element and the elements of a segment. `K xs` is a list that begins with xs. Where a separator puts
+  -- an empty one in front, and where the spelling of one fills the empty one that stands in front, spellings with separators
+  -- between them put all of them in front.
   module _ {A : Type 0} (spelling : A → Bytes) (mark : ℕ) (empty : A) (K : List A → SegmentList) (shape plainly : A → Bool)
       (separated : (x : A) (xs : List A) (rest : Bytes) → Good shape plainly x → Spells rest (K (x ∷ xs))
-          → Spells (mark ∷ rest) (K (empty ∷ x ∷ xs)))
+      → Spells (mark ∷ rest) (K (empty ∷ x ∷ xs)))
       (filled : (x : A) (xs : List A) (rest : Bytes) → Good shape plainly x → Spells rest (K (empty ∷ xs))
-          → Spells (spelling x ++ rest) (K (x ∷ xs)))
+      → Spells (spelling x ++ rest) (K (x ∷ xs)))
       (rest : Bytes) (h : Spells rest (K (empty ∷ []))) where
     spells-behind : (xs : List A) → Good (all shape) (all plainly) xs
         → Spells (behind mark (map spelling xs) ++ rest) (K (empty ∷ xs))
@@ -113,6 +104,7 @@ module _ (c : Characters) where
   all-true (x ∷ xs) = all-true xs
 
   module _ (list : SegmentList) where
+    -- the spelling of a value, of an element and of a segment, in front of what the separator behind it begins
     spells-value : (s : List (List Bytes)) (v : Bytes) (e : List Bytes) (rest : Bytes) → Good (λ w. true) (all plainByte) v
         → Spells rest ((([] ∷ e) ∷ s) ∷ list) → Spells (spellValue c v ++ rest) (((v ∷ e) ∷ s) ∷ list)
     unfolding spellValue gather all

@@ -1,18 +1,18 @@
--- The list of segments that tokens hold grows by one token at a time, and places do not matter to it. Assumes nothing.
+-- The list of segments that tokens hold: what one token more in front adds to it, and that places do not matter. Assumes nothing.
 use Prim.Native.Nat.{ℕ, _+_}
-use mathlib.Core.Path.{_≡_, refl, sym, ap, ap₂, _∙_}
-use mathlib.Core.Bool.{Bool, true, false, not, _&&_}
+use mathlib.Core.Path.{_≡_, refl, sym, ap, _∙_}
+use mathlib.Core.Bool.{Bool, true, false}
 use mathlib.Core.List.{List, [], _∷_, _++_, map, map-map}
 use mathlib.Core.Option.{Option, none, some}
-use Rattle.lists.specs.Lists.{isEmpty, all, lastOr, onto, cut, gather}
+use Rattle.lists.specs.Lists.{onto, cut, gather}
 use Rattle.characters.specs.declared.Characters.{Characters}
 use Rattle.characters.specs.declared.Role.{Role}
 use Rattle.characters.specs.declared.Role.the-variants.{Separator, Release, Plain}
 use Rattle.characters.specs.Characters.{role}
 use Rattle.reading.specs.Tokens.{Token, byte, separator, fault, ends, segments, unreleased, releasing, taken, tokensFrom, tokens}
-use Rattle.reading.specs.Values.{byteOf, bytesOf, valueOf, valuesOf, elementsOf, isFault, endedBy, endsInside}
+use Rattle.reading.specs.Values.{byteOf, bytesOf, valueOf, valuesOf, elementsOf}
 use Rattle.reading.specs.Spelling.{Bytes, SegmentList}
-use Rattle.spelling.specs.Bodies.{wordsOf, listed, readList, Sound, Passes}
+use Rattle.spelling.specs.Bodies.{wordsOf, listed, readList}
 
 -- ---- one token more
 
@@ -47,7 +47,7 @@ module _ {A B : Type 0} (t : A → Bool) (f : List B → List B) (x : A) (xs : L
       ∙ ap (pushed (t x) f) (sym (map-map k g (cut t xs)))
 
 module _ (t : Token) where
-  -- what a token adds to the value, the element and the list that begin behind it
+  -- what a token adds to the value, the element, the segment and the list that go on behind it
   abbrev toValue : Bytes → Bytes
   toValue value = byteOf t ++ value
 
@@ -60,6 +60,7 @@ module _ (t : Token) where
   unfoldable pub push : SegmentList → SegmentList
   push list = pushed (ends 0 t) toSegment list
 
+  -- one token more in front, in an element, in a segment and in all
   values-next : (ts : List Token) → map (λ v. v .bytes) (valuesOf (t ∷ ts)) ≡ toElement (map (λ v. v .bytes) (valuesOf ts))
   unfolding valuesOf valueOf bytesOf gather
   values-next ts = cut-pushed-twice (ends 2) toValue t ts (λ v. v .bytes) valueOf refl (λ piece. refl)
@@ -74,95 +75,40 @@ module _ (t : Token) where
 
 -- ---- places do not matter
 
--- the token without its places
-unfoldable pub placeless : Token → Token
-placeless (byte b from place) = byte b 0 0
-placeless (separator kind place) = separator kind 0
-placeless (fault place) = fault 0
-
 -- a release character may stand directly before, at a place
 abbrev held : Bool → ℕ → Option ℕ
 held true from = some from
 held false from = none
 
-same-push : (t : Token) (list : SegmentList) → push (placeless t) list ≡ push t list
-unfolding push placeless ends byteOf
-same-push (byte b from place) list = refl
-same-push (separator kind place) list = refl
-same-push (fault place) list = refl
-
-listed-placeless : (ts : List Token) → listed (map placeless ts) ≡ listed ts
-listed-placeless [] = refl
-listed-placeless (t ∷ ts) =
-    listed-next (placeless t) (map placeless ts)
-    ∙ ap (push (placeless t)) (listed-placeless ts)
-    ∙ same-push t (listed ts)
-    ∙ sym (listed-next t ts)
-
-same-fault : (t : Token) → isFault (placeless t) ≡ isFault t
-unfolding placeless isFault
-same-fault (byte b from place) = refl
-same-fault (separator kind place) = refl
-same-fault (fault place) = refl
-
-faults-placeless : (ts : List Token) → all (λ t. not (isFault t)) (map placeless ts) ≡ all (λ t. not (isFault t)) ts
-unfolding all
-faults-placeless [] = refl
-faults-placeless (t ∷ ts) = ap₂ (λ (f g : Bool). not f && g) (same-fault t) (faults-placeless ts)
-
-same-end : (t : Token) → ends 0 (placeless t) ≡ ends 0 t
-unfolding placeless ends
-same-end (byte b from place) = refl
-same-end (separator kind place) = refl
-same-end (fault place) = refl
-
-last-placeless : (t : Token) (ts : List Token) → ends 0 (lastOr (placeless t) (map placeless ts)) ≡ ends 0 (lastOr t ts)
-unfolding lastOr
-last-placeless t [] = same-end t
-last-placeless t (u ∷ us) = last-placeless u us
-
-ends-placeless : (ts : List Token) → endsInside (map placeless ts) ≡ endsInside ts
-unfolding endsInside endedBy isEmpty
-ends-placeless [] = refl
-ends-placeless (t ∷ ts) = ap not (last-placeless t ts)
+-- two tokens that add the same, in front of tokens that hold the same
+same-next : (t u : Token) (ts us : List Token) → ((list : SegmentList) → push t list ≡ push u list) → listed ts ≡ listed us
+    → listed (t ∷ ts) ≡ listed (u ∷ us)
+same-next t u ts us h e = listed-next t ts ∙ ap (push t) e ∙ h (listed us) ∙ sym (listed-next u us)
 
 module _ (c : Characters) where
-  -- tokens differ only by their places from those of the same body elsewhere
-  placeless-from : (h : Bool) (from from′ p q : ℕ) (body : Bytes)
-      → map placeless (tokensFrom c (held h from) p body) ≡ map placeless (tokensFrom c (held h from′) q body)
-  unfolding tokensFrom placeless unreleased releasing taken
-  placeless-from true from from′ p q [] = refl
-  placeless-from false from from′ p q [] = refl
-  placeless-from true from from′ p q (b ∷ bs) = step (role c b) (placeless-from false from from′ (p + 1) (q + 1) bs)
+  -- wherever the bytes and the release character before them stand, their tokens hold the same
+  listed-anywhere : (h : Bool) (from from′ p q : ℕ) (body : Bytes)
+      → listed (tokensFrom c (held h from) p body) ≡ listed (tokensFrom c (held h from′) q body)
+  unfolding tokensFrom unreleased releasing taken push ends byteOf
+  listed-anywhere true from from′ p q [] = same-next (fault from) (fault from′) [] [] (λ list. refl) refl
+  listed-anywhere false from from′ p q [] = refl
+  listed-anywhere true from from′ p q (b ∷ bs) = step (role c b) (listed-anywhere false from from′ (p + 1) (q + 1) bs)
     where
-      step : (o : Role) → map placeless (tokensFrom c none (p + 1) bs) ≡ map placeless (tokensFrom c none (q + 1) bs)
-          → map placeless (taken o b from p (tokensFrom c none (p + 1) bs))
-          ≡ map placeless (taken o b from′ q (tokensFrom c none (q + 1) bs))
-      step (Separator kind) ih = ap (λ (ts : List Token). byte b 0 0 ∷ ts) ih
-      step Release ih = ap (λ (ts : List Token). byte b 0 0 ∷ ts) ih
-      step Plain ih = ap (λ (ts : List Token). fault 0 ∷ ts) ih
-  placeless-from false from from′ p q (b ∷ bs) = step (role c b) (λ h. placeless-from h p q (p + 1) (q + 1) bs)
+      step : (o : Role) → listed (tokensFrom c none (p + 1) bs) ≡ listed (tokensFrom c none (q + 1) bs)
+          → listed (taken o b from p (tokensFrom c none (p + 1) bs)) ≡ listed (taken o b from′ q (tokensFrom c none (q + 1) bs))
+      step (Separator kind) ih = same-next (byte b from p) (byte b from′ q) _ _ (λ list. refl) ih
+      step Release ih = same-next (byte b from p) (byte b from′ q) _ _ (λ list. refl) ih
+      step Plain ih = same-next (fault from) (fault from′) _ _ (λ list. refl) ih
+  listed-anywhere false from from′ p q (b ∷ bs) = step (role c b) (λ h. listed-anywhere h p q (p + 1) (q + 1) bs)
     where
       step : (o : Role)
-          → ((h : Bool) → map placeless (tokensFrom c (held h p) (p + 1) bs) ≡ map placeless (tokensFrom c (held h q) (q + 1) bs))
-          → map placeless (unreleased o b p (tokensFrom c (releasing o p) (p + 1) bs))
-          ≡ map placeless (unreleased o b q (tokensFrom c (releasing o q) (q + 1) bs))
-      step (Separator kind) ih = ap (λ (ts : List Token). separator kind 0 ∷ ts) (ih false)
+          → ((h : Bool) → listed (tokensFrom c (held h p) (p + 1) bs) ≡ listed (tokensFrom c (held h q) (q + 1) bs))
+          → listed (unreleased o b p (tokensFrom c (releasing o p) (p + 1) bs))
+          ≡ listed (unreleased o b q (tokensFrom c (releasing o q) (q + 1) bs))
+      step (Separator kind) ih = same-next (separator kind p) (separator kind q) _ _ (λ list. refl) (ih false)
       step Release ih = ih true
-      step Plain ih = ap (λ (ts : List Token). byte b 0 0 ∷ ts) (ih false)
-
-  -- what does not look at places says the same of a body wherever it stands
-  anywhere : {B : Type 0} (f : List Token → B) → ((ts : List Token) → f (map placeless ts) ≡ f ts) → (p q : ℕ) (body : Bytes)
-      → f (tokens c p body) ≡ f (tokens c q body)
-  unfolding tokens
-  anywhere f blind p q body =
-      sym (blind (tokens c p body)) ∙ ap f (placeless-from false 0 0 p q body) ∙ blind (tokens c q body)
+      step Plain ih = same-next (byte b p p) (byte b q q) _ _ (λ list. refl) (ih false)
 
   pub read-anywhere : (p q : ℕ) (body : Bytes) → readList c p body ≡ readList c q body
-  unfolding readList
-  read-anywhere p q body = anywhere listed listed-placeless p q body
-
-  pub passes-anywhere : (p q : ℕ) (body : Bytes) → Passes c p body → Passes c q body
-  unfolding Passes Sound
-  passes-anywhere p q body h =
-      (anywhere (all (λ t. not (isFault t))) faults-placeless q p body ∙ h .0, anywhere endsInside ends-placeless q p body ∙ h .1)
+  unfolding readList tokens
+  read-anywhere p q body = listed-anywhere false 0 0 p q body

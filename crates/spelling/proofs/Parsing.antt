@@ -1,34 +1,34 @@
--- Reading and the grammar: the tokens of a body of the grammar, and the list that a body that passes is read as. Assumes nothing.
-use Prim.Native.Nat.{ℕ, zero, suc, _+_}
+-- Reading and the grammar. A body of the grammar passes and is read as its list, whatever follows it; a body that passes is one of
+-- the grammar. Assumes nothing.
+use Prim.Native.Nat.{ℕ, _+_}
 use mathlib.Core.Path.{_≡_, refl, sym, ap, ap₂, _∙_, subst}
-use mathlib.Core.Bool.{Bool, true, false, not, _&&_, _||_, false≢true, true≢false, or-false}
-use mathlib.Core.List.{List, [], _∷_, _++_, map, append-assoc, append-nil, cons≢nil, nil≢cons}
+use mathlib.Core.Bool.{Bool, true, false, not, _||_, false≢true, true≢false, or-false}
+use mathlib.Core.List.{List, [], _∷_, _++_, append-assoc, nil≢cons}
 use mathlib.Core.Option.{Option, none, some}
 use native.Mathlib.Omega.{arith}
 use lib.ListN.{length, length-append}
-use borrow.Author.Tests.{not-true, not-false}
 use Rattle.lists.specs.Lists.{if_then_else_, isEmpty, all, lastOr, cut}
-use Rattle.lists.proofs.Texts.{and-left, and-right, and-both, if-true, if-false}
+use Rattle.lists.proofs.Texts.{and-right, and-both, if-true, if-false}
 use Rattle.characters.specs.declared.Characters.{Characters}
 use Rattle.characters.specs.declared.Role.{Role}
 use Rattle.characters.specs.declared.Role.the-variants.{Separator, Release, Plain}
 use Rattle.characters.specs.Characters.{role, released, isService, usable}
-use Rattle.reading.specs.Tokens.{Token, byte, separator, fault, ends, segments, unreleased, releasing, taken, tokensFrom, tokens}
+use Rattle.reading.specs.Tokens.{Token, byte, separator, ends, segments, unreleased, releasing, taken, tokensFrom, tokens}
 use Rattle.reading.specs.Values.{byteOf, isFault, endedBy, endsInside}
 use Rattle.reading.specs.Spelling.{Bytes, SegmentList, spellByte}
-use Rattle.spelling.specs.Bodies.{listed, readList, Sound, Passes}
+use Rattle.spelling.specs.Bodies.{listed, Sound, Passes}
 use Rattle.spelling.proofs.Service.{serves, Part, terminates, endsElement, endsComponent, releases, plain, part, service-serves, role-terminator, role-element, role-component, role-release}
-use Rattle.spelling.proofs.Listing.{push, pushed, listed-next}
+use Rattle.spelling.proofs.Listing.{push, listed-next}
 use Rattle.spelling.proofs.Grammar.{Spellable, Spells, nothing, segmentEnd, elementEnd, componentEnd, valueByte}
 
--- ---- sound tokens
+-- ---- a body of the grammar is read as its list
 
--- tokens that hold the list, whatever stands behind them
+-- sound tokens that hold the list, whatever follows them
 pub record Hold (ts : List Token) (list : SegmentList) : Type 0 where
   pub sound : Sound ts
   pub hold : (more : List Token) → listed (ts ++ more) ≡ list ++ listed more
 
--- tokens that hold nothing but are not sound by themselves are made so by a terminator only
+-- with one token more in front, the tokens end no segment too few: where there were none, the token is a terminator
 ended-next : (t : Token) (ts : List Token) (list : SegmentList) → (ends 0 t || not (isEmpty list)) ≡ true → Hold ts list
     → endsInside (t ∷ ts) ≡ false
 unfolding endsInside endedBy lastOr isEmpty Sound listed segments cut
@@ -36,60 +36,48 @@ ended-next t [] [] e h = ap not (sym (or-false (ends 0 t)) ∙ e)
 ended-next t [] (s ∷ list) e h = absurd (nil≢cons (h .hold []))
 ended-next t (u ∷ us) list e h = h .sound .1
 
--- One token more. In front of tokens that hold nothing it has to be a terminator.
+-- one token more, which is a terminator where the list was empty
 hold-next : (t : Token) (ts : List Token) (list list′ : SegmentList) → isFault t ≡ false
     → (ends 0 t || not (isEmpty list)) ≡ true → ((more : SegmentList) → push t (list ++ more) ≡ list′ ++ more)
     → Hold ts list → Hold (t ∷ ts) list′
 unfolding Sound all
 hold-next t ts list list′ f e grow h = record {
-      sound = (and-both (not (isFault t)) (all (λ u. not (isFault u)) ts) (ap not f) (h .sound .0), ended-next t ts list e h);
-      hold = λ more. listed-next t (ts ++ more) ∙ ap (push t) (h .hold more) ∙ grow (listed more);
-    }
+  sound = (and-both (not (isFault t)) (all (λ u. not (isFault u)) ts) (ap not f) (h .sound .0), ended-next t ts list e h);
+  hold = λ more. listed-next t (ts ++ more) ∙ ap (push t) (h .hold more) ∙ grow (listed more);
+}
 
 module _ (c : Characters) where
-  -- wherever the body stands, its tokens hold the list, and what follows the body is read as if it stood alone
+  -- the tokens of the body hold the list, and what follows the body is read as if it stood alone
   pub record Reads (place : ℕ) (body : Bytes) (list : SegmentList) : Type 0 where
-    pub front : List Token
-    pub apart : (more : Bytes) → tokens c place (body ++ more) ≡ front ++ tokens c (place + length body) more
-    pub holds : Hold front list
+    pub alone : (more : Bytes) → tokens c place (body ++ more) ≡ tokens c place body ++ tokens c (place + length body) more
+    pub holds : Hold (tokens c place body) list
 
+  -- one token's spelling more in front
   reads-next : (place : ℕ) (t : Token) (first rest : Bytes) (list list′ : SegmentList)
       → ((more : Bytes) → tokens c place (first ++ more) ≡ t ∷ tokens c (place + length first) more)
       → isFault t ≡ false → (ends 0 t || not (isEmpty list)) ≡ true → ((more : SegmentList) → push t (list ++ more) ≡ list′ ++ more)
       → Reads (place + length first) rest list → Reads place (first ++ rest) list′
   reads-next place t first rest list list′ step f e grow r = record {
-        front = t ∷ r .front;
-        apart = λ more.
-            ap (tokens c place) (append-assoc first rest more)
-            ∙ step (rest ++ more)
-            ∙ ap (λ (us : List Token). t ∷ us) (r .apart more)
-            ∙ ap (λ (n : ℕ). t ∷ (r .front ++ tokens c n more)) (omega (arith, length-append first rest));
-        holds = hold-next t (r .front) list list′ f e grow (r .holds);
-      }
+    alone = λ more.
+        ap (tokens c place) (append-assoc first rest more)
+        ∙ step (rest ++ more)
+        ∙ ap (λ (us : List Token). t ∷ us) (r .alone more)
+        ∙ ap₂ (λ (us : List Token) (n : ℕ). us ++ tokens c n more) (sym (step rest)) (omega (arith, length-append first rest));
+    holds = rw (step rest) (hold-next t (tokens c (place + length first) rest) list list′ f e grow (r .holds));
+  }
 
-  tokens-separator : (place b kind : ℕ) (more : Bytes) → role c b ≡ Separator kind
-      → tokens c place (b ∷ more) ≡ separator kind place ∷ tokens c (place + 1) more
-  unfolding tokens tokensFrom unreleased releasing
-  tokens-separator place b kind more r =
-      ap (λ (o : Role). unreleased o b place (tokensFrom c (releasing o place) (place + 1) more)) r
+  -- the tokens from an unreleased byte on, by the part that it plays
+  tokens-role : (place b : ℕ) (more : Bytes) (o : Role) → role c b ≡ o
+      → tokens c place (b ∷ more) ≡ unreleased o b place (tokensFrom c (releasing o place) (place + 1) more)
+  unfolding tokens tokensFrom
+  tokens-role place b more o r = ap (λ (o : Role). unreleased o b place (tokensFrom c (releasing o place) (place + 1) more)) r
 
-  -- an unreleased plain byte, and a service character that is released
-  tokens-plain : (place b : ℕ) (more : Bytes) → role c b ≡ Plain → tokens c place (b ∷ more) ≡ byte b place place ∷ tokens c (place + 1) more
-  unfolding tokens tokensFrom unreleased releasing
-  tokens-plain place b more r =
-      ap (λ (o : Role). unreleased o b place (tokensFrom c (releasing o place) (place + 1) more)) r
-
-  tokens-released : (place r b : ℕ) (more : Bytes) → role c r ≡ Release → serves (role c b) ≡ true
-      → tokens c place (r ∷ b ∷ more) ≡ byte b place (place + 1) ∷ tokens c (place + 1 + 1) more
-  unfolding tokens tokensFrom unreleased releasing taken
-  tokens-released place r b more e k =
-      ap (λ (o : Role). unreleased o r place (tokensFrom c (releasing o place) (place + 1) (b ∷ more))) e ∙ serving (role c b) k
-    where
-      serving : (o : Role) → serves o ≡ true
-          → taken o b place (place + 1) (tokens c (place + 1 + 1) more) ≡ byte b place (place + 1) ∷ tokens c (place + 1 + 1) more
-      serving (Separator kind) k = refl
-      serving Release k = refl
-      serving Plain k = absurd (false≢true k)
+  -- a service character behind a release character is a byte of a value
+  serving : (o : Role) (b from place : ℕ) (rest : List Token) → serves o ≡ true → taken o b from place rest ≡ byte b from place ∷ rest
+  unfolding taken
+  serving (Separator kind) b from place rest k = refl
+  serving Release b from place rest k = refl
+  serving Plain b from place rest k = absurd (false≢true k)
 
 -- what is no service character is plain
 plain-role : (o : Role) → serves o ≡ false → o ≡ Plain
@@ -103,9 +91,10 @@ needs-release true s k h = refl
 needs-release false s k h = absurd (false≢true (sym (ap not h) ∙ k refl))
 
 module _ (c : Characters) (u : usable c ≡ true) where
+  -- a byte of a value, released or not, is read as that byte
   tokens-byte : (place b : ℕ) → Spellable c b
       → (at : ℕ) × ((more : Bytes) → tokens c place (spellByte c b ++ more) ≡ byte b place at ∷ tokens c (place + length (spellByte c b)) more)
-  unfolding spellByte
+  unfolding spellByte tokens tokensFrom unreleased releasing
   tokens-byte place b k = step (isService c b) refl
     where
       step : (s : Bool) → isService c b ≡ s
@@ -113,54 +102,46 @@ module _ (c : Characters) (u : usable c ≡ true) where
           × ((more : Bytes)
           → tokens c place ((if s then c .release ∷ b ∷ [] else b ∷ []) ++ more)
           ≡ byte b place at ∷ tokens c (place + length (if s then c .release ∷ b ∷ [] else b ∷ [])) more)
-      step true h =
-          (
-            place + 1,
-            λ more.
-                tokens-released c place (c .release) b more
-                (role-release c u (needs-release (released c) (isService c b) k h))
-                (sym (service-serves c b) ∙ h)
-                ∙ ap (λ (n : ℕ). byte b place (place + 1) ∷ tokens c n more) (omega arith),
-          )
-      step false h = (place, λ more. tokens-plain c place b more (plain-role (role c b) (sym (service-serves c b) ∙ h)))
+      step true h = (
+        place + 1,
+        λ more.
+            tokens-role c place (c .release) (b ∷ more) Release (role-release c u (needs-release (released c) (isService c b) k h))
+            ∙ serving c (role c b) b place (place + 1) (tokens c (place + 1 + 1) more) (sym (service-serves c b) ∙ h)
+            ∙ ap (λ (n : ℕ). byte b place (place + 1) ∷ tokens c n more) (omega arith),
+      )
+      step false h =
+          (place, λ more. tokens-role c place b more Plain (plain-role (role c b) (sym (service-serves c b) ∙ h)))
 
   pub spells-reads : {body : Bytes} {list : SegmentList} → Spells c body list → (place : ℕ) → Reads c place body list
-  unfolding ends push isFault isEmpty byteOf Sound all endsInside listed segments cut
+  unfolding ends push isFault isEmpty byteOf Sound all endsInside listed segments cut tokens tokensFrom unreleased releasing
   spells-reads nothing place = record {
-        front = [];
-        apart = λ more. ap (λ (n : ℕ). tokens c n more) (omega arith);
-        holds = record { sound = (refl, refl); hold = λ more. refl };
-      }
+    alone = λ more. ap (λ (n : ℕ). tokens c n more) (omega arith);
+    holds = record { sound = (refl, refl); hold = λ more. refl };
+  }
   spells-reads (segmentEnd {rest} {list} h) place =
       reads-next c place (separator 0 place) (c .terminator ∷ []) rest list ((([] ∷ []) ∷ []) ∷ list)
-      (λ more. tokens-separator c place (c .terminator) 0 more (role-terminator c u)) refl refl (λ more. refl)
-      (spells-reads h (place + 1))
+      (λ more. tokens-role c place (c .terminator) more (Separator 0) (role-terminator c u))
+      refl refl (λ more. refl) (spells-reads h (place + 1))
   spells-reads (elementEnd {rest} {v} {e} {s} {list} h) place =
       reads-next c place (separator 1 place) (c .element ∷ []) rest (((v ∷ e) ∷ s) ∷ list) ((([] ∷ []) ∷ (v ∷ e) ∷ s) ∷ list)
-      (λ more. tokens-separator c place (c .element) 1 more (role-element c u)) refl refl (λ more. refl)
-      (spells-reads h (place + 1))
+      (λ more. tokens-role c place (c .element) more (Separator 1) (role-element c u))
+      refl refl (λ more. refl) (spells-reads h (place + 1))
   spells-reads (componentEnd {rest} {v} {e} {s} {list} h) place =
       reads-next c place (separator 2 place) (c .component ∷ []) rest (((v ∷ e) ∷ s) ∷ list) ((([] ∷ v ∷ e) ∷ s) ∷ list)
-      (λ more. tokens-separator c place (c .component) 2 more (role-component c u)) refl refl (λ more. refl)
-      (spells-reads h (place + 1))
+      (λ more. tokens-role c place (c .component) more (Separator 2) (role-component c u))
+      refl refl (λ more. refl) (spells-reads h (place + 1))
   spells-reads (valueByte {b} {rest} {v} {e} {s} {list} k h) place =
       let t = tokens-byte place b k in
       reads-next c place (byte b place (t .0)) (spellByte c b) rest (((v ∷ e) ∷ s) ∷ list) ((((b ∷ v) ∷ e) ∷ s) ∷ list)
-      (t .1) refl refl (λ more. refl)
-      (spells-reads h (place + length (spellByte c b)))
+      (t .1) refl refl (λ more. refl) (spells-reads h (place + length (spellByte c b)))
 
 -- ---- every body that passes is in the grammar
 
--- behind a token that ends no segment there are tokens, which are sound too
+-- what follows a token of sound tokens is sound
 sound-rest : (t : Token) (ts : List Token) → Sound (t ∷ ts) → Sound ts
 unfolding Sound all endsInside endedBy lastOr isEmpty
 sound-rest t [] h = (refl, refl)
 sound-rest t (u ∷ us) h = (and-right (not (isFault t)) (all (λ v. not (isFault v)) (u ∷ us)) (h .0), h .1)
-
-more-behind : (t : Token) (ts : List Token) → ends 0 t ≡ false → Sound (t ∷ ts) → isEmpty ts ≡ false
-unfolding Sound endsInside endedBy lastOr isEmpty
-more-behind t [] e h = absurd (true≢false (sym (ap not e) ∙ h .1))
-more-behind t (u ∷ us) e h = refl
 
 module _ (c : Characters) where
   -- a body of the grammar that is not empty begins inside a value
@@ -175,20 +156,16 @@ module _ (c : Characters) where
   begun (componentEnd h) k = (_, _, _, _, componentEnd h)
   begun (valueByte g h) k = (_, _, _, _, valueByte g h)
 
+  -- some list is spelled by the body
   abbrev Parsed : Bytes → Type 0
   Parsed body = (list : SegmentList) × Spells c body list
 
   -- behind a token that ends no segment, a body has begun
   begun-behind : (t : Token) (place : ℕ) (body : Bytes) → ends 0 t ≡ false → Sound (t ∷ tokensFrom c none place body)
       → (Sound (tokensFrom c none place body) → Parsed body) → Begun body
-  unfolding tokensFrom isEmpty
-  begun-behind t place body e h parse =
-      begun (parse (sound-rest t (tokensFrom c none place body) h) .1)
-      (some-bytes body (more-behind t (tokensFrom c none place body) e h))
-    where
-      some-bytes : (body : Bytes) → isEmpty (tokensFrom c none place body) ≡ false → isEmpty body ≡ false
-      some-bytes [] k = k
-      some-bytes (b ∷ bs) k = refl
+  unfolding tokensFrom Sound endsInside endedBy lastOr isEmpty
+  begun-behind t place [] e h parse = absurd (true≢false (sym (ap not e) ∙ h .1))
+  begun-behind t place (b ∷ bs) e h parse = begun (parse (sound-rest t (tokensFrom c none place (b ∷ bs)) h) .1) refl
 
   -- a value's byte in front, as it is spelled
   parsed-byte : (b : ℕ) (body spelled : Bytes) → Spellable c b → spellByte c b ≡ spelled → Begun body → Parsed (spelled ++ body)
@@ -201,11 +178,13 @@ module _ (c : Characters) where
   before none = []
   before (some from) = c .release ∷ []
 
+  -- it is one
   abbrev Held : Option ℕ → Type 0
   Held none = Unit {0}
   Held (some from) = released c ≡ true
 
   module _ (b : ℕ) (bs : Bytes) (place : ℕ) where
+    -- a byte that no release character stands before
     parsed-unreleased : {o : Role} → Part c b o → isService c b ≡ serves o
         → Sound (unreleased o b place (tokensFrom c (releasing o place) (place + 1) bs))
         → ((h : Option ℕ) → Held h → Sound (tokensFrom c h (place + 1) bs) → Parsed (before h ++ bs)) → Parsed (b ∷ bs)
@@ -221,6 +200,7 @@ module _ (c : Characters) where
         parsed-byte b bs (b ∷ []) (λ r. ap not k) (if-false (isService c b) (c .release ∷ b ∷ []) (b ∷ []) k)
         (begun-behind (byte b place place) (place + 1) bs refl h (parse none tt))
 
+    -- a byte that one stands before
     released-byte : (from : ℕ) → released c ≡ true → isService c b ≡ true
         → Sound (byte b from place ∷ tokensFrom c none (place + 1) bs)
         → (Sound (tokensFrom c none (place + 1) bs) → Parsed bs) → Parsed (c .release ∷ b ∷ bs)
@@ -238,6 +218,7 @@ module _ (c : Characters) where
     parsed-taken Release from r k h parse = released-byte from r k h parse
     parsed-taken Plain from r k h parse = absurd (false≢true (h .0))
 
+  -- what remains of the body, with the release character directly before it
   parsed : (o : Option ℕ) (body : Bytes) (place : ℕ) → Held o → Sound (tokensFrom c o place body) → Parsed (before o ++ body)
   unfolding tokensFrom Sound all isFault
   parsed none [] place r h = ([], nothing)

@@ -1,12 +1,12 @@
 -- What usable service characters are to one another, and which byte plays which part. Assumes nothing.
 use Prim.Native.Nat.{ℕ}
-use mathlib.Core.Path.{_≡_, refl, sym, ap, _∙_, subst}
-use mathlib.Core.Bool.{Bool, true, false, not, _&&_, _||_, false≢true}
-use mathlib.Core.List.{List, [], _∷_}
+use mathlib.Core.Path.{_≡_, refl, sym, ap, _∙_}
+use mathlib.Core.Bool.{Bool, true, false, not, _&&_, _||_}
+use mathlib.Core.List.{List, [], _∷_, _++_}
 use lib.Dec.{eqb}
 use borrow.Author.Tests.{eqb-true, eqb-false, eq-eqb, ne-eqb, not-true}
 use Rattle.lists.specs.Lists.{if_then_else_, text, member, allDiffer, all}
-use Rattle.lists.proofs.Texts.{and-left, and-right, or-none-left, or-none-right, if-true, if-false}
+use Rattle.lists.proofs.Texts.{and-left, and-right, or-none-left, or-none-right}
 use Rattle.characters.specs.declared.Characters.{Characters}
 use Rattle.characters.specs.declared.Role.{Role}
 use Rattle.characters.specs.declared.Role.the-variants.{Separator, Release, Plain}
@@ -18,7 +18,7 @@ serves (Separator kind) = true
 serves Release = true
 serves Plain = false
 
--- what a byte is that plays a part
+-- which byte plays a part
 pub data Part (c : Characters) (b : ℕ) : Role → Type 0 where
   terminates : b ≡ c .terminator → Part c b (Separator 0)
   endsElement : b ≡ c .element → Part c b (Separator 1)
@@ -29,6 +29,7 @@ pub data Part (c : Characters) (b : ℕ) : Role → Type 0 where
 -- ---- any characters
 
 module _ (c : Characters) (b : ℕ) where
+  -- the part that a byte plays says which byte it is
   pub part : Part c b (role c b)
   unfolding role
   part = step (eqb b (c .terminator)) refl (eqb b (c .element)) refl (eqb b (c .component)) refl (released c) refl (eqb b (c .release)) refl
@@ -67,54 +68,33 @@ module _ (c : Characters) (b : ℕ) where
 
 -- ---- usable characters
 
--- of numbers that all differ, the first is none of the others, and the others differ
-first-differs : (x : ℕ) (xs : List ℕ) → allDiffer (x ∷ xs) ≡ true → (member x xs ≡ false) × (allDiffer xs ≡ true)
-unfolding allDiffer
-first-differs x xs h =
-    (not-true (member x xs) (and-left (not (member x xs)) (allDiffer xs) h), and-right (not (member x xs)) (allDiffer xs) h)
-
--- a number that is none of them is not the first of them, nor one of the others
-none-of : (x y : ℕ) (ys : List ℕ) → member x (y ∷ ys) ≡ false → (eqb x y ≡ false) × (member x ys ≡ false)
-unfolding member
-none-of x y ys h = (or-none-left (eqb x y) (member x ys) h, or-none-right (eqb x y) (member x ys) h)
-
-swapped : (x y : ℕ) → eqb x y ≡ false → eqb y x ≡ false
-swapped x y h = ne-eqb y x (λ e. eqb-false x y h (sym e))
+-- of numbers that all differ, two at different places differ
+apart : (front : List ℕ) (x : ℕ) (middle : List ℕ) (y : ℕ) (end : List ℕ)
+    → allDiffer (front ++ x ∷ (middle ++ y ∷ end)) ≡ true → x ≡ y → ⊥
+unfolding allDiffer member
+apart (z ∷ front) x middle y end h =
+    apart front x middle y end (and-right (not (member z (front ++ x ∷ (middle ++ y ∷ end)))) (allDiffer (front ++ x ∷ (middle ++ y ∷ end))) h)
+apart [] x middle y end h =
+    not-among middle (not-true (member x (middle ++ y ∷ end)) (and-left (not (member x (middle ++ y ∷ end))) (allDiffer (middle ++ y ∷ end)) h))
+  where
+    not-among : (middle : List ℕ) → member x (middle ++ y ∷ end) ≡ false → x ≡ y → ⊥
+    not-among [] k = eqb-false x y (or-none-left (eqb x y) (member x end) k)
+    not-among (z ∷ middle) k = not-among middle (or-none-right (eqb x z) (member x (middle ++ y ∷ end)) k)
 
 module _ (c : Characters) (u : usable c ≡ true) where
-  -- the release character, if there is one
-  abbrev optional : List ℕ
-  optional = if released c then c .release ∷ [] else []
-
-  services-differ : allDiffer (c .component ∷ c .element ∷ c .terminator ∷ optional) ≡ true
+  -- "these four (three without release) and the mark all differ"
+  differing : (r : Bool) → released c ≡ r
+      → allDiffer (c .mark ∷ c .component ∷ c .element ∷ c .terminator ∷ (if r then c .release ∷ [] else [])) ≡ true
   unfolding usable serviceCharacters
-  services-differ =
-      first-differs (c .mark) (serviceCharacters c)
-      (and-right
+  differing r e =
+      ap (λ (t : Bool). allDiffer (c .mark ∷ c .component ∷ c .element ∷ c .terminator ∷ (if t then c .release ∷ [] else []))) (sym e)
+      ∙ and-right
       (eqb (c .reserved) space && member (c .mark) (text ".,") && all separates (serviceCharacters c))
       (allDiffer (c .mark ∷ serviceCharacters c))
-      u)
-      .1
+      u
 
-  -- each is none of those that stand behind it
-  component-apart : member (c .component) (c .element ∷ c .terminator ∷ optional) ≡ false
-  component-apart = first-differs (c .component) (c .element ∷ c .terminator ∷ optional) services-differ .0
-
-  others-differ : allDiffer (c .element ∷ c .terminator ∷ optional) ≡ true
-  others-differ = first-differs (c .component) (c .element ∷ c .terminator ∷ optional) services-differ .1
-
-  element-apart : member (c .element) (c .terminator ∷ optional) ≡ false
-  element-apart = first-differs (c .element) (c .terminator ∷ optional) others-differ .0
-
-  terminator-apart : member (c .terminator) optional ≡ false
-  terminator-apart =
-      first-differs (c .terminator) optional (first-differs (c .element) (c .terminator ∷ optional) others-differ .1) .0
-
-  -- what is not among the optional is not the release character
-  not-release : (x : ℕ) → released c ≡ true → member x optional ≡ false → eqb (c .release) x ≡ false
-  not-release x r h =
-      swapped x (c .release)
-      (none-of x (c .release) [] (sym (ap (λ (t : Bool). member x (if t then c .release ∷ [] else [])) r) ∙ h) .0)
+  abbrev optional : List ℕ
+  optional = if released c then c .release ∷ [] else []
 
   pub role-terminator : role c (c .terminator) ≡ Separator 0
   unfolding role
@@ -123,17 +103,20 @@ module _ (c : Characters) (u : usable c ≡ true) where
   pub role-element : role c (c .element) ≡ Separator 1
   unfolding role
   role-element =
-      rw (none-of (c .element) (c .terminator) optional element-apart .0, eq-eqb (c .element) (c .element) refl)
-
-  behind-element : member (c .component) (c .terminator ∷ optional) ≡ false
-  behind-element = none-of (c .component) (c .element) (c .terminator ∷ optional) component-apart .1
+      rw (
+        ne-eqb (c .element) (c .terminator)
+            (apart (c .mark ∷ c .component ∷ []) (c .element) [] (c .terminator) optional (differing (released c) refl)),
+        eq-eqb (c .element) (c .element) refl,
+      )
 
   pub role-component : role c (c .component) ≡ Separator 2
   unfolding role
   role-component =
       rw (
-        none-of (c .component) (c .terminator) optional behind-element .0,
-        none-of (c .component) (c .element) (c .terminator ∷ optional) component-apart .0,
+        ne-eqb (c .component) (c .terminator)
+            (apart (c .mark ∷ []) (c .component) (c .element ∷ []) (c .terminator) optional (differing (released c) refl)),
+        ne-eqb (c .component) (c .element)
+            (apart (c .mark ∷ []) (c .component) [] (c .element) (c .terminator ∷ optional) (differing (released c) refl)),
         eq-eqb (c .component) (c .component) refl,
       )
 
@@ -141,9 +124,12 @@ module _ (c : Characters) (u : usable c ≡ true) where
   unfolding role
   role-release r =
       rw (
-        not-release (c .terminator) r terminator-apart,
-        not-release (c .element) r (none-of (c .element) (c .terminator) optional element-apart .1),
-        not-release (c .component) r (none-of (c .component) (c .terminator) optional behind-element .1),
+        ne-eqb (c .release) (c .terminator)
+            (λ e. apart (c .mark ∷ c .component ∷ c .element ∷ []) (c .terminator) [] (c .release) [] (differing true r) (sym e)),
+        ne-eqb (c .release) (c .element)
+            (λ e. apart (c .mark ∷ c .component ∷ []) (c .element) (c .terminator ∷ []) (c .release) [] (differing true r) (sym e)),
+        ne-eqb (c .release) (c .component)
+            (λ e. apart (c .mark ∷ []) (c .component) (c .element ∷ c .terminator ∷ []) (c .release) [] (differing true r) (sym e)),
         r,
         eq-eqb (c .release) (c .release) refl,
       )
