@@ -31,12 +31,12 @@ enum-known-next c = search needs
 
 loop-less : tie.Need-loop-less Inv-loop μ-loop
 loop-less c =
-    let l = lexes-as (c .before .before .before .before .before .before .before .args .c) (c .before .before .before .before .before .before .before .args .s .now) (c .before .before .before .before .before .loop .at) (c .before .before .before .lex .ensures) (c .before .next .given .1) in
+    let l = lexes-as _ _ _ (c .before .before .before .lex .ensures) (c .before .next .given .1) in
     omega arith
 
 loop-again : tie.Need-loop-again Inv-loop μ-loop
 loop-again c =
-    let l = lexes-as (c .before .before .before .before .before .before .before .args .c) (c .before .before .before .before .before .before .before .args .s .now) (c .before .before .before .before .before .loop .at) (c .before .before .before .lex .ensures) (c .before .next .given .1) in
+    let l = lexes-as _ _ _ (c .before .before .before .lex .ensures) (c .before .next .given .1) in
     (c .before .before .before .before .before .loop .inv .0 ∙ element-byte _ _ _ _ (search needs) l, λ h. omega arith)
 
 enum-known-kind : tie.Need-enum-known-kind Inv-loop μ-loop
@@ -44,7 +44,7 @@ enum-known-kind c = search needs
 
 returns : tie.Need-returns Inv-loop μ-loop
 returns c =
-    let l = lexes-as (c .before .before .before .before .before .before .before .before .args .c) (c .before .before .before .before .before .before .before .before .args .s .now) (c .before .before .before .before .before .before .loop .at) (c .before .before .before .before .lex .ensures) (c .before .before .kind .given .1) in
+    let l = lexes-as _ _ _ (c .before .before .before .before .lex .ensures) (c .before .before .kind .given .1) in
     (at-end _ _ _ (le-refl _) ∙ sym (c .before .before .before .before .before .before .loop .inv .0 ∙ element-terminator _ _ _ _ (search needs) l (c .if1 .taken)), λ h. omega arith)
 
 sub-left : tie.Need-sub-left Inv-loop μ-loop
@@ -52,22 +52,22 @@ sub-left c = search needs
 
 loop-less-2 : tie.Need-loop-less-2 Inv-loop μ-loop
 loop-less-2 c =
-    let l = lexes-as (c .before .before .before .before .before .before .before .before .before .args .c) (c .before .before .before .before .before .before .before .before .before .args .s .now) (c .before .before .before .before .before .before .before .loop .at) (c .before .before .before .before .before .lex .ensures) (c .before .before .before .kind .given .1) in
+    let l = lexes-as _ _ _ (c .before .before .before .before .before .lex .ensures) (c .before .before .before .kind .given .1) in
     omega arith
 
 loop-again-2 : tie.Need-loop-again-2 Inv-loop μ-loop
 loop-again-2 c =
-    let l = lexes-as (c .before .before .before .before .before .before .before .before .before .args .c) (c .before .before .before .before .before .before .before .before .before .args .s .now) (c .before .before .before .before .before .before .before .loop .at) (c .before .before .before .before .before .lex .ensures) (c .before .before .before .kind .given .1) in
+    let l = lexes-as _ _ _ (c .before .before .before .before .before .lex .ensures) (c .before .before .before .kind .given .1) in
     (c .before .before .before .before .before .before .before .loop .inv .0 ∙ element-separator _ _ _ _ (search needs) l (c .if2 .taken), λ h. omega arith)
 
 loop-less-3 : tie.Need-loop-less-3 Inv-loop μ-loop
 loop-less-3 c =
-    let l = lexes-as (c .before .before .before .before .before .before .before .before .before .args .c) (c .before .before .before .before .before .before .before .before .before .args .s .now) (c .before .before .before .before .before .before .before .loop .at) (c .before .before .before .before .before .lex .ensures) (c .before .before .before .kind .given .1) in
+    let l = lexes-as _ _ _ (c .before .before .before .before .before .lex .ensures) (c .before .before .before .kind .given .1) in
     omega arith
 
 loop-again-3 : tie.Need-loop-again-3 Inv-loop μ-loop
 loop-again-3 c =
-    let l = lexes-as (c .before .before .before .before .before .before .before .before .before .args .c) (c .before .before .before .before .before .before .before .before .before .args .s .now) (c .before .before .before .before .before .before .before .loop .at) (c .before .before .before .before .before .lex .ensures) (c .before .before .before .kind .given .1) in
+    let l = lexes-as _ _ _ (c .before .before .before .before .before .lex .ensures) (c .before .before .before .kind .given .1) in
     (c .before .before .before .before .before .before .before .loop .inv .0 ∙ element-component _ _ _ _ (search needs) l (omega arith), λ h. omega arith)
 
 enum-known-next-2 : tie.Need-enum-known-next-2 Inv-loop μ-loop
@@ -75,12 +75,12 @@ enum-known-next-2 c = search needs
 
 loop-less-4 : tie.Need-loop-less-4 Inv-loop μ-loop
 loop-less-4 c =
-    let l = lexes-as (c .before .before .before .before .before .before .before .args .c) (c .before .before .before .before .before .before .before .args .s .now) (c .before .before .before .before .before .loop .at) (c .before .before .before .lex .ensures) (c .before .next2 .given .1) in
+    let l = lexes-as _ _ _ (c .before .before .before .lex .ensures) (c .before .next2 .given .1) in
     omega arith
 
 loop-again-4 : tie.Need-loop-again-4 Inv-loop μ-loop
 loop-again-4 c =
-    let l = lexes-as (c .before .before .before .before .before .before .before .args .c) (c .before .before .before .before .before .before .before .args .s .now) (c .before .before .before .before .before .loop .at) (c .before .before .before .lex .ensures) (c .before .next2 .given .1) in
+    let l = lexes-as _ _ _ (c .before .before .before .lex .ensures) (c .before .next2 .given .1) in
     (c .before .before .before .before .before .loop .inv .0 ∙ element-stray _ _ _ _ (search needs) l, λ h. omega arith)
 
 enum-told : tie.Need-enum-told Inv-loop μ-loop
@@ -88,7 +88,7 @@ enum-told c = search needs
 
 returns-2 : tie.Need-returns-2 Inv-loop μ-loop
 returns-2 c =
-    let l = lexes-as (c .before .before .before .before .before .before .args .c) (c .before .before .before .before .before .before .args .s .now) (c .before .before .before .before .loop .at) (c .before .before .lex .ensures) (c .enum-told .given .1) in
+    let l = lexes-as _ _ _ (c .before .before .lex .ensures) (c .enum-told .given .1) in
     (at-end _ _ _ (le-refl _) ∙ sym (c .before .before .before .before .loop .inv .0 ∙ element-end _ _ _ _ (search needs) l), λ h. omega arith)
 
 returns-3 : tie.Need-returns-3 Inv-loop μ-loop
