@@ -1,2 +1,3 @@
 pub mod Trail
 pub mod Walk
+pub mod Passing

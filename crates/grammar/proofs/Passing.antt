@@ -1,0 +1,174 @@
+-- What it means that a segment passes the tests of refusals 9 to 12: its kind is allowed where it stands, and it says what a
+-- segment of its kind has to say. What passed is a list of segments, the nearest first. Assumes nothing.
+use Prim.Native.Nat.{ℕ}
+use mathlib.Core.Path.{_≡_, refl, sym, ap, _∙_}
+use mathlib.Core.Logic.{_↔_}
+use mathlib.Core.Bool.{Bool, true, false, not, _&&_, _||_, false≢true}
+use mathlib.Core.List.{List, [], _∷_, _++_, map, cons-ne-nil}
+use mathlib.Core.Option.{Option, none, some}
+use lib.Dec.{eqb}
+use borrow.Author.Tests.{eqb-true, eq-eqb, not-false}
+use Rattle.lists.specs.Lists.{if_then_else_, same, first, maybe}
+use Rattle.lists.proofs.Texts.{and-left, and-right, and-both, same-eq, same-refl}
+use Rattle.refusals.specs.Refusals.{placeIf}
+use Rattle.reading.specs.Tokens.{Segment, start}
+use Rattle.segments.specs.declared.Kind.{Kind}
+use Rattle.segments.specs.declared.Kind.the-variants.{Unb, Ung, Unh, Uns, Unt, Une, Unz, User}
+use Rattle.segments.specs.Kinds.{index, is}
+use Rattle.segments.specs.Tags.{kindOf}
+use Rattle.segments.specs.Order.{segmentsSinceHeader, messagesSinceGroup, messagesIn, groupsIn, allowed}
+use Rattle.control.specs.Positions.{positionTable, positionsOf}
+use Rattle.control.specs.Control.{controlElement, isReference, isCount, standsWell, controlRule, headerOf, referenceOf, sameValue, referenceDiffers, decimal, trueCount, countOf, countWrong}
+use Rattle.verdict.specs.Places.{startsWhere}
+use Rattle.grammar.specs.Grammar.{contentCount}
+use Rattle.grammar.proofs.Trail.{_▸_, Each, none-yet, passed, each-last, each-before, each-map, each-both}
+
+-- ---- what a segment says
+
+-- the reference of the nearest segment of a kind
+abbrev pub nearestReference : Kind → List Segment → Option (List ℕ)
+nearestReference kind past = maybe none referenceOf (first (λ g. is kind (kindOf g)) past)
+
+-- a trailer's reference is that of the nearest header of its sort, and its count is the number
+pub record Closes (header : Kind) (number : ℕ) (past : List Segment) (reference count : Option (List ℕ)) : Type 0 where
+  pub referenced : isReference reference ≡ true
+  pub same-reference : reference ≡ nearestReference header past
+  pub counted : isCount count ≡ true
+  pub right-count : maybe 0 decimal count ≡ number
+
+abbrev pub Says : Kind → List Segment → (reference count : Option (List ℕ)) → Type 0
+Says Unb past reference count = isReference reference ≡ true
+Says Ung past reference count = isReference reference ≡ true
+Says Unh past reference count = isReference reference ≡ true
+Says Uns past reference count = Unit {0}
+Says Unt past reference count = Closes Unh (segmentsSinceHeader (Unt ∷ map kindOf past)) past reference count
+Says Une past reference count = Closes Ung (messagesSinceGroup (map kindOf past)) past reference count
+Says Unz past reference count = Closes Unb (contentCount (map kindOf past)) past reference count
+Says User past reference count = Unit {0}
+
+-- it is allowed where it stands, and says what it has to say
+pub record Passes (past : List Segment) (g : Segment) : Type 0 where
+  pub place : allowed (map kindOf past) (kindOf g) ≡ true
+  pub says : Says (kindOf g) past (referenceOf g) (countOf g)
+
+same-value : (v w : Option (List ℕ)) → sameValue v w ≡ true → v ≡ w
+unfolding sameValue
+same-value none none h = refl
+same-value none (some w) h = absurd (false≢true h)
+same-value (some v) none h = absurd (false≢true h)
+same-value (some v) (some w) h = ap some (same-eq v w h)
+
+same-value-refl : (v : Option (List ℕ)) → sameValue v v ≡ true
+unfolding sameValue
+same-value-refl none = refl
+same-value-refl (some v) = same-refl v
+
+-- the three tests of a trailer
+module _ {header : Kind} {number : ℕ} {past : List Segment} {reference count : Option (List ℕ)} where
+  closes-from : (isCount count && isReference reference) ≡ true → not (sameValue reference (nearestReference header past)) ≡ false
+      → not (eqb (maybe 0 decimal count) number) ≡ false → Closes header number past reference count
+  closes-from a b c =
+      record {
+        referenced = and-right (isCount count) (isReference reference) a;
+        same-reference = same-value reference (nearestReference header past) (not-false (sameValue reference (nearestReference header past)) b);
+        counted = and-left (isCount count) (isReference reference) a;
+        right-count = eqb-true (maybe 0 decimal count) number (not-false (eqb (maybe 0 decimal count) number) c);
+      }
+
+  closes-test : Closes header number past reference count
+      → ((isCount count && isReference reference) ≡ true)
+      × (not (sameValue reference (nearestReference header past)) ≡ false)
+      × (not (eqb (maybe 0 decimal count) number) ≡ false)
+  closes-test h = (
+    and-both (isCount count) (isReference reference) (h .counted) (h .referenced),
+    ap not (ap (sameValue reference) (sym (h .same-reference)) ∙ same-value-refl reference),
+    ap not (eq-eqb (maybe 0 decimal count) number (h .right-count)),
+  )
+
+module _ (past : List Segment) (g : Segment) where
+  -- the tests of refusals 10, 11 and 12, by the segment's kind
+  abbrev ruleOf : Kind → Bool
+  ruleOf kind =
+      standsWell (positionsOf kind .count) isCount g && standsWell (positionsOf kind .reference) isReference g
+
+  abbrev differs : Kind → Bool
+  differs kind =
+      maybe false
+      (λ header. not (sameValue (controlElement g (positionsOf kind .reference)) (nearestReference header past)))
+      (headerOf kind)
+
+  abbrev wrong : Kind → Bool
+  wrong kind =
+      maybe false (λ count. not (eqb (maybe 0 decimal (controlElement g (positionsOf kind .count))) count))
+      (trueCount kind (map kindOf past))
+
+  abbrev SaysAs : Kind → Type 0
+  SaysAs kind = Says kind past (controlElement g (positionsOf kind .reference)) (controlElement g (positionsOf kind .count))
+
+  says-from : (kind : Kind) → ruleOf kind ≡ true → differs kind ≡ false → wrong kind ≡ false → SaysAs kind
+  unfolding standsWell positionsOf positionTable headerOf trueCount maybe
+  says-from Unb a b c = a
+  says-from Ung a b c = a
+  says-from Unh a b c = a
+  says-from Uns a b c = tt
+  says-from Unt a b c = closes-from a b c
+  says-from Une a b c = closes-from a b c
+  says-from Unz a b c = closes-from a b c
+  says-from User a b c = tt
+
+  says-test : (kind : Kind) → SaysAs kind → (ruleOf kind ≡ true) × (differs kind ≡ false) × (wrong kind ≡ false)
+  unfolding standsWell positionsOf positionTable headerOf trueCount maybe
+  says-test Unb h = (h, refl, refl)
+  says-test Ung h = (h, refl, refl)
+  says-test Unh h = (h, refl, refl)
+  says-test Uns h = (refl, refl, refl)
+  says-test Unt h = closes-test h
+  says-test Une h = closes-test h
+  says-test Unz h = closes-test h
+  says-test User h = (refl, refl, refl)
+
+  -- a segment passes exactly when none of the four tests fails
+  pub passes-from : (not (allowed (map kindOf past) (kindOf g)) ≡ false) × (not (controlRule g) ≡ false)
+      → (referenceDiffers past g ≡ false) × (countWrong past g ≡ false) → Passes past g
+  unfolding controlRule referenceDiffers countWrong referenceOf countOf
+  passes-from h k =
+      record {
+        place = not-false (allowed (map kindOf past) (kindOf g)) (h .0);
+        says = says-from (kindOf g) (not-false (ruleOf (kindOf g)) (h .1)) (k .0) (k .1);
+      }
+
+  pub passes-test : Passes past g
+      → (not (allowed (map kindOf past) (kindOf g)) ≡ false)
+      × (not (controlRule g) ≡ false)
+      × (referenceDiffers past g ≡ false)
+      × (countWrong past g ≡ false)
+  unfolding controlRule referenceDiffers countWrong referenceOf countOf
+  passes-test h =
+      let says = says-test (kindOf g) (h .says) in
+      (ap not (h .place), ap not (says .0), says .1, says .2)
+
+-- ---- no segment fails a test
+
+module _ (fails : List Segment → Segment → Bool) where
+  abbrev Clear : List Segment → Segment → Type 0
+  Clear past g = fails past g ≡ false
+
+  no-place : (b : Bool) (place : ℕ) (rest : List ℕ) → placeIf b place ++ rest ≡ [] → (b ≡ false) × (rest ≡ [])
+  unfolding placeIf
+  no-place true place rest h = absurd (cons-ne-nil place rest h)
+  no-place false place rest h = (refl, h)
+
+  -- where there is no place of failure, each one passes
+  pub each-clear : (past gs : List Segment) → startsWhere fails past gs ≡ [] → Each Clear past → Each Clear (past ▸ gs)
+  unfolding startsWhere
+  each-clear past [] h e = e
+  each-clear past (g ∷ gs) h e =
+      let none = no-place (fails past g) (start g) (startsWhere fails (g ∷ past) gs) h in
+      each-clear (g ∷ past) gs (none .1) (passed (none .0) e)
+
+  pub clear-each : (past gs : List Segment) → Each Clear (past ▸ gs) → startsWhere fails past gs ≡ []
+  unfolding startsWhere placeIf
+  clear-each past [] e = refl
+  clear-each past (g ∷ gs) e =
+      ap (λ (b : Bool). placeIf b (start g) ++ startsWhere fails (g ∷ past) gs) (each-last (each-before (g ∷ past) gs e))
+      ∙ clear-each (g ∷ past) gs e
