@@ -1,3 +1,4 @@
 pub mod Trail
 pub mod Walk
 pub mod Passing
+pub mod Frames

@@ -64,6 +64,18 @@ module _ {A : Type 0} (t : A → Bool) where
       step true = omega arith
       step false = refl
 
+  pub number-append : (xs ys : List A) → length (those t (xs ++ ys)) ≡ length (those t xs) + length (those t ys)
+  unfolding those
+  number-append [] ys = omega arith
+  number-append (x ∷ xs) ys = step (t x) (number-append xs ys)
+    where
+      step : (b : Bool)
+          → length (those t (xs ++ ys)) ≡ length (those t xs) + length (those t ys)
+          → length (if b then x ∷ those t (xs ++ ys) else those t (xs ++ ys))
+          ≡ length (if b then x ∷ those t xs else those t xs) + length (those t ys)
+      step true ih = omega arith
+      step false ih = ih
+
   pub number-none : (xs : List A) → None t xs → length (those t xs) ≡ 0
   unfolding those
   number-none [] h = refl

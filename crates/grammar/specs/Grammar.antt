@@ -32,7 +32,7 @@ pub record Frame (header trailer : Kind) (Middle : List Segment → Type 0) (cou
 -- one or more pieces of a sort, end to end
 pub data OneOrMore (Piece : List Segment → Type 0) : List Segment → Type 0 where
   one : {piece : List Segment} → Piece piece → OneOrMore Piece piece
-  then : {before piece : List Segment} → OneOrMore Piece before → Piece piece → OneOrMore Piece (before ++ piece)
+  more : {before piece : List Segment} → OneOrMore Piece before → Piece piece → OneOrMore Piece (before ++ piece)
 
 -- "any number of user segments and UNS"
 abbrev pub Inner : List Segment → Type 0
