@@ -18,11 +18,11 @@ use Rattle.segments.specs.declared.Kind.the-variants.{Unb, Ung, Unh, Uns, Unt, 
 use Rattle.segments.specs.Kinds.{index, is}
 use Rattle.segments.specs.Tags.{kindOf}
 use Rattle.segments.specs.Order.{segmentsIn, messagesIn, groupsIn, segmentsSinceHeader, messagesSinceGroup}
-use Rattle.control.specs.Control.{referenceOf}
+use Rattle.control.specs.Control.{isReference, referenceOf, countOf}
 use Rattle.grammar.specs.Grammar.{Frame, OneOrMore, one, more, Inner, Message, Group, Content, contentCount}
 use Rattle.grammar.proofs.Trail.{_▸_, ▸-map, first-▸, through-▸, number-▸, number-append, number-none}
 use Rattle.grammar.proofs.Walk.{is-eq}
-use Rattle.grammar.proofs.Passing.{nearestReference}
+use Rattle.grammar.proofs.Passing.{nearestReference, Closes}
 
 abbrev pub kinds : List Segment → List Kind
 kinds gs = map kindOf gs
@@ -201,3 +201,35 @@ module _ (head : Segment) (middle : List Segment) (opening : kindOf head ≡ Unb
 
   pub interchange-count : contentCount (kinds (head ∷ [] ▸ middle)) ≡ contentCount (kinds middle)
   interchange-count = λ i. if eqb (all-groups i) 0 then all-messages i else all-groups i
+
+-- ---- a frame is an open header, its middle and a trailer that closes it
+
+module _ {header trailer : Kind} {Middle : List Segment → Type 0} {count : List Segment → ℕ} {number : ℕ} (outer : List Segment) where
+  pub framed : (head : Segment) (middle : List Segment) (tail : Segment)
+      → kindOf head ≡ header → isReference (referenceOf head) ≡ true → Middle middle → Lacks header middle → number ≡ count middle
+      → kindOf tail ≡ trailer → Closes header number (head ∷ outer ▸ middle) (referenceOf tail) (countOf tail)
+      → Frame header trailer Middle count (head ∷ (middle ++ tail ∷ []))
+  framed head middle tail opening reference inside lacks right closing says =
+      record {
+        head = head;
+        middle = middle;
+        tail = tail;
+        shape = refl;
+        opening = opening;
+        closing = closing;
+        inside = inside;
+        reference = reference;
+        same-reference = says .same-reference ∙ nearest-own head outer middle opening lacks;
+        counted = says .counted;
+        right-count = says .right-count ∙ right;
+      }
+
+  pub closes : {gs : List Segment} (f : Frame header trailer Middle count gs) → Lacks header (f .middle) → number ≡ count (f .middle)
+      → Closes header number (f .head ∷ outer ▸ f .middle) (referenceOf (f .tail)) (countOf (f .tail))
+  closes f lacks right =
+      record {
+        referenced = ap isReference (f .same-reference) ∙ f .reference;
+        same-reference = f .same-reference ∙ sym (nearest-own (f .head) outer (f .middle) (f .opening) lacks);
+        counted = f .counted;
+        right-count = f .right-count ∙ sym right;
+      }

@@ -2,3 +2,4 @@ pub mod Trail
 pub mod Walk
 pub mod Passing
 pub mod Frames
+pub mod Begun

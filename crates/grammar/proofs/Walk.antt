@@ -18,7 +18,7 @@ use Rattle.segments.specs.declared.Standing.{Standing}
 use Rattle.segments.specs.declared.Standing.the-variants.{BeforeInterchange, BetweenGroups, InGroup, InGroupMessage, InMessage, BehindInterchange}
 use Rattle.segments.specs.declared.Walk.{Walk}
 use Rattle.segments.specs.Kinds.{index, is}
-use Rattle.segments.specs.Order.{segmentsIn, messagesIn, groupsIn, segmentsSinceHeader, messagesSinceGroup, isOpen, standing, insideMessage, allowedAt, allowed, walkOver}
+use Rattle.segments.specs.Order.{segmentsIn, messagesIn, groupsIn, segmentsSinceHeader, messagesSinceGroup, isOpen, standing, insideMessage, allowedAt, allowed, isComplete, walkOver}
 use Rattle.grammar.proofs.Trail.{Each, none-yet, passed}
 
 -- ---- kinds
@@ -233,6 +233,16 @@ unfolding allowed
 standing-next {past} kind o h =
     stands-standing (next (standing past) kind) (kind ∷ past)
     (stands-next (allowed-from past (standing past) kind h) (stands o))
+
+-- what passed is complete where the check stands behind the interchange
+pub complete-standing : (past : List Kind) → isComplete past ≡ true → standing past ≡ BehindInterchange
+unfolding isComplete standing standingOf
+complete-standing past h =
+    ap (λ (b : Bool). standingOf b (isOpen Unh Unt past) (isOpen Ung Une past) (isOpen Unb Unz past)) h
+
+pub standing-complete : {past : List Kind} → Orderly past → standing past ≡ BehindInterchange → isComplete past ≡ true
+unfolding isComplete
+standing-complete {past} o e = subst (λ (s : Standing). Stands s past) e (stands o) .0
 
 -- ---- what the walk counts
 
