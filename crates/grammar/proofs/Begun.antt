@@ -103,10 +103,10 @@ groups-only : {past : List Segment} → (0 < groupsIn (kinds past)) ⊎ (message
     → Opened Unb Nothing (Perhaps Content) past → Opened Unb Nothing (Run Group) past
 groups-only h (opened head e r nothing empty) = opened head e r nothing empty
 groups-only h (opened head e r nothing (full (inl m))) = opened head e r nothing (full m)
-groups-only h (opened head {middle} e r nothing (full (inr m))) = 
+groups-only h (opened head {middle} e r nothing (full (inr m))) =
     absurd
     (⊎-elim (λ a. omega (arith, all-groups head middle e, no-groups middle m))
-      (λ a. omega (arith, all-messages head middle e, some-messages middle m)) h)
+    (λ a. omega (arith, all-messages head middle e, some-messages middle m)) h)
 
 messages-only : {past : List Segment} → groupsIn (kinds past) ≡ 0
     → Opened Unb Nothing (Perhaps Content) past → Opened Unb Nothing (Run Message) past

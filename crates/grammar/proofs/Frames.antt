@@ -58,8 +58,8 @@ module _ (kind : Kind) where
   lacks-frame {header} {trailer} h k lacks f =
       subst (Lacks kind) (sym (f .shape))
       (lacks-append kind (f .head ∷ []) (f .middle ++ f .tail ∷ []) (lacks-one kind header (f .head) h (f .opening))
-        (lacks-append kind (f .middle) (f .tail ∷ []) (lacks (f .middle) (f .inside))
-          (lacks-one kind trailer (f .tail) k (f .closing))))
+      (lacks-append kind (f .middle) (f .tail ∷ []) (lacks (f .middle) (f .inside))
+      (lacks-one kind trailer (f .tail) k (f .closing))))
 
   lacks-pieces : {Piece : List Segment → Type 0} {gs : List Segment}
       → ((piece : List Segment) → Piece piece → Lacks kind piece) → OneOrMore Piece gs → Lacks kind gs
@@ -72,7 +72,7 @@ module _ (kind : Kind) where
   lacks-inner h k (g ∷ gs) i =
       lacks-append kind (g ∷ []) gs
       (⊎-elim (λ a. lacks-one kind User g h (is-eq User (kindOf g) a)) (λ a. lacks-one kind Uns g k (is-eq Uns (kindOf g) a))
-        (or-cases (is User (kindOf g)) (is Uns (kindOf g)) (and-left inner rest i)))
+      (or-cases (is User (kindOf g)) (is Uns (kindOf g)) (and-left inner rest i)))
       (lacks-inner h k gs (and-right inner rest i))
     where
       inner : Bool
@@ -166,7 +166,7 @@ module _ {header : Kind} (head : Segment) (outer middle : List Segment) (opening
   nearest-own =
       ap (maybe none referenceOf)
       (first-▸ (λ g. is header (kindOf g)) (head ∷ outer) middle lacks
-        ∙ if-true (is header (kindOf head)) (some head) (first (λ g. is header (kindOf g)) outer) own)
+      ∙ if-true (is header (kindOf head)) (some head) (first (λ g. is header (kindOf g)) outer) own)
 
   -- since it, only the middle has passed
   pub through-own : through (is header) (kinds (head ∷ outer ▸ middle)) ≡ header ∷ [] ▸ kinds middle

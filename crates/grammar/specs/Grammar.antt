@@ -2,8 +2,8 @@
 use Prim.Native.Nat.{ℕ, _+_}
 use mathlib.Core.Path.{_≡_}
 use mathlib.Core.Logic.{_⊎_}
-use mathlib.Core.Bool.{Bool, true, _||_}
-use mathlib.Core.List.{List, [], _∷_, _++_, map}
+use mathlib.Core.Bool.{Bool, true, not, _||_}
+use mathlib.Core.List.{List, [], _∷_, _++_, map, reverse}
 use lib.ListN.{length}
 use lib.Dec.{eqb}
 use Rattle.lists.specs.Lists.{if_then_else_, all, maybe}
@@ -12,8 +12,9 @@ use Rattle.segments.specs.declared.Kind.{Kind}
 use Rattle.segments.specs.declared.Kind.the-variants.{Unb, Ung, Unh, Uns, Unt, Une, Unz, User}
 use Rattle.segments.specs.Kinds.{is}
 use Rattle.segments.specs.Tags.{kindOf}
-use Rattle.segments.specs.Order.{messagesIn, groupsIn}
-use Rattle.control.specs.Control.{isReference, isCount, referenceOf, countOf, decimal}
+use Rattle.segments.specs.Order.{messagesIn, groupsIn, allowed, isComplete}
+use Rattle.control.specs.Control.{isReference, isCount, referenceOf, countOf, decimal, controlRule, referenceDiffers, countWrong}
+use Rattle.verdict.specs.Places.{startsWhere}
 
 -- A header, a middle and a trailer. The trailer's reference is its header's, and its count is that of the middle.
 pub record Frame (header trailer : Kind) (Middle : List Segment → Type 0) (count : List Segment → ℕ) (gs : List Segment) : Type 0 where
@@ -58,3 +59,22 @@ contentCount kinds = if eqb (groupsIn kinds) 0 then messagesIn kinds else groups
 -- "UNB; then one or more groups, or one or more messages, not both; then UNZ and nothing more."
 abbrev pub Interchange : List Segment → Type 0
 Interchange = Frame Unb Unz Content (λ middle. contentCount (map kindOf middle))
+
+-- ---- the tests that this grammar is held to
+
+-- refusal 9: "segment not allowed there"
+abbrev pub misplaced : List Segment → Segment → Bool
+misplaced past g = not (allowed (map kindOf past) (kindOf g))
+
+-- refusal 10: "control element of a service segment not as above"
+abbrev pub badControl : List Segment → Segment → Bool
+badControl past g = not (controlRule g)
+
+-- no segment meets one of the refusals 9 to 12, and the end is not before UNZ
+abbrev pub Passing : List Segment → Type 0
+Passing gs =
+    (startsWhere misplaced [] gs ≡ [])
+    × (isComplete (reverse (map kindOf gs)) ≡ true)
+    × (startsWhere badControl [] gs ≡ [])
+    × (startsWhere referenceDiffers [] gs ≡ [])
+    × (startsWhere countWrong [] gs ≡ [])

@@ -1,0 +1,50 @@
+-- The theorem of this crate: none of the refusals 9 to 12 is met exactly where the segments are an interchange. Assumes nothing.
+use Prim.Native.Nat.{ℕ}
+use mathlib.Core.Path.{_≡_, refl, sym, ap, _∙_, subst}
+use mathlib.Core.Logic.{_↔_}
+use mathlib.Core.Bool.{Bool, true, false, not}
+use mathlib.Core.List.{List, [], _∷_, _++_, map, cons-ne-nil}
+use lib.ListN.{length}
+use borrow.Author.Tests.{not-false}
+use Rattle.refusals.specs.Refusals.{placeIf}
+use Rattle.reading.specs.Tokens.{Segment}
+use Rattle.segments.specs.declared.Kind.{Kind}
+use Rattle.segments.specs.Tags.{kindOf}
+use Rattle.segments.specs.Order.{allowed, isComplete}
+use Rattle.control.specs.Control.{controlRule, referenceDiffers, countWrong}
+use Rattle.verdict.specs.Contents.{segmentsOf, kindsOf}
+use Rattle.verdict.specs.Places.{startsWhere, misplacedSegments, badControls, differingReferences, wrongCounts}
+use Rattle.grammar.specs.Grammar.{Interchange, misplaced, badControl, Passing}
+use Rattle.grammar.proofs.Trail.{_▸_, ▸-map, Each, none-yet, each-map, each-both}
+use Rattle.grammar.proofs.Walk.{standing-complete}
+use Rattle.grammar.proofs.Passing.{Passes, passes-from, passes-test, each-clear, clear-each}
+use Rattle.grammar.proofs.Frames.{kinds}
+use Rattle.grammar.proofs.Begun.{orderly, whole}
+use Rattle.grammar.proofs.Gone.{interchange}
+
+module _ (gs : List Segment) where
+  passing-whole : Passing gs → Interchange gs
+  passing-whole h =
+      whole gs
+      (each-map (λ past g passes. passes-from past g (passes .0) (passes .1))
+      (each-both (each-both (clear misplaced (h .0)) (clear badControl (h .2)))
+      (each-both (clear referenceDiffers (h .3)) (clear countWrong (h .4)))))
+      (ap isComplete (▸-map kindOf [] gs) ∙ h .1)
+    where
+      clear : (fails : List Segment → Segment → Bool) → startsWhere fails [] gs ≡ []
+          → Each (λ past g. fails past g ≡ false) ([] ▸ gs)
+      clear fails none = each-clear fails [] gs none none-yet
+
+  whole-passing : Interchange gs → Passing gs
+  whole-passing f =
+      let gone = interchange gs f in (
+        clear-each misplaced [] gs (each-map (λ past g h. passes-test past g h .0) (gone .0)),
+        ap isComplete (sym (▸-map kindOf [] gs)) ∙ standing-complete (orderly (gone .0)) (gone .1),
+        clear-each badControl [] gs (each-map (λ past g h. passes-test past g h .1) (gone .0)),
+        clear-each referenceDiffers [] gs (each-map (λ past g h. passes-test past g h .2) (gone .0)),
+        clear-each countWrong [] gs (each-map (λ past g h. passes-test past g h .3) (gone .0)),
+      )
+
+  -- the tests pass exactly for an interchange
+  pub passing-interchange : Passing gs ↔ Interchange gs
+  passing-interchange = (passing-whole, whole-passing)
