@@ -1,215 +1,214 @@
--- Laws of the grammar's pieces: what kinds are in them, how many, and what stands behind an open header. Assumes nothing.
-use Prim.Native.Nat.{ℕ, zero, suc, _+_, _≤_, _<_}
+-- Laws of the grammar's pieces: how many segments of a kind are in them, and what is seen from behind an open header.
+-- What passed is a list of segments, the nearest first. Assumes nothing.
+use Prim.Native.Nat.{ℕ, suc, _+_, _<_}
 use native.Mathlib.Omega.{arith}
-use mathlib.Core.Path.{_≡_, refl, sym, ap, _∙_, subst}
+use mathlib.Core.Path.{_≡_, refl, sym, ap, _∙_}
 use mathlib.Core.Logic.{_⊎_, inl, inr, ⊎-elim}
-use mathlib.Core.Bool.{Bool, true, false, not, _&&_, _||_}
-use mathlib.Core.List.{List, [], _∷_, _++_, map, map-append}
-use mathlib.Core.Option.{Option, none, some}
+use mathlib.Core.Bool.{Bool, true, false, _&&_, _||_}
+use mathlib.Core.List.{List, [], _∷_, _++_, map}
+use mathlib.Core.Option.{none, some}
 use lib.ListN.{length, length-map, length-reverseAux}
 use lib.Dec.{eqb}
 use borrow.Author.Tests.{eq-eqb}
 use Rattle.lists.specs.Lists.{if_then_else_, all, those, through, first, maybe}
-use Rattle.lists.proofs.Texts.{and-left, and-right, and-both, or-cases, if-true, all-append}
-use Rattle.lists.proofs.Pieces.{None}
+use Rattle.lists.proofs.Texts.{and-left, and-right, or-cases, if-true, if-false}
 use Rattle.reading.specs.Tokens.{Segment}
 use Rattle.segments.specs.declared.Kind.{Kind}
-use Rattle.segments.specs.declared.Kind.the-variants.{Unb, Ung, Unh, Uns, Unt, Une, Unz, User}
+use Rattle.segments.specs.declared.Kind.the-variants.{Unb, Ung, Unh, Uns, Unt, User}
 use Rattle.segments.specs.Kinds.{index, is}
 use Rattle.segments.specs.Tags.{kindOf}
 use Rattle.segments.specs.Order.{segmentsIn, messagesIn, groupsIn, segmentsSinceHeader, messagesSinceGroup}
 use Rattle.control.specs.Control.{isReference, referenceOf, countOf}
-use Rattle.grammar.specs.Grammar.{Frame, OneOrMore, one, more, Inner, Message, Group, Content, contentCount}
-use Rattle.grammar.proofs.Trail.{_▸_, ▸-map, first-▸, through-▸, number-▸, number-append, number-none}
+use Rattle.grammar.specs.Grammar.{Frame, OneOrMore, one, more, Inner, isInner, Message, Group, Content, contentCount}
+use Rattle.grammar.proofs.Trail.{_▸_, ▸-append, ▸-map}
 use Rattle.grammar.proofs.Walk.{is-eq}
-use Rattle.grammar.proofs.Passing.{nearestReference, Closes}
+use Rattle.grammar.proofs.Passing.{kinds, nearestReference, Closes}
 
-abbrev pub kinds : List Segment → List Kind
-kinds gs = map kindOf gs
+-- ---- how many segments of a kind
 
--- ---- what is not in them
+-- whether a kind is this one, as a number
+abbrev alone : Kind → Kind → ℕ
+alone kind other = length (those (is kind) (other ∷ []))
 
--- no segment is of this kind
-abbrev pub Lacks : Kind → List Segment → Type 0
-Lacks kind gs = None (λ g. is kind (kindOf g)) gs
-
-lacks-kinds : (kind : Kind) (gs : List Segment) → Lacks kind gs → None (is kind) (kinds gs)
-unfolding all
-lacks-kinds kind [] h = refl
-lacks-kinds kind (g ∷ gs) h =
-    and-both (not (is kind (kindOf g))) (all (λ k. not (is kind k)) (kinds gs))
-    (and-left (not (is kind (kindOf g))) (all (λ s. not (is kind (kindOf s))) gs) h)
-    (lacks-kinds kind gs (and-right (not (is kind (kindOf g))) (all (λ s. not (is kind (kindOf s))) gs) h))
-
-lacks-append : (kind : Kind) (xs ys : List Segment) → Lacks kind xs → Lacks kind ys → Lacks kind (xs ++ ys)
-lacks-append kind xs ys h k = all-append t xs ys ∙ and-both (all t xs) (all t ys) h k
-  where
-    t : Segment → Bool
-    t g = not (is kind (kindOf g))
-
-lacks-one : (kind other : Kind) (g : Segment) → is kind other ≡ false → kindOf g ≡ other → Lacks kind (g ∷ [])
-unfolding all
-lacks-one kind other g h e = ap (λ (b : Bool). not b && true) (ap (is kind) e ∙ h)
-
-module _ (kind : Kind) where
-  lacks-frame : {header trailer : Kind} {Middle : List Segment → Type 0} {count : List Segment → ℕ} {gs : List Segment}
-      → is kind header ≡ false → is kind trailer ≡ false → ((middle : List Segment) → Middle middle → Lacks kind middle)
-      → Frame header trailer Middle count gs → Lacks kind gs
-  lacks-frame {header} {trailer} h k lacks f =
-      subst (Lacks kind) (sym (f .shape))
-      (lacks-append kind (f .head ∷ []) (f .middle ++ f .tail ∷ []) (lacks-one kind header (f .head) h (f .opening))
-      (lacks-append kind (f .middle) (f .tail ∷ []) (lacks (f .middle) (f .inside))
-      (lacks-one kind trailer (f .tail) k (f .closing))))
-
-  lacks-pieces : {Piece : List Segment → Type 0} {gs : List Segment}
-      → ((piece : List Segment) → Piece piece → Lacks kind piece) → OneOrMore Piece gs → Lacks kind gs
-  lacks-pieces lacks (one {piece} h) = lacks piece h
-  lacks-pieces lacks (more {before} {piece} hs h) = lacks-append kind before piece (lacks-pieces lacks hs) (lacks piece h)
-
-  lacks-inner : is kind User ≡ false → is kind Uns ≡ false → (gs : List Segment) → Inner gs → Lacks kind gs
-  unfolding all
-  lacks-inner h k [] i = refl
-  lacks-inner h k (g ∷ gs) i =
-      lacks-append kind (g ∷ []) gs
-      (⊎-elim (λ a. lacks-one kind User g h (is-eq User (kindOf g) a)) (λ a. lacks-one kind Uns g k (is-eq Uns (kindOf g) a))
-      (or-cases (is User (kindOf g)) (is Uns (kindOf g)) (and-left inner rest i)))
-      (lacks-inner h k gs (and-right inner rest i))
-    where
-      inner : Bool
-      inner = is User (kindOf g) || is Uns (kindOf g)
-
-      rest : Bool
-      rest = all (λ s. is User (kindOf s) || is Uns (kindOf s)) gs
-
-pub inner-lacks-header : (gs : List Segment) → Inner gs → Lacks Unh gs
-unfolding is
-inner-lacks-header = lacks-inner Unh refl refl
-
-pub messages-lack-groups : (gs : List Segment) → OneOrMore Message gs → Lacks Ung gs
-unfolding is
-messages-lack-groups gs = lacks-pieces Ung (λ piece. lacks-frame Ung refl refl (lacks-inner Ung refl refl))
-
-pub content-lacks-interchange : (gs : List Segment) → Content gs → Lacks Unb gs
-unfolding is
-content-lacks-interchange gs =
-    ⊎-elim (lacks-pieces Unb (λ piece. lacks-frame Unb refl refl (λ middle. messages))) messages
-  where
-    messages : {gs : List Segment} → OneOrMore Message gs → Lacks Unb gs
-    messages = lacks-pieces Unb (λ piece. lacks-frame Unb refl refl (lacks-inner Unb refl refl))
-
--- ---- how many are in them
-
--- the number of segments of a kind
-abbrev number : Kind → List Segment → ℕ
+abbrev pub number : Kind → List Segment → ℕ
 number kind gs = length (those (is kind) (kinds gs))
 
 module _ (kind : Kind) where
-  number-both : (xs ys : List Segment) → number kind (xs ++ ys) ≡ number kind xs + number kind ys
-  number-both xs ys = ap (λ (l : List Kind). length (those (is kind) l)) (map-append kindOf xs ys) ∙ number-append (is kind) (kinds xs) (kinds ys)
+  pub number-▸ : (past gs : List Segment) → number kind (past ▸ gs) ≡ number kind past + number kind gs
+  unfolding those
+  number-▸ past [] = omega arith
+  number-▸ past (g ∷ gs) = number-▸ (g ∷ past) gs ∙ step (is kind (kindOf g)) (those (is kind) (kinds past)) (those (is kind) (kinds gs))
+    where
+      step : (b : Bool) (xs ys : List Kind)
+          → length (if b then kindOf g ∷ xs else xs) + length ys ≡ length xs + length (if b then kindOf g ∷ ys else ys)
+      step true xs ys = omega arith
+      step false xs ys = refl
 
-  -- a frame has what its middle has
+  number-append : (xs ys : List Segment) → number kind (xs ++ ys) ≡ number kind xs + number kind ys
+  unfolding those
+  number-append xs ys =
+      omega (arith, number-▸ [] (xs ++ ys), ap (number kind) (▸-append [] xs ys), number-▸ ([] ▸ xs) ys, number-▸ [] xs)
+
   number-frame : {header trailer : Kind} {Middle : List Segment → Type 0} {count : List Segment → ℕ} {gs : List Segment}
-      → (f : Frame header trailer Middle count gs) → number kind gs ≡ number kind (f .head ∷ []) + (number kind (f .middle) + number kind (f .tail ∷ []))
+      (f : Frame header trailer Middle count gs) → number kind gs ≡ alone kind header + (number kind (f .middle) + alone kind trailer)
   number-frame f =
-      ap (number kind) (f .shape) ∙ number-both (f .head ∷ []) (f .middle ++ f .tail ∷ [])
-      ∙ ap (λ (n : ℕ). number kind (f .head ∷ []) + n) (number-both (f .middle) (f .tail ∷ []))
+      omega (
+        arith,
+        ap (number kind) (f .shape),
+        number-append (f .head ∷ []) (f .middle ++ f .tail ∷ []),
+        number-append (f .middle) (f .tail ∷ []),
+        ap (alone kind) (f .opening),
+        ap (alone kind) (f .closing),
+      )
 
-  some-pieces : {Piece : List Segment → Type 0} {gs : List Segment}
+  none-in-pieces : {Piece : List Segment → Type 0} {gs : List Segment}
+      → ((piece : List Segment) → Piece piece → number kind piece ≡ 0) → OneOrMore Piece gs → number kind gs ≡ 0
+  none-in-pieces none-in (one {piece} h) = none-in piece h
+  none-in-pieces none-in (more {before} {piece} hs h) =
+      omega (arith, number-append before piece, none-in-pieces none-in hs, none-in piece h)
+
+  some-in-pieces : {Piece : List Segment → Type 0} {gs : List Segment}
       → ((piece : List Segment) → Piece piece → 0 < number kind piece) → OneOrMore Piece gs → 0 < number kind gs
-  some-pieces has (one {piece} h) = has piece h
-  some-pieces has (more {before} {piece} hs h) = omega (arith, number-both before piece, has piece h)
+  some-in-pieces some-in (one {piece} h) = some-in piece h
+  some-in-pieces some-in (more {before} {piece} hs h) = omega (arith, number-append before piece, some-in piece h)
 
--- a frame has its header
-some-header : {header trailer : Kind} {Middle : List Segment → Type 0} {count : List Segment → ℕ} {gs : List Segment}
-    → is header header ≡ true → Frame header trailer Middle count gs → 0 < number header gs
-unfolding those
-some-header {header} h f = omega (arith, number-frame header f, it)
-  where
-    it : number header (f .head ∷ []) ≡ 1
-    it = ap (λ (b : Bool). length (if b then kindOf (f .head) ∷ [] else [])) (ap (is header) (f .opening) ∙ h)
+  none-in-inner : alone kind User ≡ 0 → alone kind Uns ≡ 0 → (gs : List Segment) → Inner gs → number kind gs ≡ 0
+  unfolding all those isInner
+  none-in-inner u s [] i = refl
+  none-in-inner u s (g ∷ gs) i =
+      omega (arith, number-append (g ∷ []) gs, here, none-in-inner u s gs (and-right (isInner g) (all isInner gs) i))
+    where
+      here : alone kind (kindOf g) ≡ 0
+      here =
+          ⊎-elim (λ e. ap (alone kind) (is-eq User (kindOf g) e) ∙ u) (λ e. ap (alone kind) (is-eq Uns (kindOf g) e) ∙ s)
+          (or-cases (is User (kindOf g)) (is Uns (kindOf g)) (and-left (isInner g) (all isInner gs) i))
 
-pub some-messages : (gs : List Segment) → OneOrMore Message gs → 0 < messagesIn (kinds gs)
-unfolding messagesIn is
-some-messages gs = some-pieces Unh (λ piece. some-header refl)
+-- ---- what is in the pieces, and what is not
 
-pub some-groups : (gs : List Segment) → OneOrMore Group gs → 0 < groupsIn (kinds gs)
-unfolding groupsIn is
-some-groups gs = some-pieces Ung (λ piece. some-header refl)
+pub inner-headers : (gs : List Segment) → Inner gs → number Unh gs ≡ 0
+unfolding those is
+inner-headers = none-in-inner Unh refl refl
 
-pub some-content : (gs : List Segment) → Content gs → 0 < messagesIn (kinds gs)
-unfolding messagesIn
-some-content gs (inl h) = some-pieces Unh (λ piece f. omega (arith, number-frame Unh f, some-messages (f .middle) (f .inside))) h
+pub messages-groups : (gs : List Segment) → OneOrMore Message gs → number Ung gs ≡ 0
+unfolding those is
+messages-groups gs =
+    none-in-pieces Ung (λ piece f. omega (arith, number-frame Ung f, none-in-inner Ung refl refl (f .middle) (f .inside)))
+
+messages-interchanges : (gs : List Segment) → OneOrMore Message gs → number Unb gs ≡ 0
+unfolding those is
+messages-interchanges gs =
+    none-in-pieces Unb (λ piece f. omega (arith, number-frame Unb f, none-in-inner Unb refl refl (f .middle) (f .inside)))
+
+pub content-interchanges : (gs : List Segment) → Content gs → number Unb gs ≡ 0
+unfolding those is
+content-interchanges gs (inl h) =
+    none-in-pieces Unb (λ piece f. omega (arith, number-frame Unb f, messages-interchanges (f .middle) (f .inside))) h
+content-interchanges gs (inr h) = messages-interchanges gs h
+
+pub some-messages : (gs : List Segment) → OneOrMore Message gs → 0 < number Unh gs
+unfolding those is
+some-messages gs = some-in-pieces Unh (λ piece f. omega (arith, number-frame Unh f))
+
+pub some-groups : (gs : List Segment) → OneOrMore Group gs → 0 < number Ung gs
+unfolding those is
+some-groups gs = some-in-pieces Ung (λ piece f. omega (arith, number-frame Ung f))
+
+pub some-content : (gs : List Segment) → Content gs → 0 < number Unh gs
+some-content gs (inl h) = some-in-pieces Unh (λ piece f. omega (arith, number-frame Unh f, some-messages (f .middle) (f .inside))) h
 some-content gs (inr h) = some-messages gs h
-
-pub no-groups : (gs : List Segment) → OneOrMore Message gs → groupsIn (kinds gs) ≡ 0
-unfolding groupsIn
-no-groups gs h = number-none (is Ung) (kinds gs) (lacks-kinds Ung gs (messages-lack-groups gs h))
 
 -- ---- behind an open header
 
-pub messages-▸ : (past gs : List Segment) → messagesIn (kinds (past ▸ gs)) ≡ messagesIn (kinds past) + messagesIn (kinds gs)
-unfolding messagesIn
-messages-▸ past gs = ap messagesIn (▸-map kindOf past gs) ∙ number-▸ (is Unh) (kinds past) (kinds gs)
+module _ (kind : Kind) where
+  passed-over : (g : Segment) (gs : List Segment) → number kind (g ∷ gs) ≡ 0 → (is kind (kindOf g) ≡ false) × (number kind gs ≡ 0)
+  unfolding those
+  passed-over g gs = step (is kind (kindOf g))
+    where
+      step : (b : Bool) → length (if b then kindOf g ∷ those (is kind) (kinds gs) else those (is kind) (kinds gs)) ≡ 0
+          → (b ≡ false) × (number kind gs ≡ 0)
+      step true h = absurd (omega arith)
+      step false h = (refl, h)
 
-pub groups-▸ : (past gs : List Segment) → groupsIn (kinds (past ▸ gs)) ≡ groupsIn (kinds past) + groupsIn (kinds gs)
-unfolding groupsIn
-groups-▸ past gs = ap groupsIn (▸-map kindOf past gs) ∙ number-▸ (is Ung) (kinds past) (kinds gs)
+  -- segments of other kinds hide nothing
+  nearest-▸ : (past gs : List Segment) → number kind gs ≡ 0 → nearestReference kind (past ▸ gs) ≡ nearestReference kind past
+  unfolding first
+  nearest-▸ past [] h = refl
+  nearest-▸ past (g ∷ gs) h =
+      let other = passed-over g gs h in
+      nearest-▸ (g ∷ past) gs (other .1)
+      ∙ ap (maybe none referenceOf)
+      (if-false (is kind (kindOf g)) (some g) (first (λ s. is kind (kindOf s)) past) (other .0))
 
-module _ {header : Kind} (head : Segment) (outer middle : List Segment) (opening : kindOf head ≡ header) (lacks : Lacks header middle) where
+  through-▸ : (past gs : List Segment) → number kind gs ≡ 0
+      → through (is kind) (kinds (past ▸ gs)) ≡ through (is kind) (kinds past) ▸ kinds gs
+  unfolding through
+  through-▸ past [] h = refl
+  through-▸ past (g ∷ gs) h =
+      let other = passed-over g gs h in
+      through-▸ (g ∷ past) gs (other .1)
+      ∙ ap (λ (l : List Kind). kindOf g ∷ l ▸ kinds gs)
+      (if-false (is kind (kindOf g)) [] (through (is kind) (kinds past)) (other .0))
+
+module _ (header : Kind) (head : Segment) (outer middle : List Segment) (opening : kindOf head ≡ header)
+    (others : number header middle ≡ 0) where
   own : is header (kindOf head) ≡ true
   unfolding is
   own = ap (is header) opening ∙ eq-eqb (index header) (index header) refl
 
   -- it is the nearest of its kind
-  pub nearest-own : nearestReference header (head ∷ outer ▸ middle) ≡ referenceOf head
+  nearest-own : nearestReference header (head ∷ outer ▸ middle) ≡ referenceOf head
   unfolding first maybe
   nearest-own =
-      ap (maybe none referenceOf)
-      (first-▸ (λ g. is header (kindOf g)) (head ∷ outer) middle lacks
-      ∙ if-true (is header (kindOf head)) (some head) (first (λ g. is header (kindOf g)) outer) own)
+      nearest-▸ header (head ∷ outer) middle others
+      ∙ ap (maybe none referenceOf)
+      (if-true (is header (kindOf head)) (some head) (first (λ g. is header (kindOf g)) outer) own)
 
   -- since it, only the middle has passed
-  pub through-own : through (is header) (kinds (head ∷ outer ▸ middle)) ≡ header ∷ [] ▸ kinds middle
+  through-own : through (is header) (kinds (head ∷ outer ▸ middle)) ≡ header ∷ [] ▸ kinds middle
   unfolding through
   through-own =
-      ap (through (is header)) (▸-map kindOf (head ∷ outer) middle)
-      ∙ through-▸ (is header) (kinds (head ∷ outer)) (kinds middle) (lacks-kinds header middle lacks)
-      ∙ ap (λ (l : List Kind). kindOf head ∷ l ▸ kinds middle) (if-true (is header (kindOf head)) [] (through (is header) (kinds outer)) own)
+      through-▸ header (head ∷ outer) middle others
+      ∙ ap (λ (l : List Kind). kindOf head ∷ l ▸ kinds middle)
+      (if-true (is header (kindOf head)) [] (through (is header) (kinds outer)) own)
       ∙ ap (λ (k : Kind). k ∷ [] ▸ kinds middle) opening
 
--- the numbers that a trailer has to say
-module _ (head : Segment) (outer middle : List Segment) where
-  pub message-count : kindOf head ≡ Unh → Inner middle → segmentsSinceHeader (Unt ∷ kinds (head ∷ outer ▸ middle)) ≡ length middle + 2
-  unfolding segmentsSinceHeader segmentsIn through is
-  message-count e i =
-      ap (λ (l : List Kind). suc (length l)) (through-own head outer middle e (inner-lacks-header middle i))
-      ∙ omega (arith, length-reverseAux (kinds middle) (Unh ∷ []), length-map middle kindOf)
+-- ---- the numbers that a trailer has to say
 
-  pub group-count : kindOf head ≡ Ung → Lacks Ung middle → messagesSinceGroup (kinds (head ∷ outer ▸ middle)) ≡ messagesIn (kinds middle)
-  unfolding messagesSinceGroup messagesIn those is
-  group-count e l =
-      ap messagesIn (through-own head outer middle e l) ∙ number-▸ (is Unh) (Ung ∷ []) (kinds middle) ∙ omega arith
+pub message-count : (head : Segment) (outer middle : List Segment) → kindOf head ≡ Unh → number Unh middle ≡ 0
+    → segmentsSinceHeader (Unt ∷ kinds (head ∷ outer ▸ middle)) ≡ length middle + 2
+unfolding segmentsSinceHeader segmentsIn through is
+message-count head outer middle opening others =
+    ap (λ (l : List Kind). suc (length l)) (through-own Unh head outer middle opening others)
+    ∙ omega (arith, length-reverseAux (kinds middle) (Unh ∷ []), length-map middle kindOf)
+
+pub group-count : (head : Segment) (outer middle : List Segment) → kindOf head ≡ Ung → number Ung middle ≡ 0
+    → messagesSinceGroup (kinds (head ∷ outer ▸ middle)) ≡ messagesIn (kinds middle)
+unfolding messagesSinceGroup messagesIn those is
+group-count head outer middle opening others =
+    ap messagesIn (through-own Ung head outer middle opening others ∙ ap (λ (k : Kind). k ∷ [] ▸ kinds middle) (sym opening) ∙ sym (▸-map kindOf (head ∷ []) middle))
+    ∙ omega (arith, number-▸ Unh (head ∷ []) middle, ap (alone Unh) opening)
 
 module _ (head : Segment) (middle : List Segment) (opening : kindOf head ≡ Unb) where
   pub all-messages : messagesIn (kinds (head ∷ [] ▸ middle)) ≡ messagesIn (kinds middle)
   unfolding messagesIn those is
-  all-messages = omega (arith, messages-▸ (head ∷ []) middle, ap (λ (k : Kind). messagesIn (k ∷ [])) opening)
+  all-messages = omega (arith, number-▸ Unh (head ∷ []) middle, ap (alone Unh) opening)
 
   pub all-groups : groupsIn (kinds (head ∷ [] ▸ middle)) ≡ groupsIn (kinds middle)
   unfolding groupsIn those is
-  all-groups = omega (arith, groups-▸ (head ∷ []) middle, ap (λ (k : Kind). groupsIn (k ∷ [])) opening)
+  all-groups = omega (arith, number-▸ Ung (head ∷ []) middle, ap (alone Ung) opening)
 
   pub interchange-count : contentCount (kinds (head ∷ [] ▸ middle)) ≡ contentCount (kinds middle)
   interchange-count = λ i. if eqb (all-groups i) 0 then all-messages i else all-groups i
 
 -- ---- a frame is an open header, its middle and a trailer that closes it
 
-module _ {header trailer : Kind} {Middle : List Segment → Type 0} {count : List Segment → ℕ} {number : ℕ} (outer : List Segment) where
+module _ {header trailer : Kind} {Middle : List Segment → Type 0} {count : List Segment → ℕ} {n : ℕ} (outer : List Segment) where
   pub framed : (head : Segment) (middle : List Segment) (tail : Segment)
-      → kindOf head ≡ header → isReference (referenceOf head) ≡ true → Middle middle → Lacks header middle → number ≡ count middle
-      → kindOf tail ≡ trailer → Closes header number (head ∷ outer ▸ middle) (referenceOf tail) (countOf tail)
+      → kindOf head ≡ header → isReference (referenceOf head) ≡ true
+      → Middle middle → number header middle ≡ 0 → n ≡ count middle
+      → kindOf tail ≡ trailer → Closes header n (head ∷ outer ▸ middle) (referenceOf tail) (countOf tail)
       → Frame header trailer Middle count (head ∷ (middle ++ tail ∷ []))
-  framed head middle tail opening reference inside lacks right closing says =
+  framed head middle tail opening reference inside others right closing says =
       record {
         head = head;
         middle = middle;
@@ -219,17 +218,17 @@ module _ {header trailer : Kind} {Middle : List Segment → Type 0} {count : Lis
         closing = closing;
         inside = inside;
         reference = reference;
-        same-reference = says .same-reference ∙ nearest-own head outer middle opening lacks;
+        same-reference = says .same-reference ∙ nearest-own header head outer middle opening others;
         counted = says .counted;
         right-count = says .right-count ∙ right;
       }
 
-  pub closes : {gs : List Segment} (f : Frame header trailer Middle count gs) → Lacks header (f .middle) → number ≡ count (f .middle)
-      → Closes header number (f .head ∷ outer ▸ f .middle) (referenceOf (f .tail)) (countOf (f .tail))
-  closes f lacks right =
+  pub closes : {gs : List Segment} (f : Frame header trailer Middle count gs) → number header (f .middle) ≡ 0
+      → n ≡ count (f .middle) → Closes header n (f .head ∷ outer ▸ f .middle) (referenceOf (f .tail)) (countOf (f .tail))
+  closes f others right =
       record {
         referenced = ap isReference (f .same-reference) ∙ f .reference;
-        same-reference = f .same-reference ∙ sym (nearest-own (f .head) outer (f .middle) (f .opening) lacks);
+        same-reference = f .same-reference ∙ sym (nearest-own header (f .head) outer (f .middle) (f .opening) others);
         counted = f .counted;
         right-count = f .right-count ∙ sym right;
       }

@@ -21,9 +21,13 @@ use Rattle.control.specs.Positions.{positionTable, positionsOf}
 use Rattle.control.specs.Control.{controlElement, isReference, isCount, standsWell, controlRule, headerOf, referenceOf, sameValue, referenceDiffers, decimal, trueCount, countOf, countWrong}
 use Rattle.verdict.specs.Places.{startsWhere}
 use Rattle.grammar.specs.Grammar.{contentCount}
-use Rattle.grammar.proofs.Trail.{_▸_, Each, none-yet, passed, each-last, each-before, each-map, each-both}
+use Rattle.grammar.proofs.Trail.{_▸_, Each, none-yet, passed, each-last, each-before}
+use Rattle.grammar.proofs.Walk.{Orderly}
 
 -- ---- what a segment says
+
+abbrev pub kinds : List Segment → List Kind
+kinds gs = map kindOf gs
 
 -- the reference of the nearest segment of a kind
 abbrev pub nearestReference : Kind → List Segment → Option (List ℕ)
@@ -36,20 +40,29 @@ pub record Closes (header : Kind) (number : ℕ) (past : List Segment) (referenc
   pub counted : isCount count ≡ true
   pub right-count : maybe 0 decimal count ≡ number
 
-abbrev pub Says : Kind → List Segment → (reference count : Option (List ℕ)) → Type 0
-Says Unb past reference count = isReference reference ≡ true
-Says Ung past reference count = isReference reference ≡ true
-Says Unh past reference count = isReference reference ≡ true
-Says Uns past reference count = Unit {0}
-Says Unt past reference count = Closes Unh (segmentsSinceHeader (Unt ∷ map kindOf past)) past reference count
-Says Une past reference count = Closes Ung (messagesSinceGroup (map kindOf past)) past reference count
-Says Unz past reference count = Closes Unb (contentCount (map kindOf past)) past reference count
-Says User past reference count = Unit {0}
+-- what a segment of each kind has to say, by its reference and count
+abbrev pub SaysWith : Kind → List Segment → (reference count : Option (List ℕ)) → Type 0
+SaysWith Unb past reference count = isReference reference ≡ true
+SaysWith Ung past reference count = isReference reference ≡ true
+SaysWith Unh past reference count = isReference reference ≡ true
+SaysWith Uns past reference count = Unit {0}
+SaysWith Unt past reference count = Closes Unh (segmentsSinceHeader (Unt ∷ kinds past)) past reference count
+SaysWith Une past reference count = Closes Ung (messagesSinceGroup (kinds past)) past reference count
+SaysWith Unz past reference count = Closes Unb (contentCount (kinds past)) past reference count
+SaysWith User past reference count = Unit {0}
+
+abbrev pub Says : Kind → List Segment → Segment → Type 0
+Says kind past g = SaysWith kind past (referenceOf g) (countOf g)
 
 -- it is allowed where it stands, and says what it has to say
 pub record Passes (past : List Segment) (g : Segment) : Type 0 where
-  pub place : allowed (map kindOf past) (kindOf g) ≡ true
-  pub says : Says (kindOf g) past (referenceOf g) (countOf g)
+  pub place : allowed (kinds past) (kindOf g) ≡ true
+  pub says : Says (kindOf g) past g
+
+-- what passed is orderly
+pub orderly : {past : List Segment} → Each Passes past → Orderly (kinds past)
+orderly none-yet = none-yet
+orderly (passed h hs) = passed (h .place) (orderly hs)
 
 same-value : (v w : Option (List ℕ)) → sameValue v w ≡ true → v ≡ w
 unfolding sameValue
@@ -100,10 +113,10 @@ module _ (past : List Segment) (g : Segment) where
   abbrev wrong : Kind → Bool
   wrong kind =
       maybe false (λ count. not (eqb (maybe 0 decimal (controlElement g (positionsOf kind .count))) count))
-      (trueCount kind (map kindOf past))
+      (trueCount kind (kinds past))
 
   abbrev SaysAs : Kind → Type 0
-  SaysAs kind = Says kind past (controlElement g (positionsOf kind .reference)) (controlElement g (positionsOf kind .count))
+  SaysAs kind = SaysWith kind past (controlElement g (positionsOf kind .reference)) (controlElement g (positionsOf kind .count))
 
   says-from : (kind : Kind) → ruleOf kind ≡ true → differs kind ≡ false → wrong kind ≡ false → SaysAs kind
   unfolding standsWell positionsOf positionTable headerOf trueCount maybe
@@ -128,17 +141,17 @@ module _ (past : List Segment) (g : Segment) where
   says-test User h = (refl, refl, refl)
 
   -- a segment passes exactly when none of the four tests fails
-  pub passes-from : (not (allowed (map kindOf past) (kindOf g)) ≡ false) × (not (controlRule g) ≡ false)
+  pub passes-from : (not (allowed (kinds past) (kindOf g)) ≡ false) × (not (controlRule g) ≡ false)
       → (referenceDiffers past g ≡ false) × (countWrong past g ≡ false) → Passes past g
   unfolding controlRule referenceDiffers countWrong referenceOf countOf
   passes-from h k =
       record {
-        place = not-false (allowed (map kindOf past) (kindOf g)) (h .0);
+        place = not-false (allowed (kinds past) (kindOf g)) (h .0);
         says = says-from (kindOf g) (not-false (ruleOf (kindOf g)) (h .1)) (k .0) (k .1);
       }
 
   pub passes-test : Passes past g
-      → (not (allowed (map kindOf past) (kindOf g)) ≡ false)
+      → (not (allowed (kinds past) (kindOf g)) ≡ false)
       × (not (controlRule g) ≡ false)
       × (referenceDiffers past g ≡ false)
       × (countWrong past g ≡ false)

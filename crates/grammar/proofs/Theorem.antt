@@ -17,9 +17,8 @@ use Rattle.verdict.specs.Places.{startsWhere, misplacedSegments, badControls, d
 use Rattle.grammar.specs.Grammar.{Interchange, misplaced, badControl, Passing}
 use Rattle.grammar.proofs.Trail.{_▸_, ▸-map, Each, none-yet, each-map, each-both}
 use Rattle.grammar.proofs.Walk.{standing-complete}
-use Rattle.grammar.proofs.Passing.{Passes, passes-from, passes-test, each-clear, clear-each}
-use Rattle.grammar.proofs.Frames.{kinds}
-use Rattle.grammar.proofs.Begun.{orderly, whole}
+use Rattle.grammar.proofs.Passing.{Passes, orderly, passes-from, passes-test, each-clear, clear-each}
+use Rattle.grammar.proofs.Begun.{whole}
 use Rattle.grammar.proofs.Gone.{interchange}
 
 module _ (gs : List Segment) where

@@ -35,9 +35,13 @@ pub data OneOrMore (Piece : List Segment → Type 0) : List Segment → Type 0 w
   one : {piece : List Segment} → Piece piece → OneOrMore Piece piece
   more : {before piece : List Segment} → OneOrMore Piece before → Piece piece → OneOrMore Piece (before ++ piece)
 
+-- "user segments and UNS"
+unfoldable pub isInner : Segment → Bool
+isInner g = is User (kindOf g) || is Uns (kindOf g)
+
 -- "any number of user segments and UNS"
 abbrev pub Inner : List Segment → Type 0
-Inner middle = all (λ g. is User (kindOf g) || is Uns (kindOf g)) middle ≡ true
+Inner middle = all isInner middle ≡ true
 
 -- "A message is UNH, any number of user segments and UNS, UNT."
 -- "UNT's count is the segments from UNH to UNT, both included"
