@@ -20,7 +20,7 @@ use Rattle.segments.specs.Order.{segmentsSinceHeader, messagesSinceGroup, messa
 use Rattle.control.specs.Positions.{positionTable, positionsOf}
 use Rattle.control.specs.Control.{controlElement, isReference, isCount, standsWell, controlRule, headerOf, referenceOf, sameValue, referenceDiffers, decimal, trueCount, countOf, countWrong}
 use Rattle.verdict.specs.Places.{startsWhere}
-use Rattle.grammar.specs.Grammar.{contentCount}
+use Rattle.grammar.specs.Grammar.{contentCount, misplaced, badControl}
 use Rattle.grammar.proofs.Trail.{_▸_, Each, none-yet, passed, each-last, each-before}
 use Rattle.grammar.proofs.Walk.{Orderly}
 
@@ -77,88 +77,65 @@ same-value-refl none = refl
 same-value-refl (some v) = same-refl v
 
 -- the three tests of a trailer
-module _ {header : Kind} {number : ℕ} {past : List Segment} {reference count : Option (List ℕ)} where
-  closes-from : (isCount count && isReference reference) ≡ true → not (sameValue reference (nearestReference header past)) ≡ false
-      → not (eqb (maybe 0 decimal count) number) ≡ false → Closes header number past reference count
-  closes-from a b c =
+closes-iff : {header : Kind} {number : ℕ} {past : List Segment} {reference count : Option (List ℕ)}
+    → ((isCount count && isReference reference) ≡ true)
+    × (not (sameValue reference (nearestReference header past)) ≡ false)
+    × (not (eqb (maybe 0 decimal count) number) ≡ false)
+    ↔ Closes header number past reference count
+closes-iff {header} {number} {past} {reference} {count} = (
+  λ h.
       record {
-        referenced = and-right (isCount count) (isReference reference) a;
-        same-reference = same-value reference (nearestReference header past) (not-false (sameValue reference (nearestReference header past)) b);
-        counted = and-left (isCount count) (isReference reference) a;
-        right-count = eqb-true (maybe 0 decimal count) number (not-false (eqb (maybe 0 decimal count) number) c);
-      }
-
-  closes-test : Closes header number past reference count
-      → ((isCount count && isReference reference) ≡ true)
-      × (not (sameValue reference (nearestReference header past)) ≡ false)
-      × (not (eqb (maybe 0 decimal count) number) ≡ false)
-  closes-test h = (
+        referenced = and-right (isCount count) (isReference reference) (h .0);
+        same-reference = same-value reference nearest (not-false (sameValue reference nearest) (h .1));
+        counted = and-left (isCount count) (isReference reference) (h .0);
+        right-count = eqb-true (maybe 0 decimal count) number (not-false (eqb (maybe 0 decimal count) number) (h .2));
+      },
+  λ h. (
     and-both (isCount count) (isReference reference) (h .counted) (h .referenced),
     ap not (ap (sameValue reference) (sym (h .same-reference)) ∙ same-value-refl reference),
     ap not (eq-eqb (maybe 0 decimal count) number (h .right-count)),
-  )
+  ),
+)
+  where
+    nearest : Option (List ℕ)
+    nearest = nearestReference header past
 
 module _ (past : List Segment) (g : Segment) where
   -- the tests of refusals 10, 11 and 12, by the segment's kind
-  abbrev ruleOf : Kind → Bool
-  ruleOf kind =
-      standsWell (positionsOf kind .count) isCount g && standsWell (positionsOf kind .reference) isReference g
+  abbrev Tests : Kind → (reference count : Option (List ℕ)) → Type 0
+  Tests kind reference count =
+      ((standsWell (positionsOf kind .count) isCount g && standsWell (positionsOf kind .reference) isReference g) ≡ true)
+      × (maybe false (λ header. not (sameValue reference (nearestReference header past))) (headerOf kind) ≡ false)
+      × (maybe false (λ n. not (eqb (maybe 0 decimal count) n)) (trueCount kind (kinds past)) ≡ false)
 
-  abbrev differs : Kind → Bool
-  differs kind =
-      maybe false
-      (λ header. not (sameValue (controlElement g (positionsOf kind .reference)) (nearestReference header past)))
-      (headerOf kind)
-
-  abbrev wrong : Kind → Bool
-  wrong kind =
-      maybe false (λ count. not (eqb (maybe 0 decimal (controlElement g (positionsOf kind .count))) count))
-      (trueCount kind (kinds past))
-
-  abbrev SaysAs : Kind → Type 0
-  SaysAs kind = SaysWith kind past (controlElement g (positionsOf kind .reference)) (controlElement g (positionsOf kind .count))
-
-  says-from : (kind : Kind) → ruleOf kind ≡ true → differs kind ≡ false → wrong kind ≡ false → SaysAs kind
+  says-iff : (kind : Kind)
+      → Tests kind (controlElement g (positionsOf kind .reference)) (controlElement g (positionsOf kind .count))
+      ↔ SaysWith kind past (controlElement g (positionsOf kind .reference)) (controlElement g (positionsOf kind .count))
   unfolding standsWell positionsOf positionTable headerOf trueCount maybe
-  says-from Unb a b c = a
-  says-from Ung a b c = a
-  says-from Unh a b c = a
-  says-from Uns a b c = tt
-  says-from Unt a b c = closes-from a b c
-  says-from Une a b c = closes-from a b c
-  says-from Unz a b c = closes-from a b c
-  says-from User a b c = tt
+  says-iff Unb = (λ h. h .0, λ h. (h, refl, refl))
+  says-iff Ung = (λ h. h .0, λ h. (h, refl, refl))
+  says-iff Unh = (λ h. h .0, λ h. (h, refl, refl))
+  says-iff Uns = (λ h. tt, λ h. (refl, refl, refl))
+  says-iff Unt = closes-iff
+  says-iff Une = closes-iff
+  says-iff Unz = closes-iff
+  says-iff User = (λ h. tt, λ h. (refl, refl, refl))
 
-  says-test : (kind : Kind) → SaysAs kind → (ruleOf kind ≡ true) × (differs kind ≡ false) × (wrong kind ≡ false)
-  unfolding standsWell positionsOf positionTable headerOf trueCount maybe
-  says-test Unb h = (h, refl, refl)
-  says-test Ung h = (h, refl, refl)
-  says-test Unh h = (h, refl, refl)
-  says-test Uns h = (refl, refl, refl)
-  says-test Unt h = closes-test h
-  says-test Une h = closes-test h
-  says-test Unz h = closes-test h
-  says-test User h = (refl, refl, refl)
-
-  -- a segment passes exactly when none of the four tests fails
-  pub passes-from : (not (allowed (kinds past) (kindOf g)) ≡ false) × (not (controlRule g) ≡ false)
-      → (referenceDiffers past g ≡ false) × (countWrong past g ≡ false) → Passes past g
+  -- a segment passes exactly where none of the four tests fails
+  pub passes-iff :
+      (misplaced past g ≡ false) × (badControl past g ≡ false) × (referenceDiffers past g ≡ false) × (countWrong past g ≡ false)
+      ↔ Passes past g
   unfolding controlRule referenceDiffers countWrong referenceOf countOf
-  passes-from h k =
-      record {
-        place = not-false (allowed (kinds past) (kindOf g)) (h .0);
-        says = says-from (kindOf g) (not-false (ruleOf (kindOf g)) (h .1)) (k .0) (k .1);
-      }
-
-  pub passes-test : Passes past g
-      → (not (allowed (kinds past) (kindOf g)) ≡ false)
-      × (not (controlRule g) ≡ false)
-      × (referenceDiffers past g ≡ false)
-      × (countWrong past g ≡ false)
-  unfolding controlRule referenceDiffers countWrong referenceOf countOf
-  passes-test h =
-      let says = says-test (kindOf g) (h .says) in
-      (ap not (h .place), ap not (says .0), says .1, says .2)
+  passes-iff = (
+    λ h.
+        record {
+          place = not-false (allowed (kinds past) (kindOf g)) (h .0);
+          says = says-iff (kindOf g) .0 (not-false (controlRule g) (h .1), h .2, h .3);
+        },
+    λ h.
+        let says = says-iff (kindOf g) .1 (h .says) in
+        (ap not (h .place), ap not (says .0), says .1, says .2),
+  )
 
 -- ---- no segment fails a test
 

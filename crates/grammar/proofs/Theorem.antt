@@ -17,7 +17,7 @@ use Rattle.verdict.specs.Places.{startsWhere, misplacedSegments, badControls, d
 use Rattle.grammar.specs.Grammar.{Interchange, misplaced, badControl, Passing}
 use Rattle.grammar.proofs.Trail.{_▸_, ▸-map, Each, none-yet, each-map, each-both}
 use Rattle.grammar.proofs.Walk.{standing-complete}
-use Rattle.grammar.proofs.Passing.{Passes, orderly, passes-from, passes-test, each-clear, clear-each}
+use Rattle.grammar.proofs.Passing.{orderly, passes-iff, each-clear, clear-each}
 use Rattle.grammar.proofs.Begun.{whole}
 use Rattle.grammar.proofs.Gone.{interchange}
 
@@ -25,7 +25,7 @@ module _ (gs : List Segment) where
   passing-whole : Passing gs → Interchange gs
   passing-whole h =
       whole gs
-      (each-map (λ past g passes. passes-from past g (passes .0) (passes .1))
+      (each-map (λ past g passes. passes-iff past g .0 (passes .0 .0, passes .0 .1, passes .1 .0, passes .1 .1))
       (each-both (each-both (clear misplaced (h .0)) (clear badControl (h .2)))
       (each-both (clear referenceDiffers (h .3)) (clear countWrong (h .4)))))
       (ap isComplete (▸-map kindOf [] gs) ∙ h .1)
@@ -37,13 +37,44 @@ module _ (gs : List Segment) where
   whole-passing : Interchange gs → Passing gs
   whole-passing f =
       let gone = interchange gs f in (
-        clear-each misplaced [] gs (each-map (λ past g h. passes-test past g h .0) (gone .0)),
+        clear-each misplaced [] gs (each-map (λ past g h. passes-iff past g .1 h .0) (gone .0)),
         ap isComplete (sym (▸-map kindOf [] gs)) ∙ standing-complete (orderly (gone .0)) (gone .1),
-        clear-each badControl [] gs (each-map (λ past g h. passes-test past g h .1) (gone .0)),
-        clear-each referenceDiffers [] gs (each-map (λ past g h. passes-test past g h .2) (gone .0)),
-        clear-each countWrong [] gs (each-map (λ past g h. passes-test past g h .3) (gone .0)),
+        clear-each badControl [] gs (each-map (λ past g h. passes-iff past g .1 h .1) (gone .0)),
+        clear-each referenceDiffers [] gs (each-map (λ past g h. passes-iff past g .1 h .2) (gone .0)),
+        clear-each countWrong [] gs (each-map (λ past g h. passes-iff past g .1 h .3) (gone .0)),
       )
 
   -- the tests pass exactly for an interchange
   pub passing-interchange : Passing gs ↔ Interchange gs
   passing-interchange = (passing-whole, whole-passing)
+
+-- ---- of an input
+
+ends-nothing : (complete : Bool) (place : ℕ) → placeIf (not complete) place ≡ [] → complete ≡ true
+unfolding placeIf
+ends-nothing true place h = refl
+ends-nothing false place h = absurd (cons-ne-nil place [] h)
+
+both-empty : (xs ys : List ℕ) → xs ++ ys ≡ [] → (xs ≡ []) × (ys ≡ [])
+both-empty [] ys h = (refl, h)
+both-empty (x ∷ xs) ys h = absurd (cons-ne-nil x (xs ++ ys) h)
+
+-- none of the refusals 9 to 12 is met exactly where the segments of the input are an interchange
+pub unrefused-interchange : (s : List ℕ)
+    → (misplacedSegments s ≡ []) × (badControls s ≡ []) × (differingReferences s ≡ []) × (wrongCounts s ≡ [])
+    ↔ Interchange (segmentsOf s)
+unfolding misplacedSegments badControls differingReferences wrongCounts kindsOf placeIf
+unrefused-interchange s = (
+  λ h.
+      let none = both-empty (startsWhere misplaced [] (segmentsOf s)) (placeIf (not (isComplete (kindsOf s))) (length s)) (h .0) in
+      passing-whole (segmentsOf s) (none .0, ends-nothing (isComplete (kindsOf s)) (length s) (none .1), h .1, h .2, h .3),
+  λ f.
+      let h = whole-passing (segmentsOf s) f in
+      (
+        ap (λ (l : List ℕ). l ++ placeIf (not (isComplete (kindsOf s))) (length s)) (h .0)
+            ∙ ap (λ (b : Bool). placeIf (not b) (length s)) (h .1),
+        h .2,
+        h .3,
+        h .4,
+      ),
+)
