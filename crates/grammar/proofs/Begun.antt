@@ -1,5 +1,5 @@
--- From the tests to the grammar: what stands behind segments that all passed is an interchange that has begun, with the headers
--- that are still open, and behind UNZ it is an interchange. What passed is a list of segments, the nearest first. Assumes nothing.
+-- From the tests to the grammar: what has passed is an interchange that has begun, with the headers that are still open, and
+-- behind UNZ it is an interchange. What passed is a list of segments, the nearest first. Assumes nothing.
 use Prim.Native.Nat.{ℕ, _<_}
 use native.Mathlib.Omega.{arith}
 use mathlib.Core.Path.{_≡_, refl, sym, ap, _∙_, subst}
@@ -70,8 +70,8 @@ inner-grown : {Outer : List Segment → Type 0} {past : List Segment} (g : Segme
 unfolding all
 inner-grown g h =
     grow (g ∷ []) (λ middle i.
-      all-append isInner middle (g ∷ [])
-      ∙ and-both (all isInner middle) (isInner g && true) i (and-both (isInner g) true h refl))
+    all-append isInner middle (g ∷ [])
+    ∙ and-both (all isInner middle) (isInner g && true) i (and-both (isInner g) true h refl))
 
 run-and : {Piece : List Segment → Type 0} {before piece : List Segment}
     → Run Piece before → Piece piece → OneOrMore Piece (before ++ piece)
@@ -94,7 +94,8 @@ module _ {header : Kind} {Outer : List Segment → Type 0} where
       close head middle g
       (framed outer head middle g e r i others (message-count head outer middle e others) closing says) o
 
-  group-closed : {past : List Segment} (g : Segment) → kindOf g ≡ Une → Says Une past g → 0 < messagesSinceGroup (kinds past)
+  group-closed : {past : List Segment} (g : Segment) → kindOf g ≡ Une → Says Une past g
+      → 0 < messagesSinceGroup (kinds past)
       → Opened Ung (Opened header Outer (Run Group)) (Run Message) past → Opened header Outer (OneOrMore Group) (g ∷ past)
   unfolding messagesIn those
   group-closed g closing says h (opened head {outer} e r o empty) = absurd (omega (arith, group-count head outer [] e refl))
@@ -122,7 +123,8 @@ groups-only (inl h) (opened head {middle} e r nothing (full (inr m))) =
 groups-only (inr h) (opened head {middle} e r nothing (full (inr m))) =
     absurd (omega (arith, all-messages head middle e, some-messages middle m))
 
-messages-only : {past : List Segment} → groupsIn (kinds past) ≡ 0 → Begun BetweenGroups past → Opened Unb Nothing (Run Message) past
+messages-only : {past : List Segment} → groupsIn (kinds past) ≡ 0
+    → Begun BetweenGroups past → Opened Unb Nothing (Run Message) past
 unfolding groupsIn
 messages-only h (opened head e r nothing empty) = opened head e r nothing empty
 messages-only h (opened head {middle} e r nothing (full (inl m))) =

@@ -19,7 +19,7 @@ use Rattle.segments.specs.Kinds.{index, is}
 use Rattle.segments.specs.Tags.{kindOf}
 use Rattle.segments.specs.Order.{segmentsIn, messagesIn, groupsIn, segmentsSinceHeader, messagesSinceGroup}
 use Rattle.control.specs.Control.{isReference, referenceOf, countOf}
-use Rattle.grammar.specs.Grammar.{Frame, OneOrMore, one, more, Inner, isInner, Message, Group, Content, contentCount}
+use Rattle.grammar.specs.Grammar.{Frame, OneOrMore, one, more, size, Inner, isInner, Message, Group, Content, contentCount}
 use Rattle.grammar.proofs.Trail.{_▸_, ▸-append, ▸-map}
 use Rattle.grammar.proofs.Walk.{is-eq}
 use Rattle.grammar.proofs.Passing.{kinds, nearestReference, Closes}
@@ -37,7 +37,8 @@ module _ (kind : Kind) where
   pub number-▸ : (past gs : List Segment) → number kind (past ▸ gs) ≡ number kind past + number kind gs
   unfolding those
   number-▸ past [] = omega arith
-  number-▸ past (g ∷ gs) = number-▸ (g ∷ past) gs ∙ step (is kind (kindOf g)) (those (is kind) (kinds past)) (those (is kind) (kinds gs))
+  number-▸ past (g ∷ gs) =
+      number-▸ (g ∷ past) gs ∙ step (is kind (kindOf g)) (those (is kind) (kinds past)) (those (is kind) (kinds gs))
     where
       step : (b : Bool) (xs ys : List Kind)
           → length (if b then kindOf g ∷ xs else xs) + length ys ≡ length xs + length (if b then kindOf g ∷ ys else ys)
@@ -50,7 +51,8 @@ module _ (kind : Kind) where
       omega (arith, number-▸ [] (xs ++ ys), ap (number kind) (▸-append [] xs ys), number-▸ ([] ▸ xs) ys, number-▸ [] xs)
 
   number-frame : {header trailer : Kind} {Middle : List Segment → Type 0} {count : List Segment → ℕ} {gs : List Segment}
-      (f : Frame header trailer Middle count gs) → number kind gs ≡ alone kind header + (number kind (f .middle) + alone kind trailer)
+      (f : Frame header trailer Middle count gs)
+      → number kind gs ≡ alone kind header + (number kind (f .middle) + alone kind trailer)
   number-frame f =
       omega (
         arith,
@@ -71,6 +73,14 @@ module _ (kind : Kind) where
       → ((piece : List Segment) → Piece piece → 0 < number kind piece) → OneOrMore Piece gs → 0 < number kind gs
   some-in-pieces some-in (one {piece} h) = some-in piece h
   some-in-pieces some-in (more {before} {piece} hs h) = omega (arith, number-append before piece, some-in piece h)
+
+  -- where each piece has one, there are as many as pieces
+  one-in-pieces : {Piece : List Segment → Type 0} {gs : List Segment}
+      → ((piece : List Segment) → Piece piece → number kind piece ≡ 1) → (hs : OneOrMore Piece gs) → number kind gs ≡ size hs
+  unfolding size
+  one-in-pieces one-in (one {piece} h) = one-in piece h
+  one-in-pieces one-in (more {before} {piece} hs h) =
+      omega (arith, number-append before piece, one-in-pieces one-in hs, one-in piece h)
 
   none-in-inner : alone kind User ≡ 0 → alone kind Uns ≡ 0 → (gs : List Segment) → Inner gs → number kind gs ≡ 0
   unfolding all those isInner
@@ -105,6 +115,17 @@ content-interchanges gs (inl h) =
     none-in-pieces Unb (λ piece f. omega (arith, number-frame Unb f, messages-interchanges (f .middle) (f .inside))) h
 content-interchanges gs (inr h) = messages-interchanges gs h
 
+-- each message has one UNH, each group one UNG
+pub messages-size : {gs : List Segment} (hs : OneOrMore Message gs) → number Unh gs ≡ size hs
+unfolding those is
+messages-size =
+    one-in-pieces Unh (λ piece f. omega (arith, number-frame Unh f, inner-headers (f .middle) (f .inside)))
+
+pub groups-size : {gs : List Segment} (hs : OneOrMore Group gs) → number Ung gs ≡ size hs
+unfolding those is
+groups-size =
+    one-in-pieces Ung (λ piece f. omega (arith, number-frame Ung f, messages-groups (f .middle) (f .inside)))
+
 pub some-messages : (gs : List Segment) → OneOrMore Message gs → 0 < number Unh gs
 unfolding those is
 some-messages gs = some-in-pieces Unh (λ piece f. omega (arith, number-frame Unh f))
@@ -114,13 +135,15 @@ unfolding those is
 some-groups gs = some-in-pieces Ung (λ piece f. omega (arith, number-frame Ung f))
 
 pub some-content : (gs : List Segment) → Content gs → 0 < number Unh gs
-some-content gs (inl h) = some-in-pieces Unh (λ piece f. omega (arith, number-frame Unh f, some-messages (f .middle) (f .inside))) h
+some-content gs (inl h) =
+    some-in-pieces Unh (λ piece f. omega (arith, number-frame Unh f, some-messages (f .middle) (f .inside))) h
 some-content gs (inr h) = some-messages gs h
 
 -- ---- behind an open header
 
 module _ (kind : Kind) where
-  passed-over : (g : Segment) (gs : List Segment) → number kind (g ∷ gs) ≡ 0 → (is kind (kindOf g) ≡ false) × (number kind gs ≡ 0)
+  passed-over : (g : Segment) (gs : List Segment) → number kind (g ∷ gs) ≡ 0
+      → (is kind (kindOf g) ≡ false) × (number kind gs ≡ 0)
   unfolding those
   passed-over g gs = step (is kind (kindOf g))
     where
@@ -130,7 +153,8 @@ module _ (kind : Kind) where
       step false h = (refl, h)
 
   -- segments of other kinds hide nothing
-  nearest-▸ : (past gs : List Segment) → number kind gs ≡ 0 → nearestReference kind (past ▸ gs) ≡ nearestReference kind past
+  nearest-▸ : (past gs : List Segment) → number kind gs ≡ 0
+      → nearestReference kind (past ▸ gs) ≡ nearestReference kind past
   unfolding first
   nearest-▸ past [] h = refl
   nearest-▸ past (g ∷ gs) h =
@@ -185,7 +209,10 @@ pub group-count : (head : Segment) (outer middle : List Segment) → kindOf head
     → messagesSinceGroup (kinds (head ∷ outer ▸ middle)) ≡ messagesIn (kinds middle)
 unfolding messagesSinceGroup messagesIn those is
 group-count head outer middle opening others =
-    ap messagesIn (through-own Ung head outer middle opening others ∙ ap (λ (k : Kind). k ∷ [] ▸ kinds middle) (sym opening) ∙ sym (▸-map kindOf (head ∷ []) middle))
+    ap messagesIn
+    (through-own Ung head outer middle opening others
+    ∙ ap (λ (k : Kind). k ∷ [] ▸ kinds middle) (sym opening)
+    ∙ sym (▸-map kindOf (head ∷ []) middle))
     ∙ omega (arith, number-▸ Unh (head ∷ []) middle, ap (alone Unh) opening)
 
 module _ (head : Segment) (middle : List Segment) (opening : kindOf head ≡ Unb) where
@@ -202,7 +229,8 @@ module _ (head : Segment) (middle : List Segment) (opening : kindOf head ≡ Unb
 
 -- ---- a frame is an open header, its middle and a trailer that closes it
 
-module _ {header trailer : Kind} {Middle : List Segment → Type 0} {count : List Segment → ℕ} {n : ℕ} (outer : List Segment) where
+module _ {header trailer : Kind} {Middle : List Segment → Type 0} {count : List Segment → ℕ} {n : ℕ}
+    (outer : List Segment) where
   pub framed : (head : Segment) (middle : List Segment) (tail : Segment)
       → kindOf head ≡ header → isReference (referenceOf head) ≡ true
       → Middle middle → number header middle ≡ 0 → n ≡ count middle

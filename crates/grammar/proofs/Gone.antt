@@ -68,16 +68,16 @@ module _ (s : Standing) (holds : (past : List Kind) (kind : Kind) → Inside kin
   inner past (g ∷ gs) i h =
       inner (g ∷ past) gs (and-right (isInner g) (all isInner gs) i)
       (⊎-elim (λ e. step past g h (is-eq User (kindOf g) e) (holds (kinds past) User user) tt)
-        (λ e. step past g h (is-eq Uns (kindOf g) e) (holds (kinds past) Uns section) tt)
-        (or-cases (is User (kindOf g)) (is Uns (kindOf g)) (and-left (isInner g) (all isInner gs) i)))
+      (λ e. step past g h (is-eq Uns (kindOf g) e) (holds (kinds past) Uns section) tt)
+      (or-cases (is User (kindOf g)) (is Uns (kindOf g)) (and-left (isInner g) (all isInner gs) i)))
 
   message : (past gs : List Segment) → Message gs → Allowed (kinds past) s Unh → Gone s past → Gone s (past ▸ gs)
   message past gs f a h =
       let others = inner-headers (f .middle) (f .inside) in
       subst (λ (o : Standing). Gone o (past ▸ gs)) back
       (frame past f h a (f .reference) (inner (f .head ∷ past) (f .middle) (f .inside))
-        (holds (kinds (f .head ∷ past ▸ f .middle)) Unt close-message)
-        (closes past f others (message-count (f .head) past (f .middle) (f .opening) others)))
+      (holds (kinds (f .head ∷ past ▸ f .middle)) Unt close-message)
+      (closes past f others (message-count (f .head) past (f .middle) (f .opening) others)))
 
 -- ---- messages of none
 
@@ -95,7 +95,8 @@ messages =
 
 -- ---- groups
 
-group-messages : {gs : List Segment} → OneOrMore Message gs → (past : List Segment) → Gone InGroup past → Gone InGroup (past ▸ gs)
+group-messages : {gs : List Segment} → OneOrMore Message gs
+    → (past : List Segment) → Gone InGroup past → Gone InGroup (past ▸ gs)
 unfolding next ofGroup
 group-messages =
     pieces (Gone InGroup)
@@ -131,5 +132,6 @@ pub interchange : (gs : List Segment) → Interchange gs → Gone BehindIntercha
 unfolding next standing isOpen messagesIn
 interchange gs f =
     frame [] f (none-yet, refl) open-interchange (f .reference) (content (f .head) (f .middle) (f .opening) (f .inside))
-    (close-interchange (omega (arith, all-messages (f .head) (f .middle) (f .opening), some-content (f .middle) (f .inside))))
+    (close-interchange
+    (omega (arith, all-messages (f .head) (f .middle) (f .opening), some-content (f .middle) (f .inside))))
     (closes [] f (content-interchanges (f .middle) (f .inside)) (interchange-count (f .head) (f .middle) (f .opening)))

@@ -123,7 +123,10 @@ module _ (past : List Segment) (g : Segment) where
 
   -- a segment passes exactly where none of the four tests fails
   pub passes-iff :
-      (misplaced past g ≡ false) × (badControl past g ≡ false) × (referenceDiffers past g ≡ false) × (countWrong past g ≡ false)
+      (misplaced past g ≡ false)
+      × (badControl past g ≡ false)
+      × (referenceDiffers past g ≡ false)
+      × (countWrong past g ≡ false)
       ↔ Passes past g
   unfolding controlRule referenceDiffers countWrong referenceOf countOf
   passes-iff = (

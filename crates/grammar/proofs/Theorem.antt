@@ -1,29 +1,34 @@
 -- The theorem of this crate: none of the refusals 9 to 12 is met exactly where the segments are an interchange. Assumes nothing.
 use Prim.Native.Nat.{ℕ}
 use mathlib.Core.Path.{_≡_, refl, sym, ap, _∙_, subst}
-use mathlib.Core.Logic.{_↔_}
+use native.Mathlib.Omega.{arith}
+use mathlib.Core.Logic.{_↔_, _⊎_, inl, inr, ⊎-elim}
 use mathlib.Core.Bool.{Bool, true, false, not}
 use mathlib.Core.List.{List, [], _∷_, _++_, map, cons-ne-nil}
 use lib.ListN.{length}
-use borrow.Author.Tests.{not-false}
+use lib.Dec.{eqb}
+use borrow.Author.Tests.{eq-eqb, ne-eqb}
+use Rattle.lists.specs.Lists.{if_then_else_, maybe}
+use Rattle.lists.proofs.Texts.{if-true, if-false}
 use Rattle.refusals.specs.Refusals.{placeIf}
 use Rattle.reading.specs.Tokens.{Segment}
 use Rattle.segments.specs.declared.Kind.{Kind}
 use Rattle.segments.specs.Tags.{kindOf}
-use Rattle.segments.specs.Order.{allowed, isComplete}
-use Rattle.control.specs.Control.{controlRule, referenceDiffers, countWrong}
+use Rattle.segments.specs.Order.{messagesIn, groupsIn, isComplete}
+use Rattle.control.specs.Control.{referenceDiffers, countWrong, countOf, decimal}
 use Rattle.verdict.specs.Contents.{segmentsOf, kindsOf}
 use Rattle.verdict.specs.Places.{startsWhere, misplacedSegments, badControls, differingReferences, wrongCounts}
-use Rattle.grammar.specs.Grammar.{Interchange, misplaced, badControl, Passing}
+use Rattle.grammar.specs.Grammar.{size, Group, Content, contentCount, Interchange, misplaced, badControl, Unrefused}
 use Rattle.grammar.proofs.Trail.{_▸_, ▸-map, Each, none-yet, each-map, each-both}
 use Rattle.grammar.proofs.Walk.{standing-complete}
-use Rattle.grammar.proofs.Passing.{orderly, passes-iff, each-clear, clear-each}
+use Rattle.grammar.proofs.Passing.{kinds, orderly, passes-iff, each-clear, clear-each}
+use Rattle.grammar.proofs.Frames.{messages-groups, some-groups, messages-size, groups-size}
 use Rattle.grammar.proofs.Begun.{whole}
 use Rattle.grammar.proofs.Gone.{interchange}
 
 module _ (gs : List Segment) where
-  passing-whole : Passing gs → Interchange gs
-  passing-whole h =
+  unrefused-whole : Unrefused gs → Interchange gs
+  unrefused-whole h =
       whole gs
       (each-map (λ past g passes. passes-iff past g .0 (passes .0 .0, passes .0 .1, passes .1 .0, passes .1 .1))
       (each-both (each-both (clear misplaced (h .0)) (clear badControl (h .2)))
@@ -34,8 +39,8 @@ module _ (gs : List Segment) where
           → Each (λ past g. fails past g ≡ false) ([] ▸ gs)
       clear fails none = each-clear fails [] gs none none-yet
 
-  whole-passing : Interchange gs → Passing gs
-  whole-passing f =
+  whole-unrefused : Interchange gs → Unrefused gs
+  whole-unrefused f =
       let gone = interchange gs f in (
         clear-each misplaced [] gs (each-map (λ past g h. passes-iff past g .1 h .0) (gone .0)),
         ap isComplete (sym (▸-map kindOf [] gs)) ∙ standing-complete (orderly (gone .0)) (gone .1),
@@ -45,8 +50,8 @@ module _ (gs : List Segment) where
       )
 
   -- the tests pass exactly for an interchange
-  pub passing-interchange : Passing gs ↔ Interchange gs
-  passing-interchange = (passing-whole, whole-passing)
+  pub unrefused-interchange : Unrefused gs ↔ Interchange gs
+  unrefused-interchange = (unrefused-whole, whole-unrefused)
 
 -- ---- of an input
 
@@ -60,17 +65,17 @@ both-empty [] ys h = (refl, h)
 both-empty (x ∷ xs) ys h = absurd (cons-ne-nil x (xs ++ ys) h)
 
 -- none of the refusals 9 to 12 is met exactly where the segments of the input are an interchange
-pub unrefused-interchange : (s : List ℕ)
+pub input-interchange : (s : List ℕ)
     → (misplacedSegments s ≡ []) × (badControls s ≡ []) × (differingReferences s ≡ []) × (wrongCounts s ≡ [])
     ↔ Interchange (segmentsOf s)
 unfolding misplacedSegments badControls differingReferences wrongCounts kindsOf placeIf
-unrefused-interchange s = (
+input-interchange s = (
   λ h.
-      let none = both-empty (startsWhere misplaced [] (segmentsOf s)) (placeIf (not (isComplete (kindsOf s))) (length s)) (h .0) in
-      passing-whole (segmentsOf s) (none .0, ends-nothing (isComplete (kindsOf s)) (length s) (none .1), h .1, h .2, h .3),
+      let end = placeIf (not (isComplete (kindsOf s))) (length s) in
+      let none = both-empty (startsWhere misplaced [] (segmentsOf s)) end (h .0) in
+      unrefused-whole (segmentsOf s) (none .0, ends-nothing (isComplete (kindsOf s)) (length s) (none .1), h .1, h .2, h .3),
   λ f.
-      let h = whole-passing (segmentsOf s) f in
-      (
+      let h = whole-unrefused (segmentsOf s) f in (
         ap (λ (l : List ℕ). l ++ placeIf (not (isComplete (kindsOf s))) (length s)) (h .0)
             ∙ ap (λ (b : Bool). placeIf (not b) (length s)) (h .1),
         h .2,
@@ -78,3 +83,26 @@ unrefused-interchange s = (
         h .4,
       ),
 )
+
+-- ---- what the counts are
+
+-- "UNE's is the messages of the group"
+pub group-counts : {gs : List Segment} (f : Group gs) → maybe 0 decimal (countOf (f .tail)) ≡ size (f .inside)
+unfolding messagesIn
+group-counts f = f .right-count ∙ messages-size (f .inside)
+
+-- "UNZ's is the groups, or the messages where there are no groups."
+content-counts : (gs : List Segment) (h : Content gs) → contentCount (kinds gs) ≡ ⊎-elim size size h
+unfolding messagesIn groupsIn
+content-counts gs (inl h) =
+    if-false (eqb (groupsIn (kinds gs)) 0) (messagesIn (kinds gs)) (groupsIn (kinds gs))
+    (ne-eqb (groupsIn (kinds gs)) 0 (λ e. omega (arith, some-groups gs h, e)))
+    ∙ groups-size h
+content-counts gs (inr h) =
+    if-true (eqb (groupsIn (kinds gs)) 0) (messagesIn (kinds gs)) (groupsIn (kinds gs))
+    (eq-eqb (groupsIn (kinds gs)) 0 (messages-groups gs h))
+    ∙ messages-size h
+
+pub interchange-counts : {gs : List Segment} (f : Interchange gs)
+    → maybe 0 decimal (countOf (f .tail)) ≡ ⊎-elim size size (f .inside)
+interchange-counts f = f .right-count ∙ content-counts (f .middle) (f .inside)

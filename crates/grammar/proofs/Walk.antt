@@ -50,6 +50,7 @@ pub data Inside : Kind → Type 0 where
   section : Inside Uns
   close-message : Inside Unt
 
+-- the kinds that are allowed where the check stands, with what must have passed
 pub data Allowed (past : List Kind) : Standing → Kind → Type 0 where
   open-interchange : Allowed past BeforeInterchange Unb
   open-group : (0 < groupsIn past) ⊎ (messagesIn past ≡ 0) → Allowed past BetweenGroups Ung
@@ -60,26 +61,28 @@ pub data Allowed (past : List Kind) : Standing → Kind → Type 0 where
   in-group-message : {kind : Kind} → Inside kind → Allowed past InGroupMessage kind
   in-message : {kind : Kind} → Inside kind → Allowed past InMessage kind
 
+-- a kind that has to be one of which something holds
+named : (Holds : Kind → Type 0) (kind other : Kind) → Holds kind → is kind other ≡ true → Holds other
+named Holds kind other held h = subst Holds (sym (is-eq kind other h)) held
+
+-- and with it something else
+guarded : (Holds : Kind → Type 0) (kind other : Kind) (t : Bool) → (t ≡ true → Holds kind)
+    → (is kind other && t) ≡ true → Holds other
+guarded Holds kind other t held h =
+    named Holds kind other (held (and-right (is kind other) t h)) (and-left (is kind other) t h)
+
 inside-from : (kind : Kind) → insideMessage kind ≡ true → Inside kind
 unfolding insideMessage
 inside-from kind h =
     ⊎-elim
-    (λ a. ⊎-elim (λ b. subst Inside (sym (is-eq User kind b)) user)
-    (λ b. subst Inside (sym (is-eq Uns kind b)) section) (or-cases (is User kind) (is Uns kind) a))
-    (λ a. subst Inside (sym (is-eq Unt kind a)) close-message)
-    (or-cases (is User kind || is Uns kind) (is Unt kind) h)
+    (λ a. ⊎-elim (named Inside User kind user) (named Inside Uns kind section) (or-cases (is User kind) (is Uns kind) a))
+    (named Inside Unt kind close-message) (or-cases (is User kind || is Uns kind) (is Unt kind) h)
 
 inside-test : {kind : Kind} → Inside kind → insideMessage kind ≡ true
 unfolding insideMessage is
 inside-test user = refl
 inside-test section = refl
 inside-test close-message = refl
-
--- a kind that has to be one of which something holds
-guarded : (Holds : Kind → Type 0) (kind other : Kind) (t : Bool) → (is kind other && t) ≡ true
-    → (t ≡ true → Holds kind) → Holds other
-guarded Holds kind other t h f =
-    subst Holds (sym (is-eq kind other (and-left (is kind other) t h))) (f (and-right (is kind other) t h))
 
 or-left : (a b : Bool) → a ≡ true → (a || b) ≡ true
 or-left true b h = refl
@@ -90,6 +93,7 @@ or-right true b h = refl
 or-right false b h = h
 
 module _ (past : List Kind) where
+  -- groups have begun, or nothing has
   groupsFollow : Bool
   groupsFollow = ltb 0 (groupsIn past) || eqb (messagesIn past) 0
 
@@ -107,27 +111,34 @@ module _ (past : List Kind) where
   -- what the test allows is allowed
   pub allowed-from : (s : Standing) (kind : Kind) → allowedAt s past kind ≡ true → Allowed past s kind
   unfolding allowedAt groupsFollow
-  allowed-from BeforeInterchange kind h = subst (Allowed past BeforeInterchange) (sym (is-eq Unb kind h)) open-interchange
+  allowed-from BeforeInterchange kind h = named (Allowed past BeforeInterchange) Unb kind open-interchange h
   allowed-from BetweenGroups kind h =
-      ⊎-elim
-      (λ a.
-      ⊎-elim (λ b. guarded At Ung kind groupsFollow b (λ c. open-group (groups-follow c)))
-      (λ b. guarded At Unh kind noGroups b (λ c. open-message (eqb-true (groupsIn past) 0 c)))
-      (or-cases (is Ung kind && groupsFollow) (is Unh kind && noGroups) a))
-      (λ a. guarded At Unz kind (ltb 0 (messagesIn past)) a (λ c. close-interchange (ltb-true 0 (messagesIn past) c)))
-      (or-cases ((is Ung kind && groupsFollow) || (is Unh kind && noGroups)) (is Unz kind && ltb 0 (messagesIn past)) h)
+      ⊎-elim (λ a. ⊎-elim ung unh (or-cases (is Ung kind && groupsFollow) (is Unh kind && noGroups) a)) unz
+      (or-cases ((is Ung kind && groupsFollow) || (is Unh kind && noGroups)) (is Unz kind && someMessages) h)
     where
-      At : Kind → Type 0
-      At = Allowed past BetweenGroups
-
       noGroups : Bool
       noGroups = eqb (groupsIn past) 0
+
+      someMessages : Bool
+      someMessages = ltb 0 (messagesIn past)
+
+      ung : (is Ung kind && groupsFollow) ≡ true → Allowed past BetweenGroups kind
+      ung = guarded (Allowed past BetweenGroups) Ung kind groupsFollow (λ t. open-group (groups-follow t))
+
+      unh : (is Unh kind && noGroups) ≡ true → Allowed past BetweenGroups kind
+      unh = guarded (Allowed past BetweenGroups) Unh kind noGroups (λ t. open-message (eqb-true (groupsIn past) 0 t))
+
+      unz : (is Unz kind && someMessages) ≡ true → Allowed past BetweenGroups kind
+      unz = guarded (Allowed past BetweenGroups) Unz kind someMessages (λ t. close-interchange (ltb-true 0 (messagesIn past) t))
   allowed-from InGroup kind h =
-      ⊎-elim (λ a. subst (Allowed past InGroup) (sym (is-eq Unh kind a)) open-group-message)
-      (λ a.
-      guarded (Allowed past InGroup) Une kind (ltb 0 (messagesSinceGroup past)) a
-      (λ b. close-group (ltb-true 0 (messagesSinceGroup past) b)))
-      (or-cases (is Unh kind) (is Une kind && ltb 0 (messagesSinceGroup past)) h)
+      ⊎-elim (named (Allowed past InGroup) Unh kind open-group-message) une
+      (or-cases (is Unh kind) (is Une kind && someMessages) h)
+    where
+      someMessages : Bool
+      someMessages = ltb 0 (messagesSinceGroup past)
+
+      une : (is Une kind && someMessages) ≡ true → Allowed past InGroup kind
+      une = guarded (Allowed past InGroup) Une kind someMessages (λ t. close-group (ltb-true 0 (messagesSinceGroup past) t))
   allowed-from InGroupMessage kind h = in-group-message (inside-from kind h)
   allowed-from InMessage kind h = in-message (inside-from kind h)
   allowed-from BehindInterchange kind h = absurd (false≢true h)
@@ -170,7 +181,7 @@ next s User = s
 abbrev pub Orderly : List Kind → Type 0
 Orderly past = Each (λ before kind. allowed before kind ≡ true) past
 
--- what is open: the interchange is ended; a message, a group, the interchange is open
+-- the interchange is ended; a message, a group, the interchange is open
 abbrev Flags : List Kind → Bool → Bool → Bool → Bool → Type 0
 Flags past ended message group interchange =
     (isOpen Unz Unb past ≡ ended)
@@ -202,7 +213,8 @@ stands-standing InGroupMessage past f = λ i. standingOf (f .0 i) (f .1 i) (f .2
 stands-standing InMessage past f = λ i. standingOf (f .0 i) (f .1 i) (f .2 i) (f .3 i)
 stands-standing BehindInterchange past f = λ i. standingOf (f .0 i) (f .1 i) (f .2 i) (f .3 i)
 
-stands-next : {s : Standing} {past : List Kind} {kind : Kind} → Allowed past s kind → Stands s past → Stands (next s kind) (kind ∷ past)
+stands-next : {s : Standing} {past : List Kind} {kind : Kind}
+    → Allowed past s kind → Stands s past → Stands (next s kind) (kind ∷ past)
 unfolding next ofGroup isOpen is
 stands-next open-interchange f = (refl, f .1, f .2, refl)
 stands-next (open-group h) f = (f .0, f .1, refl, f .3)
@@ -224,7 +236,8 @@ stands none-yet = (refl, refl, refl, refl)
 stands (passed {past} {x} h hs) = step (stands-next (allowed-from past (standing past) x h) (stands hs))
   where
     step : Stands (next (standing past) x) (x ∷ past) → Stands (standing (x ∷ past)) (x ∷ past)
-    step f = subst (λ (s : Standing). Stands s (x ∷ past)) (sym (stands-standing (next (standing past) x) (x ∷ past) f)) f
+    step f =
+        subst (λ (s : Standing). Stands s (x ∷ past)) (sym (stands-standing (next (standing past) x) (x ∷ past) f)) f
 
 -- the step of the standing
 pub standing-next : {past : List Kind} (kind : Kind) → Orderly past → allowed past kind ≡ true
@@ -273,7 +286,8 @@ in-message-next : (kind : Kind) (past : List Kind)
 unfolding segmentsSinceHeader segmentsIn through
 in-message-next kind past = step (is Unh kind)
   where
-    step : (b : Bool) → suc (length (if b then [] else through (is Unh) past)) ≡ (if b then 1 else length (through (is Unh) past) + 1)
+    step : (b : Bool)
+        → suc (length (if b then [] else through (is Unh) past)) ≡ (if b then 1 else length (through (is Unh) past) + 1)
     step true = refl
     step false = sym (add-one (length (through (is Unh) past)))
 

@@ -17,7 +17,8 @@ use Rattle.control.specs.Control.{isReference, isCount, referenceOf, countOf, d
 use Rattle.verdict.specs.Places.{startsWhere}
 
 -- A header, a middle and a trailer. The trailer's reference is its header's, and its count is that of the middle.
-pub record Frame (header trailer : Kind) (Middle : List Segment → Type 0) (count : List Segment → ℕ) (gs : List Segment) : Type 0 where
+pub record Frame
+    (header trailer : Kind) (Middle : List Segment → Type 0) (count : List Segment → ℕ) (gs : List Segment) : Type 0 where
   pub head : Segment
   pub middle : List Segment
   pub tail : Segment
@@ -34,6 +35,11 @@ pub record Frame (header trailer : Kind) (Middle : List Segment → Type 0) (cou
 pub data OneOrMore (Piece : List Segment → Type 0) : List Segment → Type 0 where
   one : {piece : List Segment} → Piece piece → OneOrMore Piece piece
   more : {before piece : List Segment} → OneOrMore Piece before → Piece piece → OneOrMore Piece (before ++ piece)
+
+-- how many pieces
+unfoldable pub size : {Piece : List Segment → Type 0} {gs : List Segment} → OneOrMore Piece gs → ℕ
+size (one h) = 1
+size (more hs h) = size hs + 1
 
 -- "user segments and UNS"
 unfoldable pub isInner : Segment → Bool
@@ -75,8 +81,8 @@ abbrev pub badControl : List Segment → Segment → Bool
 badControl past g = not (controlRule g)
 
 -- no segment meets one of the refusals 9 to 12, and the end is not before UNZ
-abbrev pub Passing : List Segment → Type 0
-Passing gs =
+abbrev pub Unrefused : List Segment → Type 0
+Unrefused gs =
     (startsWhere misplaced [] gs ≡ [])
     × (isComplete (reverse (map kindOf gs)) ≡ true)
     × (startsWhere badControl [] gs ≡ [])
