@@ -1,13 +1,12 @@
 -- From the tests to the grammar: what has passed is an interchange that has begun, with the headers that are still open, and
 -- behind UNZ it is an interchange. What passed is a list of segments, the nearest first. Assumes nothing.
-use Prim.Native.Nat.{ℕ, _<_}
+use Prim.Native.Nat.{_<_}
 use native.Mathlib.Omega.{arith}
 use mathlib.Core.Path.{_≡_, refl, sym, ap, _∙_, subst}
-use mathlib.Core.Logic.{_⊎_, inl, inr, ⊎-elim}
-use mathlib.Core.Bool.{Bool, true, false, _&&_, _||_}
-use mathlib.Core.List.{List, [], _∷_, _++_, map, append-nil}
-use lib.ListN.{length}
-use Rattle.lists.specs.Lists.{if_then_else_, all, those}
+use mathlib.Core.Logic.{_⊎_, inl, inr}
+use mathlib.Core.Bool.{true, _&&_, _||_}
+use mathlib.Core.List.{List, [], _∷_, _++_, append-nil}
+use Rattle.lists.specs.Lists.{all, those}
 use Rattle.lists.proofs.Texts.{and-both, all-append}
 use Rattle.reading.specs.Tokens.{Segment}
 use Rattle.segments.specs.declared.Kind.{Kind}
@@ -16,11 +15,11 @@ use Rattle.segments.specs.declared.Standing.{Standing}
 use Rattle.segments.specs.declared.Standing.the-variants.{BeforeInterchange, BetweenGroups, InGroup, InGroupMessage, InMessage, BehindInterchange}
 use Rattle.segments.specs.Kinds.{is}
 use Rattle.segments.specs.Tags.{kindOf}
-use Rattle.segments.specs.Order.{segmentsSinceHeader, messagesSinceGroup, messagesIn, groupsIn, isOpen, allowed, standing, isComplete}
-use Rattle.control.specs.Control.{isReference, referenceOf, countOf}
+use Rattle.segments.specs.Order.{messagesSinceGroup, messagesIn, groupsIn, isOpen, allowed, standing, isComplete}
+use Rattle.control.specs.Control.{isReference, referenceOf}
 use Rattle.grammar.specs.Grammar.{OneOrMore, one, more, isInner, Inner, Message, Group, Content, Interchange}
-use Rattle.grammar.proofs.Trail.{_▸_, ▸-append, ▸-back, Each, none-yet, passed, each-map}
-use Rattle.grammar.proofs.Walk.{Inside, user, section, close-message, Allowed, open-interchange, open-group, open-message, close-interchange, open-group-message, close-group, in-group-message, in-message, allowed-from, ofGroup, next, Orderly, standing-next, complete-standing}
+use Rattle.grammar.proofs.Trail.{_▸_, ▸-append, ▸-back, Each, none-yet, passed}
+use Rattle.grammar.proofs.Walk.{user, section, close-message, Allowed, open-interchange, open-group, open-message, close-interchange, open-group-message, close-group, in-group-message, in-message, allowed-from, ofGroup, next, standing-next, complete-standing}
 use Rattle.grammar.proofs.Passing.{kinds, Says, Passes, orderly}
 use Rattle.grammar.proofs.Frames.{inner-headers, messages-groups, content-interchanges, some-messages, some-groups, message-count, group-count, all-messages, all-groups, interchange-count, framed}
 

@@ -3,20 +3,20 @@
 use Prim.Native.Nat.{ℕ}
 use mathlib.Core.Path.{_≡_, refl, sym, ap, _∙_}
 use mathlib.Core.Logic.{_↔_}
-use mathlib.Core.Bool.{Bool, true, false, not, _&&_, _||_, false≢true}
+use mathlib.Core.Bool.{Bool, true, false, not, _&&_, false≢true}
 use mathlib.Core.List.{List, [], _∷_, _++_, map, cons-ne-nil}
 use mathlib.Core.Option.{Option, none, some}
 use lib.Dec.{eqb}
 use borrow.Author.Tests.{eqb-true, eq-eqb, not-false}
-use Rattle.lists.specs.Lists.{if_then_else_, same, first, maybe}
+use Rattle.lists.specs.Lists.{first, maybe}
 use Rattle.lists.proofs.Texts.{and-left, and-right, and-both, same-eq, same-refl}
 use Rattle.refusals.specs.Refusals.{placeIf}
 use Rattle.reading.specs.Tokens.{Segment, start}
 use Rattle.segments.specs.declared.Kind.{Kind}
 use Rattle.segments.specs.declared.Kind.the-variants.{Unb, Ung, Unh, Uns, Unt, Une, Unz, User}
-use Rattle.segments.specs.Kinds.{index, is}
+use Rattle.segments.specs.Kinds.{is}
 use Rattle.segments.specs.Tags.{kindOf}
-use Rattle.segments.specs.Order.{segmentsSinceHeader, messagesSinceGroup, messagesIn, groupsIn, allowed}
+use Rattle.segments.specs.Order.{segmentsSinceHeader, messagesSinceGroup, allowed}
 use Rattle.control.specs.Positions.{positionTable, positionsOf}
 use Rattle.control.specs.Control.{controlElement, isReference, isCount, standsWell, controlRule, headerOf, referenceOf, sameValue, referenceDiffers, decimal, trueCount, countOf, countWrong}
 use Rattle.verdict.specs.Places.{startsWhere}

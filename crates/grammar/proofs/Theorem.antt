@@ -1,18 +1,17 @@
 -- The theorem of this crate: none of the refusals 9 to 12 is met exactly where the segments are an interchange. Assumes nothing.
 use Prim.Native.Nat.{ℕ}
-use mathlib.Core.Path.{_≡_, refl, sym, ap, _∙_, subst}
+use mathlib.Core.Path.{_≡_, refl, sym, ap, _∙_}
 use native.Mathlib.Omega.{arith}
-use mathlib.Core.Logic.{_↔_, _⊎_, inl, inr, ⊎-elim}
+use mathlib.Core.Logic.{_↔_, inl, inr, ⊎-elim}
 use mathlib.Core.Bool.{Bool, true, false, not}
-use mathlib.Core.List.{List, [], _∷_, _++_, map, cons-ne-nil}
+use mathlib.Core.List.{List, [], _∷_, _++_, cons-ne-nil}
 use lib.ListN.{length}
 use lib.Dec.{eqb}
 use borrow.Author.Tests.{eq-eqb, ne-eqb}
-use Rattle.lists.specs.Lists.{if_then_else_, maybe}
+use Rattle.lists.specs.Lists.{maybe}
 use Rattle.lists.proofs.Texts.{if-true, if-false}
 use Rattle.refusals.specs.Refusals.{placeIf}
 use Rattle.reading.specs.Tokens.{Segment}
-use Rattle.segments.specs.declared.Kind.{Kind}
 use Rattle.segments.specs.Tags.{kindOf}
 use Rattle.segments.specs.Order.{messagesIn, groupsIn, isComplete}
 use Rattle.control.specs.Control.{referenceDiffers, countWrong, countOf, decimal}

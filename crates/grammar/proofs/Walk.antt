@@ -1,7 +1,6 @@
 -- The walk over the kinds of segments (paper 01, "Order of segments"), step by step: which kind is allowed where, where the
 -- check stands behind it, and what it has counted. What passed is a list of kinds, the nearest first. Assumes nothing.
-use Prim.Native.Nat.{ℕ, zero, suc, _+_, _<_}
-use native.Mathlib.Omega.{arith}
+use Prim.Native.Nat.{ℕ, suc, _+_, _<_}
 use native.Mathlib.Numerals.{add-one}
 use mathlib.Core.Path.{_≡_, refl, sym, ap, _∙_, subst}
 use mathlib.Core.Logic.{_⊎_, inl, inr, ⊎-elim}
