@@ -1,0 +1,7 @@
+pub mod Trail
+pub mod Walk
+pub mod Passing
+pub mod Frames
+pub mod Begun
+pub mod Gone
+pub mod Theorem
