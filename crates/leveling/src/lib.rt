@@ -1,0 +1,45 @@
+// Stage 8 (paper 01, "Levels"): every byte of every value is in the level. It promises the walk of
+// `machines` over the tokens from a place on.
+ghost use mathlib.Core.Path.{_≡_};
+ghost use Prim.Native.Nat.{_≤_};
+ghost use Rattle.refusals.specs.Refusals.{outcome};
+ghost use Rattle.reading.proofs.Steps.{tokensAt};
+ghost use Rattle.levels.specs.Levels.{classTable};
+ghost use Rattle.machines.specs.Walks.{leveled};
+use characters::Characters;
+use refusals::Fault;
+use refusals::Outcome;
+use refusals::Refusal;
+use scanner::Lexed;
+use scanner::lex;
+
+// The table is lent, so that it is not made anew for each byte.
+pub fn in_level(s: &[u8], c: Characters, classes: &[u8; 256], level: u8, start: usize) -> Outcome
+    requires { ⌜ now classes ≡ classTable ⌝ }
+    ensures { λ r. ⌜ r ≡ outcome (leveled level (tokensAt c (now (s .entry)) start)) ⌝ }
+{
+    let mut at = start;
+    loop {
+        match lex(s, c, at) {
+            Lexed::Byte { byte, place, next } => {
+                let i = byte as usize;
+                if classes[i] < level {
+                    return Outcome::Failed(Refusal {
+                        fault: Fault::OutsideLevel,
+                        place,
+                    });
+                }
+                at = next;
+            }
+            Lexed::Separator { kind: _, next } => {
+                at = next;
+            }
+            Lexed::Stray { next } => {
+                at = next;
+            }
+            Lexed::End => {
+                return Outcome::Passed;
+            }
+        }
+    }
+}
