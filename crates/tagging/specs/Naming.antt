@@ -1,0 +1,12 @@
+-- The rule for tags, over the tag's bytes. Assumes nothing.
+use Prim.Native.Nat.{ℕ}
+use mathlib.Core.Bool.{Bool, not, _&&_, _||_}
+use mathlib.Core.List.{List}
+use Rattle.lists.specs.Lists.{text, begins}
+use Rattle.segments.specs.declared.Kind.the-variants.{User}
+use Rattle.segments.specs.Kinds.{is, kindNamed}
+use Rattle.segments.specs.Tags.{isTag}
+
+-- the tag keeps the rule, if it is known whether it is its element's only value
+unfoldable pub wellNamed : List ℕ → Bool → Bool
+wellNamed tag alone = isTag tag && (not (begins (text "UN") tag) || (not (is User (kindNamed tag)) && alone))
