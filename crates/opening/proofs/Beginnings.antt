@@ -1,0 +1,89 @@
+-- How an input begins: a text stands at a place exactly where its bytes stand there, one behind the other. Assumes nothing.
+use Prim.Native.Nat.{ℕ, _+_, _≤_, _<_, zero-le, suc-le-suc}
+use mathlib.Core.Path.{_≡_, refl, sym, ap, _∙_}
+use mathlib.Core.Bool.{Bool, true, false, _&&_, and-assoc, and-true, false≢true}
+use mathlib.Core.List.{List, [], _∷_, _++_}
+use lib.ListN.{length, getD, drop, drop-of-length-le}
+use lib.Seq.{drop-cons, drop-drop, getD-drop}
+use lib.Dec.{eqb, lit≤}
+use Rattle.lists.specs.Lists.{if_then_else_, text, begins}
+use Rattle.lists.proofs.Texts.{and-right}
+use Rattle.characters.specs.declared.Characters.{Characters}
+use Rattle.characters.specs.Characters.{sixBytes, advised, plusCharacters, controlCharacters, charactersOf, bodyStart, body, opens}
+
+-- a text in two parts: the second stands behind the first
+pub begins-append : (ps qs xs : List ℕ) → begins (ps ++ qs) xs ≡ (begins ps xs && begins qs (drop (length ps) xs))
+unfolding begins
+begins-append [] qs xs = refl
+begins-append (p ∷ ps) qs [] = refl
+begins-append (p ∷ ps) qs (x ∷ xs) =
+    ap (λ (t : Bool). eqb p x && t) (begins-append ps qs xs) ∙ sym (and-assoc (eqb p x) (begins ps xs) (begins qs (drop (length ps) xs)))
+
+-- what begins with a text is as long as the text
+pub begins-length : (ps xs : List ℕ) → begins ps xs ≡ true → length ps ≤ length xs
+unfolding begins
+begins-length [] xs h = zero-le
+begins-length (p ∷ ps) [] h = absurd (false≢true h)
+begins-length (p ∷ ps) (x ∷ xs) h = suc-le-suc (begins-length ps xs (and-right (eqb p x) (begins ps xs) h))
+
+module _ (s : List ℕ) (at : ℕ) where
+  -- the same, from a place of the input on
+  pub begins-at : (ps qs : List ℕ) → begins (ps ++ qs) (drop at s) ≡ (begins ps (drop at s) && begins qs (drop (at + length ps) s))
+  begins-at ps qs =
+      begins-append ps qs (drop at s) ∙ ap (λ (l : List ℕ). begins ps (drop at s) && begins qs l) (drop-drop (length ps) at s)
+
+  -- `UN` and a third byte, each asked for at its own place
+  pub begins-tag : (third : ℕ) {u n t : Bool} → u ≡ begins (85 ∷ []) (drop at s) → n ≡ begins (78 ∷ []) (drop (at + 1) s)
+      → t ≡ begins (third ∷ []) (drop (at + 2) s) → (u && n && t) ≡ begins (85 ∷ 78 ∷ third ∷ []) (drop at s)
+  begins-tag third e f g = cc (begins-at (85 ∷ 78 ∷ []) (third ∷ []), begins-at (85 ∷ []) (78 ∷ []), e, f, g)
+
+  module _ (b : ℕ) where
+    -- no byte stands behind the last
+    pub stands-none : length s ≤ at → begins (b ∷ []) (drop at s) ≡ false
+    unfolding begins
+    stands-none h = ap (begins (b ∷ [])) (drop-of-length-le s h)
+
+    pub stands-byte : at < length s → begins (b ∷ []) (drop at s) ≡ eqb b (getD s at 0)
+    unfolding begins
+    stands-byte h = ap (begins (b ∷ [])) (drop-cons s at 0 h) ∙ and-true (eqb b (getD s at 0))
+
+-- ---- what an input uses
+
+module _ (s : List ℕ) where
+  -- the six bytes of an advice stand behind `UNA`
+  pub characters-advised : advised s ≡ true
+      → record { component = getD s 3 0; element = getD s 4 0; mark = getD s 5 0; release = getD s 6 0; reserved = getD s 7 0; terminator = getD s 8 0 }
+      ≡ charactersOf s
+  unfolding charactersOf sixBytes
+  characters-advised e = simp (e, getD-drop)
+
+  pub characters-plus : advised s ≡ false → begins (text "UNB+") s ≡ true → plusCharacters ≡ charactersOf s
+  unfolding charactersOf
+  characters-plus e f = simp (e, f)
+
+  pub characters-control : advised s ≡ false → begins (text "UNB+") s ≡ false → controlCharacters ≡ charactersOf s
+  unfolding charactersOf
+  characters-control e f = simp (e, f)
+
+  pub start-advised : advised s ≡ true → 9 ≡ bodyStart s
+  unfolding bodyStart
+  start-advised e = simp e
+
+  pub start-plain : advised s ≡ false → 0 ≡ bodyStart s
+  unfolding bodyStart
+  start-plain e = simp e
+
+  pub start-small : bodyStart s ≤ 9
+  unfolding bodyStart
+  start-small = step (advised s)
+    where
+      step : (t : Bool) → (if t then 9 else 0) ≤ 9
+      step true = lit≤ tt
+      step false = lit≤ tt
+
+  -- the body's opening, asked for as `UNB` and the byte behind it
+  pub opens-tests : {start : ℕ} {c : Characters} {tag separator : Bool} → start ≡ bodyStart s → c ≡ charactersOf s
+      → tag ≡ begins (text "UNB") (drop start s) → separator ≡ begins (c .element ∷ []) (drop (start + 3) s) → (tag && separator) ≡ opens s
+  unfolding opens body
+  opens-tests e f g h =
+      cc (begins-at s (bodyStart s) (text "UNB") (charactersOf s .element ∷ []), e, f, g, h)

@@ -1,0 +1,3 @@
+pub mod Beginnings
+pub mod Openings
+pub mod Usable

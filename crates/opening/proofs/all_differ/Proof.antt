@@ -1,0 +1,17 @@
+-- `opening::all_differ` meets its contract: each of the four is held against those behind it. Assumes nothing.
+use Rattle.opening.proofs.Usable.{all-differ-tests}
+use borrow.Author.Needs.{needs}
+use Rattle.opening.proofs.all_differ.Statement.{statement}
+use Rattle.opening.proofs.all_differ.Tie as tie
+use Rattle.opening.proofs.all_differ.Reads as reads
+use Rattle.opening.proofs.all_differ.Lts as lts
+use Rattle.opening.proofs.differs.Reads as differs-reads
+
+differs-requires : tie.Need-differs-requires
+differs-requires c κs = search needs
+
+returns : tie.Need-returns
+returns c = all-differ-tests _ _ _ _ (c .differs .ensures)
+
+pub all-differ-spec : {M : Type 1} → statement M
+all-differ-spec = tie.close (tie.spec differs-requires returns)

@@ -1,0 +1,14 @@
+-- `opening::is_between` meets its contract: it makes the definition's two tests. Assumes nothing.
+use mathlib.Core.Path.{refl}
+use Rattle.characters.specs.Characters.{between}
+use Rattle.opening.proofs.is_between.Statement.{statement}
+use Rattle.opening.proofs.is_between.Tie as tie
+use Rattle.opening.proofs.is_between.Reads as reads
+use Rattle.opening.proofs.is_between.Lts as lts
+
+returns : tie.Need-returns
+unfolding between
+returns c = refl
+
+pub is-between-spec : {M : Type 1} → statement M
+is-between-spec = tie.close (tie.spec returns)
