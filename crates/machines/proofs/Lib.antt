@@ -1,0 +1,4 @@
+pub mod Rows
+pub mod Rising
+pub mod Segments
+pub mod Walks
