@@ -5,21 +5,28 @@ use mathlib.Core.Bool.{Bool, true, false, not}
 use mathlib.Core.List.{List, [], _∷_, _++_, map, List·Memᴰ·not-nil}
 use mathlib.Core.Option.{Option, none, some}
 use lib.ListN.{length}
+use lib.Dec.{lit≤}
 use native.Mathlib.Omega.{arith}
 use Rattle.lists.specs.Lists.{if_then_else_, gather}
+use Rattle.lists.proofs.Texts.{if-false}
 use Rattle.refusals.specs.declared.Fault.{Fault}
 use Rattle.refusals.specs.declared.Fault.the-variants.{StrayRelease, UnendedSegment, BrokenTag, OutsideLevel, MisplacedSegment, BadControl, ReferenceDiffers, CountWrong}
 use Rattle.refusals.specs.declared.Refusal.{Refusal}
-use Rattle.refusals.specs.Refusals.{Stage, met, placeIf, lowerOf, lowest, orElse}
+use Rattle.refusals.specs.Refusals.{number, Stage, met, placeIf, isLower, lowerOf, lowest, orElse}
+use Rattle.refusals.proofs.Order.{key, not-lower}
+use Rattle.refusals.proofs.Lowest.{merge, merge-none, lowest-append, lowest-gather-three}
+use Rattle.refusals.proofs.Stages.{met-append}
 use Rattle.reading.specs.Tokens.{Token, byte, separator, fault, Segment, segments, start, placeOf}
 use Rattle.levels.specs.Levels.{inLevel}
 use Rattle.segments.specs.Tags.{kindOf}
 use Rattle.segments.specs.Order.{allowed, isComplete}
+use Rattle.control.specs.Control.{controlRule, referenceDiffers, countWrong}
 use Rattle.verdict.specs.Contents.{bodyTokens, segmentsOf, kindsOf}
-use Rattle.verdict.specs.Places.{level, placeOutside, outsideLevel, misplacedSegments}
-use Rattle.machines.specs.Walks.{refuse, firstIn, leveled, orderedSegment, ordered}
-use Rattle.machines.proofs.Rows.{Within, firstOf, lowest-row, lowest-if, if-within, met-gather}
-use Rattle.machines.proofs.Rising.{lastPlace, Lies, body-rises, segments-rise}
+use Rattle.verdict.specs.Places.{startsWhere, level, placeOutside, outsideLevel, misplacedSegments, badControls, differingReferences, wrongCounts}
+use Rattle.machines.specs.Walks.{refuse, firstIn, leveled, orderedSegment, ordered, controlledSegment, controlled}
+use Rattle.machines.proofs.Rows.{Within, firstOf, lowest-row, lowest-if, if-within, append-within, met-gather}
+use Rattle.machines.proofs.Rising.{lastPlace, Lies, Spans, body-rises, segments-rise}
+use Rattle.machines.proofs.Segments.{Passed, withPast, failing, met-starts, lowest-segments, lowest-ended}
 
 -- ---- 8
 
@@ -50,3 +57,98 @@ module _ (s : List ℕ) where
       ap lowest (met-gather OutsideLevel (placeOutside s) (bodyTokens s))
       ∙ lowest-row Lies (λ t. met OutsideLevel (placeOutside s t)) outside-within (body-rises s)
       ∙ first-outside (bodyTokens s)
+
+-- ---- 9
+
+-- what a test meets in a segment lies in the segment
+failing-within : (f : Fault) (fails : List Segment → Segment → Bool) (low high : ℕ) (p : Passed)
+    → Spans low high (p .1) → Within low high (failing f fails p)
+failing-within f fails low high p (from, to, rises) = if-within f (fails (p .0) (p .1)) (start (p .1)) from to
+
+-- of a test that is refused where it fails
+if-not : (t : Bool) (o : Option Refusal) → (if not t then o else none) ≡ (if t then none else o)
+if-not true o = refl
+if-not false o = refl
+
+module _ (s : List ℕ) where
+  pub ordered-answers : lowest (met MisplacedSegment (misplacedSegments s)) ≡ ordered (length s) (bodyTokens s)
+  unfolding misplacedSegments ordered segmentsOf kindsOf orderedSegment
+  ordered-answers =
+      ap lowest (met-append MisplacedSegment (startsWhere misplaced [] (segmentsOf s)) (placeIf incomplete (length s))
+      ∙ ap (λ (l : Stage). l ++ met MisplacedSegment (placeIf incomplete (length s))) (met-starts MisplacedSegment misplaced [] (segmentsOf s)))
+      ∙ lowest-ended (failing MisplacedSegment misplaced) orderedSegment (failing-within MisplacedSegment misplaced) answers
+          [] MisplacedSegment incomplete (segments-rise s)
+      ∙ ap (orElse (firstIn orderedSegment [] (segmentsOf s))) (if-not (isComplete (kindsOf s)) (refuse MisplacedSegment (length s)))
+    where
+      misplaced : List Segment → Segment → Bool
+      misplaced past g = not (allowed (map kindOf past) (kindOf g))
+
+      incomplete : Bool
+      incomplete = not (isComplete (kindsOf s))
+
+      answers : (low high : ℕ) (past : List Segment) (g : Segment) → Spans low high g
+          → lowest (failing MisplacedSegment misplaced (past, g)) ≡ orderedSegment past g
+      answers low high past g spans =
+          lowest-if MisplacedSegment (misplaced past g) (start g)
+          ∙ if-not (allowed (map kindOf past) (kindOf g)) (refuse MisplacedSegment (start g))
+
+-- ---- (10 11 12)
+
+-- at one place, the fault with the lower number answers
+lower-number : (f g : Fault) (p : ℕ) (t : Bool) → number f ≤ number g → merge (refuse f p) (if t then refuse g p else none) ≡ refuse f p
+unfolding merge lowerOf key
+lower-number f g p true h =
+    let r : Refusal = record { fault = f; place = p } in
+    let q : Refusal = record { fault = g; place = p } in
+    ap some (if-false (isLower q r) q r (not-lower q r (omega arith)))
+lower-number f g p false h = refl
+
+misruled : List Segment → Segment → Bool
+misruled past g = not (controlRule g)
+
+-- what is met in a segment
+controls : Passed → Stage
+controls p = failing BadControl misruled p ++ failing ReferenceDiffers referenceDiffers p ++ failing CountWrong countWrong p
+
+control-within : (low high : ℕ) (p : Passed) → Spans low high (p .1) → Within low high (controls p)
+unfolding controls
+control-within low high p spans =
+    let bad = failing BadControl misruled p in
+    let differs = failing ReferenceDiffers referenceDiffers p in
+    append-within (bad ++ differs) (failing CountWrong countWrong p)
+    (append-within bad differs
+    (failing-within BadControl misruled low high p spans)
+    (failing-within ReferenceDiffers referenceDiffers low high p spans))
+    (failing-within CountWrong countWrong low high p spans)
+
+control-answers : (low high : ℕ) (past : List Segment) (g : Segment) → Spans low high g → lowest (controls (past, g)) ≡ controlledSegment past g
+unfolding controls misruled controlledSegment merge number
+control-answers low high past g spans = simp (lowest-append, lowest-if) (step (controlRule g) (referenceDiffers past g) (countWrong past g))
+  where
+    bad : Option Refusal
+    bad = refuse BadControl (start g)
+
+    differs : Option Refusal
+    differs = refuse ReferenceDiffers (start g)
+
+    wrong : Option Refusal
+    wrong = refuse CountWrong (start g)
+
+    step : (a b c : Bool)
+        → merge (merge (if not a then bad else none) (if b then differs else none)) (if c then wrong else none)
+        ≡ (if a then (if b then differs else if c then wrong else none) else bad)
+    step true true c = lower-number ReferenceDiffers CountWrong (start g) c (lit≤ tt)
+    step true false c = refl
+    step false b c =
+        ap (λ (o : Option Refusal). merge o (if c then wrong else none)) (lower-number BadControl ReferenceDiffers (start g) b (lit≤ tt))
+        ∙ lower-number BadControl CountWrong (start g) c (lit≤ tt)
+
+pub controlled-answers : (s : List ℕ)
+    → lowest (met BadControl (badControls s) ++ met ReferenceDiffers (differingReferences s) ++ met CountWrong (wrongCounts s))
+    ≡ controlled (bodyTokens s)
+unfolding badControls differingReferences wrongCounts misruled controlled controls segmentsOf
+controlled-answers s =
+    let gs = segmentsOf s in
+    rw (met-starts BadControl misruled [] gs, met-starts ReferenceDiffers referenceDiffers [] gs, met-starts CountWrong countWrong [] gs)
+    (lowest-gather-three (failing BadControl misruled) (failing ReferenceDiffers referenceDiffers) (failing CountWrong countWrong) (withPast [] gs)
+    ∙ lowest-segments controls controlledSegment control-within control-answers [] (segments-rise s))
