@@ -53,6 +53,18 @@ module _ {A : Type 0} (P : ℕ → ℕ → A → Type 0) (f : A → Stage) (insi
       lowest-rising (f x) (gather f xs) (λ r q m n. omega (arith, inside low next x p r m, gather-within rest q n))
       ∙ ap (orElse (lowest (f x))) (lowest-row rest)
 
+-- ---- answers one behind the other
+
+pub orElse-none : (o : Option Refusal) → orElse o none ≡ o
+unfolding orElse
+orElse-none none = refl
+orElse-none (some r) = refl
+
+pub orElse-assoc : (a b c : Option Refusal) → orElse (orElse a b) c ≡ orElse a (orElse b c)
+unfolding orElse
+orElse-assoc none b c = refl
+orElse-assoc (some r) b c = refl
+
 -- ---- what is met at one place
 
 module _ (f : Fault) where

@@ -26,7 +26,7 @@ use Rattle.verdict.specs.Places.{startsWhere, level, placeOutside, outsideLevel
 use Rattle.machines.specs.Walks.{refuse, firstIn, leveled, orderedSegment, ordered, controlledSegment, controlled}
 use Rattle.machines.proofs.Rows.{Within, firstOf, lowest-row, lowest-if, if-within, append-within, met-gather}
 use Rattle.machines.proofs.Rising.{lastPlace, Lies, Spans, body-rises, segments-rise}
-use Rattle.machines.proofs.Segments.{Passed, withPast, failing, met-starts, lowest-segments, lowest-ended}
+use Rattle.machines.proofs.Segments.{Passed, withPast, failing, failing-within, met-starts, lowest-segments, lowest-ended}
 
 -- ---- 8
 
@@ -59,11 +59,6 @@ module _ (s : List ℕ) where
       ∙ first-outside (bodyTokens s)
 
 -- ---- 9
-
--- what a test meets in a segment lies in the segment
-failing-within : (f : Fault) (fails : List Segment → Segment → Bool) (low high : ℕ) (p : Passed)
-    → Spans low high (p .1) → Within low high (failing f fails p)
-failing-within f fails low high p (from, to, rises) = if-within f (fails (p .0) (p .1)) (start (p .1)) from to
 
 -- of a test that is refused where it fails
 if-not : (t : Bool) (o : Option Refusal) → (if not t then o else none) ≡ (if t then none else o)
