@@ -1,0 +1,6 @@
+pub mod Rows
+pub mod Rising
+pub mod Segments
+pub mod Walks
+pub mod Worded
+pub mod Stages

@@ -1,0 +1,43 @@
+-- What answers for an input, as code that asks the stages one after the other: the opening, then the walks. Assumes nothing.
+use Prim.Native.Nat.{ℕ}
+use mathlib.Core.Path.{_≡_, refl, sym, ap, ap₂, _∙_}
+use mathlib.Core.List.{List, [], _∷_, _++_}
+use mathlib.Core.Option.{Option}
+use lib.ListN.{length}
+use Rattle.refusals.specs.declared.Fault.the-variants.{TooLong, UnusableAdvice, NoOpening, ForeignLevel, NormalTooLong}
+use Rattle.refusals.specs.declared.Refusal.{Refusal}
+use Rattle.refusals.specs.Refusals.{Stage, met, lowest, orElse, answering}
+use Rattle.refusals.proofs.Stages.{answering-append, answering-first}
+use Rattle.verdict.specs.Contents.{bodyTokens}
+use Rattle.verdict.specs.Places.{tooLong, unusableAdvice, noOpening, foreignLevel, level, normalTooLong}
+use Rattle.verdict.specs.Stages.{laterStages, stages, refusalOf}
+use Rattle.machines.specs.Walks.{worded, leveled, ordered, controlled}
+use Rattle.machines.proofs.Rows.{orElse-none, orElse-assoc}
+use Rattle.machines.proofs.Walks.{leveled-answers, ordered-answers, controlled-answers}
+use Rattle.machines.proofs.Worded.{worded-answers}
+
+module _ (s : List ℕ) where
+  -- what answers behind the opening
+  unfoldable pub bodyRefusal : Option Refusal
+  bodyRefusal =
+      orElse (worded (length s) (bodyTokens s))
+      (orElse (lowest (met ForeignLevel (foreignLevel s)))
+      (orElse (leveled (level s) (bodyTokens s))
+      (orElse (ordered (length s) (bodyTokens s))
+      (orElse (controlled (bodyTokens s))
+      (lowest (met NormalTooLong (normalTooLong s)))))))
+
+  -- from 3 on, as the writer asks of its text
+  pub later-stages : answering (laterStages s) ≡ orElse (lowest (met NoOpening (noOpening s))) bodyRefusal
+  unfolding laterStages answering bodyRefusal
+  later-stages =
+      ap (orElse (lowest (met NoOpening (noOpening s))))
+      (ap₂ orElse (worded-answers s) (ap (orElse (lowest (met ForeignLevel (foreignLevel s))))
+      (ap₂ orElse (leveled-answers s) (ap₂ orElse (ordered-answers s) (ap₂ orElse (controlled-answers s)
+      (orElse-none (lowest (met NormalTooLong (normalTooLong s)))))))))
+
+  -- "The first failing stage answers": 1, 2 and 3, then what answers behind them
+  pub stage-by-stage : refusalOf s
+      ≡ orElse (answering (met TooLong (tooLong s) ∷ met UnusableAdvice (unusableAdvice s) ∷ met NoOpening (noOpening s) ∷ [])) bodyRefusal
+  unfolding refusalOf stages answering orElse
+  stage-by-stage = simp (later-stages, orElse-assoc)
