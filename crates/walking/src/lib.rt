@@ -8,7 +8,12 @@ ghost use Prim.Native.Nat.{_<_, _≤_, _+_};
 ghost use mathlib.Core.List.{[]};
 ghost use Rattle.segments.specs.Order.{walkOver};
 ghost use Rattle.walking.specs.Walking.{Within, allowedBefore, allowedBetween, allowedInGroup, allowedInMessage, allowedBy, messageOpened, messageClosed, standsBehind, segmentCounted, messageCounted, groupCounted, headerCounted, steppedBy, isBehind};
-use segments::{Groups, Kind, Messages, Segments, Standing, Walk};
+use segments::Groups;
+use segments::Kind;
+use segments::Messages;
+use segments::Segments;
+use segments::Standing;
+use segments::Walk;
 
 pub fn beginning() -> Walk
     ensures { λ r. ⌜ r ≡ walkOver [] ⌝ }

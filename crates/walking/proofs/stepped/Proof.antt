@@ -15,12 +15,12 @@ segment-counted-requires : tie.Need-segment-counted-requires
 segment-counted-requires c κs = search needs
 
 header-counted-requires : tie.Need-header-counted-requires
-header-counted-requires c κs = 
+header-counted-requires c κs =
     subst⁻¹ (λ (w : Walk). (w .messages .0 ≤ 32000) × (w .groups .0 ≤ 32000) × (w .in_group .0 ≤ 32000)) (c .segment-counted .ensures)
     (c .before .before .pre .messages, c .before .before .pre .groups, c .before .before .pre .in-group)
 
 returns : tie.Need-returns
-returns c = 
+returns c =
     c .header-counted .ensures
     ∙ ap (λ (w : Walk). headerCounted w (c .before .before .before .args .kind)) (c .before .segment-counted .ensures)
     ∙ ap (λ (place : Standing). headerCounted (segmentCounted place (c .before .before .before .args .w)) (c .before .before .before .args .kind)) (c .before .before .stands .ensures)
