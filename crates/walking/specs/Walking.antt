@@ -1,14 +1,37 @@
 -- Paper 01, "Order of segments", from the walk alone: what is allowed next, and the walk behind it. Assumes nothing.
 use Prim.Native.Nat.{ℕ, _+_, _≤_}
-use mathlib.Core.Bool.{Bool, true, false, _||_}
+use mathlib.Core.Path.{_≡_}
+use mathlib.Core.Bool.{Bool, true, false, _&&_, _||_}
+use mathlib.Core.List.{List, [], _∷_}
 use lib.Dec.{eqb, ltb}
 use Rattle.segments.specs.declared.Kind.{Kind}
 use Rattle.segments.specs.declared.Kind.the-variants.{Unb, Ung, Unh, Uns, Unt, Une, Unz, User}
 use Rattle.segments.specs.declared.Standing.{Standing}
 use Rattle.segments.specs.declared.Standing.the-variants.{BeforeInterchange, BetweenGroups, InGroup, InGroupMessage, InMessage, BehindInterchange}
 use Rattle.segments.specs.declared.Walk.{Walk}
+use Rattle.segments.specs.Order.{segmentsIn, messagesIn, groupsIn, segmentsSinceHeader, messagesSinceGroup, allowed}
 
--- each of the five counters is at most n
+-- each of them was allowed where it stood
+unfoldable pub walked : List Kind → Bool
+walked [] = true
+walked (kind ∷ past) = allowed past kind && walked past
+
+-- ---- the five counters
+
+-- each is the one named
+pub record CountsAre (w : Walk) (segments messages groups in-message in-group : ℕ) : Type 0 where
+  pub segments-are : w .segments .0 ≡ segments
+  pub messages-are : w .messages .0 ≡ messages
+  pub groups-are : w .groups .0 ≡ groups
+  pub in-message-are : w .in_message .0 ≡ in-message
+  pub in-group-are : w .in_group .0 ≡ in-group
+
+-- each is that of what passed
+abbrev pub Counts : Walk → List Kind → Type 0
+Counts w past =
+    CountsAre w (segmentsIn past) (messagesIn past) (groupsIn past) (segmentsSinceHeader past) (messagesSinceGroup past)
+
+-- each is at most n
 pub record Within (n : ℕ) (w : Walk) : Type 0 where
   pub segments : w .segments .0 ≤ n
   pub messages : w .messages .0 ≤ n
