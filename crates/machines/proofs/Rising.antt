@@ -1,8 +1,7 @@
 -- The places of an input's tokens rise, and so do those of its segments. Assumes nothing.
 use Prim.Native.Nat.{ℕ, _+_, _-_, _≤_, _<_}
-use mathlib.Core.Path.{_≡_, refl, sym, ap, _∙_}
 use mathlib.Core.Bool.{Bool, true, false}
-use mathlib.Core.List.{List, [], _∷_, _++_}
+use mathlib.Core.List.{List, [], _∷_}
 use mathlib.Core.Option.{Option, none, some}
 use native.Mathlib.Nat.{le-refl}
 use native.Mathlib.Omega.{arith}
@@ -37,6 +36,7 @@ abbrev Before : ℕ → ℕ → ℕ → Option ℕ → Type 0
 Before low high place none = (low ≤ place) × (low ≤ high)
 Before low high place (some from) = (low ≤ from) × (from < place) × (place ≤ high)
 
+-- the tokens of bytes that end at `high` rise
 tokens-rise : (c : Characters) (high : ℕ) (before : Option ℕ) (place : ℕ) (bs : List ℕ) (low : ℕ)
     → Before low high place before → length bs ≤ high - place → Rising low high (tokensFrom c before place bs)
 unfolding tokensFrom unreleased releasing taken placeOf lastPlace
@@ -45,7 +45,8 @@ tokens-rise c high (some from) place [] low h fits = on low place (fault from) (
 tokens-rise c high none place (b ∷ bs) low h fits =
     step (role c b) (λ before low k. tokens-rise c high before (place + 1) bs low k (omega arith))
   where
-    step : (r : Role) → ((before : Option ℕ) (low : ℕ) → Before low high (place + 1) before → Rising low high (tokensFrom c before (place + 1) bs))
+    step : (r : Role)
+        → ((before : Option ℕ) (low : ℕ) → Before low high (place + 1) before → Rising low high (tokensFrom c before (place + 1) bs))
         → Rising low high (unreleased r b place (tokensFrom c (releasing r place) (place + 1) bs))
     step (Separator kind) rest = on low (place + 1) (separator kind place) (omega arith) (omega arith) (rest none (place + 1) (omega arith))
     step Release rest = rest (some place) low (omega arith)
@@ -59,7 +60,7 @@ tokens-rise c high (some from) place (b ∷ bs) low h fits =
     step Release rest = on low (place + 1) (byte b from place) (omega arith) (omega arith) rest
     step Plain rest = on low (place + 1) (fault from) (omega arith) (omega arith) rest
 
--- the tokens of an input's body rise, below its length
+-- the tokens of an input's body rise, below its length; where the input ends before its body would begin, there are none
 pub body-rises : (s : List ℕ) → Rising 0 (length s) (bodyTokens s)
 unfolding bodyTokens tokens body
 body-rises s =
@@ -88,6 +89,7 @@ unfolding cut
 cut-rises (end h) = end h
 cut-rises (on low next t l lies rest) = put low (ends 0 t) t l lies (cut-rises rest)
 
+-- the segments of an input go up, below its length
 pub segments-rise : (s : List ℕ) → Climbs Spans 0 (length s) (segmentsOf s)
 unfolding segmentsOf segments
 segments-rise s = cut-rises (body-rises s)

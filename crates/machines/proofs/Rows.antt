@@ -1,7 +1,7 @@
 -- A stage that is gathered along a row whose places rise answers what a walk answers that stops at the first refusal.
 -- Assumes nothing.
 use Prim.Native.Nat.{ℕ, _≤_, _<_}
-use mathlib.Core.Path.{_≡_, refl, sym, ap, _∙_}
+use mathlib.Core.Path.{_≡_, refl, ap, _∙_}
 use mathlib.Core.Bool.{Bool, true, false}
 use mathlib.Core.List.{List, [], _∷_, _++_, List·Memᴰ, List·Memᴰ·not-nil, List·Memᴰ·append-cases, List·Memᴰ·eq-of-singleton}
 use mathlib.Core.Option.{Option, none, some}
@@ -24,18 +24,22 @@ Within low high rs = (r : Refusal) → List·Memᴰ r rs → (low ≤ r .place) 
 -- the row goes up from `low` to `high`: each of it lies, as P says, below a bound from which the next goes on
 pub data Climbs {A : Type 0} (P : ℕ → ℕ → A → Type 0) : ℕ → ℕ → List A → Type 0 where
   end : {low high : ℕ} → low ≤ high → Climbs P low high []
-  on : {high : ℕ} {xs : List A} (low next : ℕ) (x : A) → low ≤ next → P low next x → Climbs P next high xs → Climbs P low high (x ∷ xs)
+  on : {high : ℕ} {xs : List A} (low next : ℕ) (x : A) → low ≤ next → P low next x → Climbs P next high xs
+      → Climbs P low high (x ∷ xs)
 
 -- the first refusal that one of the row meets
 unfoldable pub firstOf : {A : Type 0} → (A → Option Refusal) → List A → Option Refusal
 firstOf meets [] = none
 firstOf meets (x ∷ xs) = orElse (meets x) (firstOf meets xs)
 
+-- a row ends no lower than it begins
 pub climbs-up : {A : Type 0} {P : ℕ → ℕ → A → Type 0} {low high : ℕ} {xs : List A} → Climbs P low high xs → low ≤ high
 climbs-up (end h) = h
 climbs-up (on low next x l p rest) = let above = climbs-up rest in omega arith
 
-module _ {A : Type 0} (P : ℕ → ℕ → A → Type 0) (f : A → Stage) (inside : (low high : ℕ) (x : A) → P low high x → Within low high (f x)) where
+-- `f` is what is met in one of the row, and lies where that lies
+module _ {A : Type 0} (P : ℕ → ℕ → A → Type 0) (f : A → Stage)
+    (inside : (low high : ℕ) (x : A) → P low high x → Within low high (f x)) where
   -- what is gathered along a row lies where the row does
   pub gather-within : {low high : ℕ} {xs : List A} → Climbs P low high xs → Within low high (gather f xs)
   unfolding gather
@@ -65,23 +69,27 @@ unfolding orElse
 orElse-assoc none b c = refl
 orElse-assoc (some r) b c = refl
 
--- ---- what is met at one place
+-- ---- what is met where a test passes
 
 module _ (f : Fault) where
+  -- it answers at its place
   pub lowest-if : (t : Bool) (p : ℕ) → lowest (met f (placeIf t p)) ≡ (if t then refuse f p else none)
   unfolding met placeIf lowest lowerOf
   lowest-if true p = refl
   lowest-if false p = refl
 
+  -- and lies there
   pub if-within : {low high : ℕ} (t : Bool) (p : ℕ) → low ≤ p → p < high → Within low high (met f (placeIf t p))
   unfolding met placeIf
   if-within true p l h = λ r m. omega (arith, ap (λ (q : Refusal). q .place) (List·Memᴰ·eq-of-singleton m))
   if-within false p l h = λ r m. absurd (List·Memᴰ·not-nil m)
 
+  -- what is met at places that are gathered is gathered
   pub met-gather : {A : Type 0} (h : A → List ℕ) (xs : List A) → met f (gather h xs) ≡ gather (λ x. met f (h x)) xs
   unfolding met gather
   met-gather h [] = refl
   met-gather h (x ∷ xs) = met-append f (h x) (gather h xs) ∙ ap (λ (l : Stage). met f (h x) ++ l) (met-gather h xs)
 
+-- two parts of a stage that lie within the same bounds
 pub append-within : {low high : ℕ} (xs ys : Stage) → Within low high xs → Within low high ys → Within low high (xs ++ ys)
 append-within xs ys h k = λ r m. ⊎-elim (h r) (k r) (List·Memᴰ·append-cases xs m)

@@ -1,13 +1,12 @@
 -- What answers for an input, as code that asks the stages one after the other: the opening, then the walks. Assumes nothing.
 use Prim.Native.Nat.{ℕ}
-use mathlib.Core.Path.{_≡_, refl, sym, ap, ap₂, _∙_}
-use mathlib.Core.List.{List, [], _∷_, _++_}
+use mathlib.Core.Path.{_≡_, ap, ap₂}
+use mathlib.Core.List.{List, [], _∷_}
 use mathlib.Core.Option.{Option}
 use lib.ListN.{length}
 use Rattle.refusals.specs.declared.Fault.the-variants.{TooLong, UnusableAdvice, NoOpening, ForeignLevel, NormalTooLong}
 use Rattle.refusals.specs.declared.Refusal.{Refusal}
-use Rattle.refusals.specs.Refusals.{Stage, met, lowest, orElse, answering}
-use Rattle.refusals.proofs.Stages.{answering-append, answering-first}
+use Rattle.refusals.specs.Refusals.{met, lowest, orElse, answering}
 use Rattle.verdict.specs.Contents.{bodyTokens}
 use Rattle.verdict.specs.Places.{tooLong, unusableAdvice, noOpening, foreignLevel, level, normalTooLong}
 use Rattle.verdict.specs.Stages.{laterStages, stages, refusalOf}

@@ -1,22 +1,22 @@
--- Each walk answers what its stage answers, for every input. Assumes nothing.
-use Prim.Native.Nat.{ℕ, _≤_, _<_}
-use mathlib.Core.Path.{_≡_, refl, sym, ap, ap₂, _∙_}
+-- The walks of 8, 9 and (10 11 12) answer what their stages answer, for every input. Assumes nothing.
+use Prim.Native.Nat.{ℕ, _≤_}
+use mathlib.Core.Path.{_≡_, refl, ap, _∙_}
 use mathlib.Core.Bool.{Bool, true, false, not}
 use mathlib.Core.List.{List, [], _∷_, _++_, map, List·Memᴰ·not-nil}
 use mathlib.Core.Option.{Option, none, some}
 use lib.ListN.{length}
 use lib.Dec.{lit≤}
 use native.Mathlib.Omega.{arith}
-use Rattle.lists.specs.Lists.{if_then_else_, gather}
+use Rattle.lists.specs.Lists.{if_then_else_}
 use Rattle.lists.proofs.Texts.{if-false}
 use Rattle.refusals.specs.declared.Fault.{Fault}
-use Rattle.refusals.specs.declared.Fault.the-variants.{StrayRelease, UnendedSegment, BrokenTag, OutsideLevel, MisplacedSegment, BadControl, ReferenceDiffers, CountWrong}
+use Rattle.refusals.specs.declared.Fault.the-variants.{OutsideLevel, MisplacedSegment, BadControl, ReferenceDiffers, CountWrong}
 use Rattle.refusals.specs.declared.Refusal.{Refusal}
 use Rattle.refusals.specs.Refusals.{number, Stage, met, placeIf, isLower, lowerOf, lowest, orElse}
 use Rattle.refusals.proofs.Order.{key, not-lower}
-use Rattle.refusals.proofs.Lowest.{merge, merge-none, lowest-append, lowest-gather-three}
+use Rattle.refusals.proofs.Lowest.{merge, lowest-append, lowest-gather-three}
 use Rattle.refusals.proofs.Stages.{met-append}
-use Rattle.reading.specs.Tokens.{Token, byte, separator, fault, Segment, segments, start, placeOf}
+use Rattle.reading.specs.Tokens.{Token, byte, separator, fault, Segment, start, placeOf}
 use Rattle.levels.specs.Levels.{inLevel}
 use Rattle.segments.specs.Tags.{kindOf}
 use Rattle.segments.specs.Order.{allowed, isComplete}
@@ -31,6 +31,7 @@ use Rattle.machines.proofs.Segments.{Passed, withPast, failing, failing
 -- ---- 8
 
 module _ (s : List ℕ) where
+  -- a byte outside the level is met in its token
   outside-within : (low high : ℕ) (t : Token) → Lies low high t → Within low high (met OutsideLevel (placeOutside s t))
   unfolding placeOutside placeOf lastPlace met
   outside-within low high (byte b from place) lies = if-within OutsideLevel (not (inLevel (level s) b)) place (omega arith) (lies .2)
@@ -43,9 +44,8 @@ module _ (s : List ℕ) where
   first-outside [] = refl
   first-outside (byte b from place ∷ ts) = step (inLevel (level s) b) (first-outside ts)
     where
-      step : (t : Bool) → firstOf (λ t. lowest (met OutsideLevel (placeOutside s t))) ts ≡ leveled (level s) ts
-          → orElse (lowest (met OutsideLevel (placeIf (not t) place))) (firstOf (λ t. lowest (met OutsideLevel (placeOutside s t))) ts)
-          ≡ (if t then leveled (level s) ts else refuse OutsideLevel place)
+      step : (t : Bool) {o p : Option Refusal} → o ≡ p
+          → orElse (lowest (met OutsideLevel (placeIf (not t) place))) o ≡ (if t then p else refuse OutsideLevel place)
       step true ih = ih
       step false ih = refl
   first-outside (separator kind place ∷ ts) = first-outside ts
@@ -60,32 +60,29 @@ module _ (s : List ℕ) where
 
 -- ---- 9
 
--- of a test that is refused where it fails
+-- what is refused where a test fails
 if-not : (t : Bool) (o : Option Refusal) → (if not t then o else none) ≡ (if t then none else o)
 if-not true o = refl
 if-not false o = refl
 
-module _ (s : List ℕ) where
-  pub ordered-answers : lowest (met MisplacedSegment (misplacedSegments s)) ≡ ordered (length s) (bodyTokens s)
-  unfolding misplacedSegments ordered segmentsOf kindsOf orderedSegment
-  ordered-answers =
-      ap lowest (met-append MisplacedSegment (startsWhere misplaced [] (segmentsOf s)) (placeIf incomplete (length s))
-      ∙ ap (λ (l : Stage). l ++ met MisplacedSegment (placeIf incomplete (length s))) (met-starts MisplacedSegment misplaced [] (segmentsOf s)))
-      ∙ lowest-ended (failing MisplacedSegment misplaced) orderedSegment (failing-within MisplacedSegment misplaced) answers
-          [] MisplacedSegment incomplete (segments-rise s)
-      ∙ ap (orElse (firstIn orderedSegment [] (segmentsOf s))) (if-not (isComplete (kindsOf s)) (refuse MisplacedSegment (length s)))
-    where
-      misplaced : List Segment → Segment → Bool
-      misplaced past g = not (allowed (map kindOf past) (kindOf g))
+-- the test of 9
+misplaced : List Segment → Segment → Bool
+misplaced past g = not (allowed (map kindOf past) (kindOf g))
 
-      incomplete : Bool
-      incomplete = not (isComplete (kindsOf s))
+-- what the walk asks of a segment is what is met in it
+order-answers : (low high : ℕ) (past : List Segment) (g : Segment) → Spans low high g
+    → lowest (failing MisplacedSegment misplaced (past, g)) ≡ orderedSegment past g
+unfolding misplaced orderedSegment
+order-answers low high past g spans =
+    lowest-if MisplacedSegment (misplaced past g) (start g) ∙ if-not (allowed (map kindOf past) (kindOf g)) (refuse MisplacedSegment (start g))
 
-      answers : (low high : ℕ) (past : List Segment) (g : Segment) → Spans low high g
-          → lowest (failing MisplacedSegment misplaced (past, g)) ≡ orderedSegment past g
-      answers low high past g spans =
-          lowest-if MisplacedSegment (misplaced past g) (start g)
-          ∙ if-not (allowed (map kindOf past) (kindOf g)) (refuse MisplacedSegment (start g))
+pub ordered-answers : (s : List ℕ) → lowest (met MisplacedSegment (misplacedSegments s)) ≡ ordered (length s) (bodyTokens s)
+unfolding misplacedSegments misplaced ordered segmentsOf kindsOf
+ordered-answers s =
+    rw (met-append, met-starts MisplacedSegment misplaced [] (segmentsOf s))
+    (lowest-ended (failing MisplacedSegment misplaced) orderedSegment (failing-within MisplacedSegment misplaced) order-answers
+    [] MisplacedSegment (not (isComplete (kindsOf s))) (segments-rise s)
+    ∙ ap (orElse (firstIn orderedSegment [] (segmentsOf s))) (if-not (isComplete (kindsOf s)) (refuse MisplacedSegment (length s))))
 
 -- ---- (10 11 12)
 
@@ -98,26 +95,23 @@ lower-number f g p true h =
     ap some (if-false (isLower q r) q r (not-lower q r (omega arith)))
 lower-number f g p false h = refl
 
-misruled : List Segment → Segment → Bool
-misruled past g = not (controlRule g)
+-- the test of 10
+badControl : List Segment → Segment → Bool
+badControl past g = not (controlRule g)
 
--- what is met in a segment
+-- what is met of the three in a segment
 controls : Passed → Stage
-controls p = failing BadControl misruled p ++ failing ReferenceDiffers referenceDiffers p ++ failing CountWrong countWrong p
+controls p = failing BadControl badControl p ++ failing ReferenceDiffers referenceDiffers p ++ failing CountWrong countWrong p
 
+-- it lies in the segment
 control-within : (low high : ℕ) (p : Passed) → Spans low high (p .1) → Within low high (controls p)
 unfolding controls
-control-within low high p spans =
-    let bad = failing BadControl misruled p in
-    let differs = failing ReferenceDiffers referenceDiffers p in
-    append-within (bad ++ differs) (failing CountWrong countWrong p)
-    (append-within bad differs
-    (failing-within BadControl misruled low high p spans)
-    (failing-within ReferenceDiffers referenceDiffers low high p spans))
-    (failing-within CountWrong countWrong low high p spans)
+control-within low high p spans = search (append-within, failing-within)
 
-control-answers : (low high : ℕ) (past : List Segment) (g : Segment) → Spans low high g → lowest (controls (past, g)) ≡ controlledSegment past g
-unfolding controls misruled controlledSegment merge number
+-- what the walk asks of a segment is the lowest of it: 10 before 11 before 12
+control-answers : (low high : ℕ) (past : List Segment) (g : Segment) → Spans low high g
+    → lowest (controls (past, g)) ≡ controlledSegment past g
+unfolding controls badControl controlledSegment merge number
 control-answers low high past g spans = simp (lowest-append, lowest-if) (step (controlRule g) (referenceDiffers past g) (countWrong past g))
   where
     bad : Option Refusal
@@ -141,9 +135,9 @@ control-answers low high past g spans = simp (lowest-append, lowest-if) (step (c
 pub controlled-answers : (s : List ℕ)
     → lowest (met BadControl (badControls s) ++ met ReferenceDiffers (differingReferences s) ++ met CountWrong (wrongCounts s))
     ≡ controlled (bodyTokens s)
-unfolding badControls differingReferences wrongCounts misruled controlled controls segmentsOf
+unfolding badControls differingReferences wrongCounts badControl controlled controls segmentsOf
 controlled-answers s =
     let gs = segmentsOf s in
-    rw (met-starts BadControl misruled [] gs, met-starts ReferenceDiffers referenceDiffers [] gs, met-starts CountWrong countWrong [] gs)
-    (lowest-gather-three (failing BadControl misruled) (failing ReferenceDiffers referenceDiffers) (failing CountWrong countWrong) (withPast [] gs)
+    rw (met-starts BadControl badControl [] gs, met-starts ReferenceDiffers referenceDiffers [] gs, met-starts CountWrong countWrong [] gs)
+    (lowest-gather-three (failing BadControl badControl) (failing ReferenceDiffers referenceDiffers) (failing CountWrong countWrong) (withPast [] gs)
     ∙ lowest-segments controls controlledSegment control-within control-answers [] (segments-rise s))

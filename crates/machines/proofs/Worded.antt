@@ -4,12 +4,12 @@
 use Prim.Native.Nat.{ℕ}
 use mathlib.Core.Path.{_≡_, refl, sym, ap, ap₂, subst, _∙_}
 use mathlib.Core.Bool.{Bool, true, false, not, _&&_}
-use mathlib.Core.List.{List, [], _∷_, _++_, append-nil, append-assoc}
+use mathlib.Core.List.{List, [], _∷_, _++_}
 use mathlib.Core.Option.{Option, none, some}
 use lib.ListN.{length}
 use native.Mathlib.Omega.{arith}
 use Rattle.lists.specs.Lists.{if_then_else_, isEmpty, all, lastOr, through, onto, cut, gather, maybe}
-use Rattle.lists.proofs.Pieces.{beyond, cut-first}
+use Rattle.lists.proofs.Pieces.{cut-first}
 use Rattle.refusals.specs.declared.Fault.the-variants.{StrayRelease, UnendedSegment, BrokenTag}
 use Rattle.refusals.specs.declared.Refusal.{Refusal}
 use Rattle.refusals.specs.Refusals.{Stage, met, placeIf, lowerOf, lowest, orElse}
@@ -21,14 +21,16 @@ use Rattle.verdict.specs.Contents.{bodyTokens, segmentsOf}
 use Rattle.verdict.specs.Places.{strayReleases, unendedSegment, brokenTags}
 use Rattle.machines.specs.Walks.{refuse, firstIn, firstFault, wordedSegment, worded}
 use Rattle.machines.proofs.Rows.{Within, firstOf, gather-within, lowest-row, lowest-if, if-within, append-within, met-gather, orElse-none, orElse-assoc}
-use Rattle.machines.proofs.Rising.{lastPlace, Lies, Rising, Spans, segments-rise}
+use Rattle.machines.proofs.Rising.{Lies, Rising, Spans, segments-rise}
 use Rattle.machines.proofs.Segments.{Passed, withPast, failing, failing-within, met-starts, gather-past, gather-cut, lowest-ended}
 
 -- ---- 4 and 6 in one segment
 
+-- the place of a stray release character, if the token is one
 abbrev strayAt : Token → List ℕ
 strayAt t = placeIf (isFault t) (placeOf t)
 
+-- it is the token's own
 stray-within : (low high : ℕ) (t : Token) → Lies low high t → Within low high (met StrayRelease (strayAt t))
 stray-within low high t lies = if-within StrayRelease (isFault t) (placeOf t) (lies .0) (omega arith)
 
@@ -53,6 +55,7 @@ no-fault (byte b from place ∷ ts) = no-fault ts
 no-fault (separator kind place ∷ ts) = no-fault ts
 no-fault (fault place ∷ ts) = refl
 
+-- the test of 6
 brokenTag : List Segment → Segment → Bool
 brokenTag past g = finished g && not (tagRule g)
 
@@ -60,6 +63,7 @@ brokenTag past g = finished g && not (tagRule g)
 misworded : Passed → Stage
 misworded p = met StrayRelease (gather strayAt (p .1)) ++ failing BrokenTag brokenTag p
 
+-- it lies in the segment
 misworded-within : (low high : ℕ) (p : Passed) → Spans low high (p .1) → Within low high (misworded p)
 unfolding misworded
 misworded-within low high p spans =
@@ -69,17 +73,20 @@ misworded-within low high p spans =
 
 -- what the walk asks of a segment, with o as its answer where there is neither a fault nor an end
 abbrev wording : Bool → Option Refusal → Segment → Option Refusal
-wording isEnded o g = maybe (if isEnded then (if tagRule g then none else refuse BrokenTag (start g)) else o) (refuse StrayRelease) (firstFault g)
+wording isEnded o g =
+    maybe (if isEnded then (if tagRule g then none else refuse BrokenTag (start g)) else o) (refuse StrayRelease) (firstFault g)
 
 wordedOr : Option Refusal → List Segment → Segment → Option Refusal
 wordedOr o past g = wording (endedBy 0 g) o g
 
-misworded-answers : (low high : ℕ) (past : List Segment) (g : Segment) → Spans low high g → lowest (misworded (past, g)) ≡ wordedOr none past g
+-- what is met in a segment answers as the walk does, where the end is not asked for
+misworded-answers : (low high : ℕ) (past : List Segment) (g : Segment) → Spans low high g
+    → lowest (misworded (past, g)) ≡ wordedOr none past g
 unfolding misworded wordedOr brokenTag finished merge maybe lowerOf
 misworded-answers low high past g spans =
     lowest-append (met StrayRelease (gather strayAt g)) (failing BrokenTag brokenTag (past, g))
     ∙ ap₂ merge (stray-answers g (spans .2)) (lowest-if BrokenTag (brokenTag past g) (start g)
-      ∙ ap (λ (t : Bool). if (endedBy 0 g && t) && not (tagRule g) then refuse BrokenTag (start g) else none) (no-fault g))
+    ∙ ap (λ (t : Bool). if (endedBy 0 g && t) && not (tagRule g) then refuse BrokenTag (start g) else none) (no-fault g))
     ∙ step (firstFault g) (endedBy 0 g) (tagRule g)
   where
     broken : Option Refusal
@@ -102,11 +109,13 @@ data Ended : Bool → List Segment → Type 0 where
   unended : (g : Segment) → endedBy 0 g ≡ false → Ended true (g ∷ [])
   ended : {inside : Bool} {gs : List Segment} (g : Segment) → endedBy 0 g ≡ true → Ended inside gs → Ended inside (g ∷ gs)
 
+-- a token in front of a segment ends as the segment does
 grow : {inside : Bool} {gs : List Segment} (t u : Token) (g : Segment) → Ended inside ((u ∷ g) ∷ gs) → Ended inside ((t ∷ u ∷ g) ∷ gs)
 unfolding endedBy lastOr
 grow t u g (unended _ e) = unended (t ∷ u ∷ g) e
 grow t u g (ended _ e rest) = ended (t ∷ u ∷ g) e rest
 
+-- only the last segment may lack its terminator, and does where the tokens end inside it
 cut-ended : (ts : List Token) → Ended (endsInside ts) (cut (ends 0) ts)
 unfolding cut onto through endsInside isEmpty endedBy lastOr
 cut-ended [] = nothing
@@ -132,7 +141,8 @@ unfolding wordedOr
 of-ended o past g e = ap (λ (b : Bool). wording b none g) e ∙ sym (ap (λ (b : Bool). wording b o g) e)
 
 -- one that is not ended answers o where it has no fault
-of-unended : (o : Option Refusal) (past : List Segment) (g : Segment) → endedBy 0 g ≡ false → orElse (wordedOr none past g) o ≡ wordedOr o past g
+of-unended : (o : Option Refusal) (past : List Segment) (g : Segment) → endedBy 0 g ≡ false
+    → orElse (wordedOr none past g) o ≡ wordedOr o past g
 unfolding wordedOr maybe orElse
 of-unended o past g e =
     ap (λ (b : Bool). orElse (wording b none g) o) e ∙ step (firstFault g) ∙ sym (ap (λ (b : Bool). wording b o g) e)
@@ -154,11 +164,19 @@ worded-ends o past (ended {inside} {gs} g e rest) =
 
 -- ---- the stage
 
--- the parts of a stage in another order
-lowest-swap : (xs ys zs : Stage) → lowest (xs ++ ys ++ zs) ≡ lowest (xs ++ zs ++ ys)
-lowest-swap xs ys zs =
-    simp lowest-append
-    (cc (merge-assoc (lowest xs) (lowest ys) (lowest zs), merge-comm (lowest ys) (lowest zs), merge-assoc (lowest xs) (lowest zs) (lowest ys)))
+-- two kinds that are gathered with a part of the stage between them may be gathered together, in front of it
+lowest-around : {A : Type 0} (f g : A → Stage) (xs : List A) (ys : Stage)
+    → lowest (gather f xs ++ ys ++ gather g xs) ≡ lowest (gather (λ x. f x ++ g x) xs ++ ys)
+lowest-around f g xs ys =
+    let a = lowest (gather f xs) in
+    let b = lowest (gather g xs) in
+    simp lowest-append (cc (
+      merge-assoc a (lowest ys) b,
+      merge-comm (lowest ys) b,
+      merge-assoc a b (lowest ys),
+      lowest-append (gather f xs) (gather g xs),
+      lowest-gather f g xs,
+    ))
 
 module _ (s : List ℕ) where
   -- 4 of all tokens, segment by segment
@@ -174,13 +192,8 @@ module _ (s : List ℕ) where
   unfolding unendedSegment brokenTags brokenTag segmentsOf segments worded wordedSegment wordedOr misworded
   worded-answers =
       let strays : Passed → Stage = λ p. met StrayRelease (gather strayAt (p .1)) in
-      let broken : Passed → Stage = failing BrokenTag brokenTag in
-      let row : List Passed = withPast [] (segmentsOf s) in
       let last : Stage = met UnendedSegment (unendedSegment s) in
       ap₂ (λ (a b : Stage). lowest (a ++ last ++ b)) stray-parts (met-starts BrokenTag brokenTag [] (segmentsOf s))
-      ∙ lowest-swap (gather strays row) last (gather broken row)
-      ∙ lowest-append (gather strays row ++ gather broken row) last
-      ∙ ap (λ (o : Option Refusal). merge o (lowest last)) (lowest-gather strays broken row)
-      ∙ sym (lowest-append (gather misworded row) last)
+      ∙ lowest-around strays (failing BrokenTag brokenTag) (withPast [] (segmentsOf s)) last
       ∙ lowest-ended misworded (wordedOr none) misworded-within misworded-answers [] UnendedSegment (endsInside (bodyTokens s)) (segments-rise s)
       ∙ worded-ends (refuse UnendedSegment (length s)) [] (cut-ended (bodyTokens s))
