@@ -1,6 +1,6 @@
 -- What answers for an input, as code that asks the stages one after the other: the opening, then the walks. Assumes nothing.
 use Prim.Native.Nat.{ℕ}
-use mathlib.Core.Path.{_≡_, ap, ap₂}
+use mathlib.Core.Path.{_≡_}
 use mathlib.Core.List.{List, [], _∷_}
 use mathlib.Core.Option.{Option}
 use lib.ListN.{length}
@@ -29,11 +29,7 @@ module _ (s : List ℕ) where
   -- from 3 on, as the writer asks of its text
   pub later-stages : answering (laterStages s) ≡ orElse (lowest (met NoOpening (noOpening s))) bodyRefusal
   unfolding laterStages answering bodyRefusal
-  later-stages =
-      ap (orElse (lowest (met NoOpening (noOpening s))))
-      (ap₂ orElse (worded-answers s) (ap (orElse (lowest (met ForeignLevel (foreignLevel s))))
-      (ap₂ orElse (leveled-answers s) (ap₂ orElse (ordered-answers s) (ap₂ orElse (controlled-answers s)
-      (orElse-none (lowest (met NormalTooLong (normalTooLong s)))))))))
+  later-stages = rw (worded-answers, leveled-answers, ordered-answers, controlled-answers, orElse-none)
 
   -- "The first failing stage answers": 1, 2 and 3, then what answers behind them
   pub stage-by-stage : refusalOf s

@@ -22,7 +22,7 @@ use Rattle.segments.specs.Tags.{kindOf}
 use Rattle.segments.specs.Order.{allowed, isComplete}
 use Rattle.control.specs.Control.{controlRule, referenceDiffers, countWrong}
 use Rattle.verdict.specs.Contents.{bodyTokens, segmentsOf, kindsOf}
-use Rattle.verdict.specs.Places.{startsWhere, level, placeOutside, outsideLevel, misplacedSegments, badControls, differingReferences, wrongCounts}
+use Rattle.verdict.specs.Places.{level, placeOutside, outsideLevel, misplacedSegments, badControls, differingReferences, wrongCounts}
 use Rattle.machines.specs.Walks.{refuse, firstIn, leveled, orderedSegment, ordered, controlledSegment, controlled}
 use Rattle.machines.proofs.Rows.{Within, firstOf, lowest-row, lowest-if, if-within, append-within, met-gather}
 use Rattle.machines.proofs.Rising.{lastPlace, Lies, Spans, body-rises, segments-rise}
@@ -54,9 +54,7 @@ module _ (s : List ℕ) where
   pub leveled-answers : lowest (met OutsideLevel (outsideLevel s)) ≡ leveled (level s) (bodyTokens s)
   unfolding outsideLevel
   leveled-answers =
-      ap lowest (met-gather OutsideLevel (placeOutside s) (bodyTokens s))
-      ∙ lowest-row Lies (λ t. met OutsideLevel (placeOutside s t)) outside-within (body-rises s)
-      ∙ first-outside (bodyTokens s)
+      rw met-gather (lowest-row Lies (λ t. met OutsideLevel (placeOutside s t)) outside-within (body-rises s) ∙ first-outside (bodyTokens s))
 
 -- ---- 9
 
@@ -73,8 +71,7 @@ misplaced past g = not (allowed (map kindOf past) (kindOf g))
 order-answers : (low high : ℕ) (past : List Segment) (g : Segment) → Spans low high g
     → lowest (failing MisplacedSegment misplaced (past, g)) ≡ orderedSegment past g
 unfolding misplaced orderedSegment
-order-answers low high past g spans =
-    lowest-if MisplacedSegment (misplaced past g) (start g) ∙ if-not (allowed (map kindOf past) (kindOf g)) (refuse MisplacedSegment (start g))
+order-answers low high past g spans = rw lowest-if (if-not (allowed (map kindOf past) (kindOf g)) (refuse MisplacedSegment (start g)))
 
 pub ordered-answers : (s : List ℕ) → lowest (met MisplacedSegment (misplacedSegments s)) ≡ ordered (length s) (bodyTokens s)
 unfolding misplacedSegments misplaced ordered segmentsOf kindsOf

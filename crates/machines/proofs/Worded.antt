@@ -38,8 +38,7 @@ stray-within low high t lies = if-within StrayRelease (isFault t) (placeOf t) (l
 stray-answers : {low high : ℕ} (ts : List Token) → Rising low high ts
     → lowest (met StrayRelease (gather strayAt ts)) ≡ maybe none (refuse StrayRelease) (firstFault ts)
 unfolding firstOf firstFault maybe orElse lowest lowerOf met placeIf isFault placeOf
-stray-answers ts rises =
-    ap lowest (met-gather StrayRelease strayAt ts) ∙ lowest-row Lies (λ t. met StrayRelease (strayAt t)) stray-within rises ∙ searched ts
+stray-answers ts rises = rw met-gather (lowest-row Lies (λ t. met StrayRelease (strayAt t)) stray-within rises ∙ searched ts)
   where
     searched : (ts : List Token) → firstOf (λ t. lowest (met StrayRelease (strayAt t))) ts ≡ maybe none (refuse StrayRelease) (firstFault ts)
     searched [] = refl
@@ -72,22 +71,16 @@ misworded-within low high p spans =
     (failing-within BrokenTag brokenTag low high p spans)
 
 -- what the walk asks of a segment, with o as its answer where there is neither a fault nor an end
-abbrev wording : Bool → Option Refusal → Segment → Option Refusal
-wording isEnded o g =
-    maybe (if isEnded then (if tagRule g then none else refuse BrokenTag (start g)) else o) (refuse StrayRelease) (firstFault g)
-
 wordedOr : Option Refusal → List Segment → Segment → Option Refusal
-wordedOr o past g = wording (endedBy 0 g) o g
+wordedOr o past g =
+    maybe (if endedBy 0 g then (if tagRule g then none else refuse BrokenTag (start g)) else o) (refuse StrayRelease) (firstFault g)
 
 -- what is met in a segment answers as the walk does, where the end is not asked for
 misworded-answers : (low high : ℕ) (past : List Segment) (g : Segment) → Spans low high g
     → lowest (misworded (past, g)) ≡ wordedOr none past g
 unfolding misworded wordedOr brokenTag finished merge maybe lowerOf
 misworded-answers low high past g spans =
-    lowest-append (met StrayRelease (gather strayAt g)) (failing BrokenTag brokenTag (past, g))
-    ∙ ap₂ merge (stray-answers g (spans .2)) (lowest-if BrokenTag (brokenTag past g) (start g)
-    ∙ ap (λ (t : Bool). if (endedBy 0 g && t) && not (tagRule g) then refuse BrokenTag (start g) else none) (no-fault g))
-    ∙ step (firstFault g) (endedBy 0 g) (tagRule g)
+    rw (lowest-append, stray-answers g (spans .2), lowest-if, no-fault) (step (firstFault g) (endedBy 0 g) (tagRule g))
   where
     broken : Option Refusal
     broken = refuse BrokenTag (start g)
@@ -138,14 +131,13 @@ cut-ended (t ∷ u ∷ ts) = step (ends 0 t) refl (cut-ended (u ∷ ts))
 -- a segment that is ended does not ask for o
 of-ended : (o : Option Refusal) (past : List Segment) (g : Segment) → endedBy 0 g ≡ true → wordedOr none past g ≡ wordedOr o past g
 unfolding wordedOr
-of-ended o past g e = ap (λ (b : Bool). wording b none g) e ∙ sym (ap (λ (b : Bool). wording b o g) e)
+of-ended o past g e = rw e
 
 -- one that is not ended answers o where it has no fault
 of-unended : (o : Option Refusal) (past : List Segment) (g : Segment) → endedBy 0 g ≡ false
     → orElse (wordedOr none past g) o ≡ wordedOr o past g
 unfolding wordedOr maybe orElse
-of-unended o past g e =
-    ap (λ (b : Bool). orElse (wording b none g) o) e ∙ step (firstFault g) ∙ sym (ap (λ (b : Bool). wording b o g) e)
+of-unended o past g e = rw e (step (firstFault g))
   where
     step : (stray : Option ℕ) → orElse (maybe none (refuse StrayRelease) stray) o ≡ maybe o (refuse StrayRelease) stray
     step none = refl
@@ -191,9 +183,8 @@ module _ (s : List ℕ) where
       ≡ worded (length s) (bodyTokens s)
   unfolding unendedSegment brokenTags brokenTag segmentsOf segments worded wordedSegment wordedOr misworded
   worded-answers =
-      let strays : Passed → Stage = λ p. met StrayRelease (gather strayAt (p .1)) in
-      let last : Stage = met UnendedSegment (unendedSegment s) in
-      ap₂ (λ (a b : Stage). lowest (a ++ last ++ b)) stray-parts (met-starts BrokenTag brokenTag [] (segmentsOf s))
-      ∙ lowest-around strays (failing BrokenTag brokenTag) (withPast [] (segmentsOf s)) last
+      rw (stray-parts, met-starts BrokenTag brokenTag [] (segmentsOf s))
+      (lowest-around (λ p. met StrayRelease (gather strayAt (p .1))) (failing BrokenTag brokenTag) (withPast [] (segmentsOf s))
+      (met UnendedSegment (unendedSegment s))
       ∙ lowest-ended misworded (wordedOr none) misworded-within misworded-answers [] UnendedSegment (endsInside (bodyTokens s)) (segments-rise s)
-      ∙ worded-ends (refuse UnendedSegment (length s)) [] (cut-ended (bodyTokens s))
+      ∙ worded-ends (refuse UnendedSegment (length s)) [] (cut-ended (bodyTokens s)))
