@@ -98,3 +98,18 @@ counts-within w past e h =
         through-length (is Ung) past,
       );
     }
+
+-- ---- nor does one segment more raise any of them by more than one
+
+pub within-more : (w : Walk) {n m : ℕ} → n ≤ m → Within n w → Within m w
+within-more w h e = omega arith
+
+pub within-step : (w : Walk) (kind : Kind) {n : ℕ} → Within n w → Within (n + 1) (steppedBy w kind)
+within-step w Unb e = omega arith
+within-step w Ung e = omega arith
+within-step w Unh e = omega arith
+within-step w Uns e = omega arith
+within-step w Unt e = omega arith
+within-step w Une e = omega arith
+within-step w Unz e = omega arith
+within-step w User e = omega arith
