@@ -1,18 +1,14 @@
 -- Where the walk stands behind what passed, each of it allowed where it stood, and where it stands behind one segment more. Assumes nothing.
-use mathlib.Core.Path.{_≡_, refl, sym, ap, subst, _∙_}
-use mathlib.Core.Bool.{Bool, true, false, _&&_, _||_, false≢true}
+use mathlib.Core.Path.{_≡_, refl, sym, subst}
+use mathlib.Core.Bool.{Bool, true, false, false≢true}
 use mathlib.Core.List.{List, [], _∷_}
-use mathlib.Core.Logic.{_⊎_, inl, inr}
-use Prim.Native.Nat.{ℕ}
-use lib.Dec.{eqb, ltb}
-use borrow.Author.Tests.{eqb-true}
 use Rattle.lists.specs.Lists.{if_then_else_}
-use Rattle.lists.proofs.Texts.{and-left, and-right, or-cases}
+use Rattle.lists.proofs.Texts.{and-left, and-right}
 use Rattle.segments.specs.declared.Kind.{Kind}
 use Rattle.segments.specs.declared.Kind.the-variants.{Unb, Ung, Unh, Uns, Unt, Une, Unz, User}
 use Rattle.segments.specs.declared.Standing.{Standing}
 use Rattle.segments.specs.declared.Standing.the-variants.{BeforeInterchange, BetweenGroups, InGroup, InGroupMessage, InMessage, BehindInterchange}
-use Rattle.segments.specs.Kinds.{index, is}
+use Rattle.segments.specs.Kinds.{is}
 use Rattle.segments.specs.Order.{isOpen, standing, insideMessage, allowedAt, allowed, isComplete}
 use Rattle.walking.specs.Walking.{walked, standsBehind, isBehind}
 

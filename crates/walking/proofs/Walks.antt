@@ -10,8 +10,8 @@ use Rattle.segments.specs.declared.Standing.{Standing}
 use Rattle.segments.specs.declared.Standing.the-variants.{BeforeInterchange, BetweenGroups, InGroup, InGroupMessage, InMessage, BehindInterchange}
 use Rattle.segments.specs.declared.Walk.{Walk}
 use Rattle.segments.specs.Kinds.{is}
-use Rattle.segments.specs.Order.{groupsIn, messagesIn, messagesSinceGroup, standing, insideMessage, allowedAt, allowed, isComplete, walkOver}
-use Rattle.walking.specs.Walking.{walked, CountsAre, Counts, Within, allowedFrom, allowedBy, standsBehind, steppedBy, isBehind}
+use Rattle.segments.specs.Order.{groupsIn, messagesIn, standing, insideMessage, allowedAt, allowed, isComplete, walkOver}
+use Rattle.walking.specs.Walking.{walked, Counts, Within, allowedFrom, allowedBy, standsBehind, steppedBy, isBehind}
 use Rattle.walking.proofs.Counts.{counts-step, counts-walk, counts-within}
 use Rattle.walking.proofs.Places.{each, complete-behind, stands-step}
 
