@@ -2,7 +2,7 @@
 use Prim.Native.Nat.{ℕ, _+_, _≤_, _<_}
 use mathlib.Core.Path.{_≡_, refl, sym, ap, _∙_}
 use mathlib.Core.Bool.{Bool, true, false}
-use mathlib.Core.List.{List, [], _∷_}
+use mathlib.Core.List.{List, [], _∷_, _++_}
 use native.Mathlib.Omega.{arith}
 use lib.ListN.{length}
 use borrow.Author.Tests.{lt-leb}
@@ -10,7 +10,7 @@ use Rattle.lists.specs.Lists.{through, gather, lastOr}
 use Rattle.lists.proofs.Texts.{if-true, if-false}
 use Rattle.lists.proofs.Pieces.{beyond, beyond-hit, beyond-miss}
 use Rattle.characters.specs.declared.Characters.{Characters}
-use Rattle.reading.specs.Tokens.{Token, byte, fault, ends}
+use Rattle.reading.specs.Tokens.{Token, ends}
 use Rattle.reading.specs.Values.{byteOf, bytesOf, endedBy}
 use Rattle.reading.proofs.Steps.{tokensAt, ends-yes}
 use Rattle.scanner.specs.declared.Lexed.the-variants.{Byte, Separator, Stray, End}
@@ -36,6 +36,15 @@ pub ended-behind : (kind : ℕ) (t : Token) (ts : List Token) → ends kind t �
 unfolding endedBy lastOr
 ended-behind kind t [] h = h
 ended-behind kind t (u ∷ us) h = refl
+
+-- a token that ends nothing is part of the value, and the rest of the value follows it
+module _ {ts us : List Token} {t : Token} (e : ts ≡ t ∷ us) (n : (kind : ℕ) → ends kind t ≡ false) where
+  value-more : bytesOf (through (ends 2) ts) ≡ byteOf t ++ bytesOf (through (ends 2) us)
+  unfolding bytesOf gather
+  value-more = ap bytesOf (through-miss (ends 2) e (n 2))
+
+  ended-more : (kind : ℕ) → endedBy kind (through (ends 2) ts) ≡ endedBy kind (through (ends 2) us)
+  ended-more kind = ap (endedBy kind) (through-miss (ends 2) e (n 2)) ∙ ended-behind kind t (through (ends 2) us) (n kind)
 
 module _ (c : Characters) (s : List ℕ) (from : ℕ) where
   -- A value that is read up to a place: what was read and what stands from there on make the whole.
@@ -65,32 +74,28 @@ module _ (c : Characters) (s : List ℕ) (from : ℕ) where
   module _ (w : Word) (u : UpTo w) where
     -- a byte of the value
     pub up-to-byte : {b place next : ℕ} → Lexes c s (w .next) (Byte b place next) → UpTo (grown w b next)
-    unfolding ends movedOn bytesOf gather byteOf
+    unfolding ends movedOn byteOf
     up-to-byte {b} {place} {next} l =
-        let e = through-miss (ends 2) (l .0) refl in
         record {
           small = omega arith;
           open-end = refl;
-          sized = u .sized ∙ ap (λ (ts : List Token). w .size + length (bytesOf ts)) e ∙ omega arith;
-          last = u .last ∙ ap (λ (ts : List Token). movedOn (fourOf w) (bytesOf ts)) e;
-          ended =
-              λ kind. u .ended kind ∙ ap (endedBy kind) e ∙ ended-behind kind (byte b (w .next) place) (pieceAt c s next) refl;
+          sized = u .sized ∙ ap (λ (v : List ℕ). w .size + length v) (value-more (l .0) (λ kind. refl)) ∙ omega arith;
+          last = u .last ∙ ap (movedOn (fourOf w)) (value-more (l .0) (λ kind. refl));
+          ended = λ kind. u .ended kind ∙ ended-more (l .0) (λ n. refl) kind;
           behind = u .behind ∙ beyond-miss (ends 2) (l .0) refl;
           within = λ h. omega arith;
         }
 
     -- a stray release character is passed over
     pub up-to-stray : {next : ℕ} → Lexes c s (w .next) (Stray next) → UpTo (passed w 3 next)
-    unfolding ends bytesOf gather byteOf
+    unfolding ends byteOf
     up-to-stray {next} l =
-        let e = through-miss (ends 2) (l .0) refl in
         record {
           small = omega arith;
           open-end = refl;
-          sized = u .sized ∙ ap (λ (ts : List Token). w .size + length (bytesOf ts)) e;
-          last = u .last ∙ ap (λ (ts : List Token). movedOn (fourOf w) (bytesOf ts)) e;
-          ended =
-              λ kind. u .ended kind ∙ ap (endedBy kind) e ∙ ended-behind kind (fault (w .next)) (pieceAt c s next) refl;
+          sized = u .sized ∙ ap (λ (v : List ℕ). w .size + length v) (value-more (l .0) (λ kind. refl));
+          last = u .last ∙ ap (movedOn (fourOf w)) (value-more (l .0) (λ kind. refl));
+          ended = λ kind. u .ended kind ∙ ended-more (l .0) (λ n. refl) kind;
           behind = u .behind ∙ beyond-miss (ends 2) (l .0) refl;
           within = λ h. omega arith;
         }
