@@ -7,6 +7,6 @@ use Rattle.segments.specs.declared.Kind.the-variants.{User}
 use Rattle.segments.specs.Kinds.{is, kindNamed}
 use Rattle.segments.specs.Tags.{isTag}
 
--- the tag keeps the rule; `alone` says that no component separator follows it
+-- the tag keeps the rule; `alone` says that an element separator or the terminator ends it, and no component separator
 unfoldable pub wellNamed : List ℕ → Bool → Bool
 wellNamed tag alone = isTag tag && (not (begins (text "UN") tag) || (not (is User (kindNamed tag)) && alone))
