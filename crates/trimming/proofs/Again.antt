@@ -1,7 +1,7 @@
 -- Trimming again takes nothing more, and what was shaped as a list of segments stays so. Assumes nothing.
 use mathlib.Core.Path.{_≡_, refl, sym, ap, ap₂, _∙_}
 use mathlib.Core.Bool.{Bool, true, not}
-use mathlib.Core.List.{List, [], _∷_, _++_, map}
+use mathlib.Core.List.{List, [], _∷_, map}
 use Rattle.lists.specs.Lists.{isEmpty, all, trimEnd}
 use Rattle.lists.proofs.Texts.{and-left, and-right, and-both, all-append}
 use Rattle.lists.proofs.Ends.{trimEnd-again, trimEnd-map}

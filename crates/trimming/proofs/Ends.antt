@@ -1,6 +1,6 @@
 -- Two lists of segments have the same trimmed contents exactly when they differ by empty ends alone. Assumes nothing.
 use mathlib.Core.Path.{_≡_, refl, sym, ap, _∙_}
-use mathlib.Core.Bool.{Bool, true, false, _&&_, false≢true}
+use mathlib.Core.Bool.{Bool, true, _&&_, false≢true}
 use mathlib.Core.List.{List, [], _∷_, _++_, map, append-nil, map-append}
 use lib.Seq.{append-snoc}
 use mathlib.Core.Logic.{_↔_}
@@ -71,7 +71,7 @@ module _ {A : Type 0} (t : A → Bool) (idle : A) (only : (x : A) → t x ≡ tr
   grown x left [] h = rw append-nil same
   grown x left (y ∷ ys) h =
       let added : Linked (OneMore idle) (x ∷ left) (x ∷ (left ++ y ∷ [])) =
-          rw (only y (and-left (t y) (all t ys) h)) (step (oneMore x left))
+      rw (only y (and-left (t y) (all t ys) h)) (step (oneMore x left))
       in
       onward added (rw append-snoc at (grown x (left ++ y ∷ []) ys (and-right (t y) (all t ys) h)))
 
@@ -90,12 +90,14 @@ only-idle [] h = absurd (false≢true h)
 only-idle (v ∷ []) h = ap (λ (w : Bytes). w ∷ []) (only-empty v h)
 only-idle (v ∷ w ∷ ws) h = absurd (false≢true h)
 
+-- what was trimmed of a segment: idle elements at its end, and empty values at the ends of its elements
 segment-linked : (segment : List (List Bytes)) → Linked MoreEnd (trimSegment isEmpty segment) segment
 unfolding trimSegment
 segment-linked segment =
     let elements : List (List Bytes) = map (trimElement isEmpty) segment in
     onward
-    (linked-map (λ s. s) (λ s m o. element o) (trimmed-linked (isIdle isEmpty) ([] ∷ []) only-idle (trimEnd-trimmed (isIdle isEmpty) elements)))
+    (linked-map (λ s. s) (λ s m o. element o)
+    (trimmed-linked (isIdle isEmpty) ([] ∷ []) only-idle (trimEnd-trimmed (isIdle isEmpty) elements)))
     (linked-map (λ s. s) (λ s m c. value c)
     (each-linked (trimElement isEmpty) (λ e. trimmed-linked isEmpty [] only-empty (trimElement-trimmed isEmpty e)) segment))
 
@@ -105,10 +107,12 @@ trimmed-differ list = each-linked (trimSegment isEmpty) segment-linked list
 
 -- ---- both ways
 
+-- empty ends make no difference
 pub differ-same : (list other : SegmentList) → DifferByEnds list other → trimList list ≡ trimList other
 unfolding trimList
 differ-same list other d = linked-equal (map (trimSegment isEmpty)) (λ xs ys c. changed-equal (trimSegment isEmpty) segment-equal c) d
 
+-- where trimming leaves the same, there is no other difference
 pub same-differ : (list other : SegmentList) → trimList list ≡ trimList other → DifferByEnds list other
 same-differ list other e = onward (back (trimmed-differ list)) (rw (← e) at (trimmed-differ other))
 

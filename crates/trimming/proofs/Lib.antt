@@ -1,3 +1,4 @@
 pub mod Trimmed
 pub mod Again
 pub mod Ends
+pub mod Nesting
