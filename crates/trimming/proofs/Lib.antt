@@ -1,0 +1,5 @@
+pub mod Trimmed
+pub mod Again
+pub mod Ends
+pub mod Nesting
+pub mod Tables
