@@ -1,0 +1,73 @@
+// Storing a text in a lent buffer: a run of one byte, a byte of a value as it is spelled,
+// an advice. It promises every byte of the buffer at exit; what is not stored keeps its value.
+ghost use mathlib.Core.Path.{_≡_};
+ghost use mathlib.Core.List.{_++_};
+ghost use Prim.Native.Nat.{_+_, _≤_};
+ghost use lib.ListN.{length, replicate};
+ghost use lib.Seq.{sets};
+ghost use Rattle.characters.specs.Characters.{isService, adviceOf};
+ghost use Rattle.reading.specs.Spelling.{spellByte};
+use characters::Characters;
+
+// Stores a byte so many times, from a place on.
+pub fn fill(buffer: &mut [u8], from: usize, count: usize, b: u8)
+    requires { ⌜ from + count ≤ length (now buffer) ⌝ }
+    ensures { λ _. ⌜ now (buffer .exit) ≡ sets (now (buffer .entry)) from (replicate count b) ⌝ }
+{
+    let mut i = 0;
+    while i < count {
+        buffer[from + i] = b;
+        i += 1;
+    }
+}
+
+pub fn is_service(c: Characters, b: u8) -> bool
+    ensures { λ r. ⌜ r ≡ isService c b ⌝ }
+{
+    if b == c.component {
+        return true;
+    }
+    if b == c.element {
+        return true;
+    }
+    if b == c.terminator {
+        return true;
+    }
+    if c.release == 32 {
+        return false;
+    }
+    if b == c.release {
+        return true;
+    }
+    false
+}
+
+// Stores a byte of a value as it is spelled, and answers the place behind it.
+pub fn put_byte(buffer: &mut [u8], at: usize, c: Characters, b: u8) -> usize
+    requires { ⌜ at + length (spellByte c b) ≤ length (now buffer) ⌝ }
+    ensures { λ r. ⌜ (now (buffer .exit) ≡ sets (now (buffer .entry)) at (spellByte c b)) × (r ≡ at + length (spellByte c b)) ⌝ }
+{
+    if is_service(c, b) {
+        buffer[at] = c.release;
+        buffer[at + 1] = b;
+        return at + 2;
+    }
+    buffer[at] = b;
+    at + 1
+}
+
+// Stores an advice at the front.
+pub fn put_advice(buffer: &mut [u8], c: Characters)
+    requires { ⌜ 9 ≤ length (now buffer) ⌝ }
+    ensures { λ _. ⌜ now (buffer .exit) ≡ sets (now (buffer .entry)) 0 (adviceOf c) ⌝ }
+{
+    buffer[0] = b'U';
+    buffer[1] = b'N';
+    buffer[2] = b'A';
+    buffer[3] = c.component;
+    buffer[4] = c.element;
+    buffer[5] = c.mark;
+    buffer[6] = c.release;
+    buffer[7] = c.reserved;
+    buffer[8] = c.terminator;
+}
