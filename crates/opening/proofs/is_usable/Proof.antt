@@ -3,11 +3,6 @@ use Rattle.opening.proofs.Usable.{usable-three, usable-four}
 use borrow.Author.Needs.{needs}
 use Rattle.opening.proofs.is_usable.Statement.{statement}
 use Rattle.opening.proofs.is_usable.Tie as tie
-use Rattle.opening.proofs.is_usable.Reads as reads
-use Rattle.opening.proofs.is_usable.Lts as lts
-use Rattle.opening.proofs.all_differ.Reads as all-differ-reads
-use Rattle.opening.proofs.differs.Reads as differs-reads
-use Rattle.opening.proofs.may_separate.Reads as may-separate-reads
 
 may-separate-requires : tie.Need-may-separate-requires
 may-separate-requires c κs = search needs

@@ -3,9 +3,6 @@ use Rattle.opening.proofs.Usable.{separates-tests}
 use borrow.Author.Needs.{needs}
 use Rattle.opening.proofs.may_separate.Statement.{statement}
 use Rattle.opening.proofs.may_separate.Tie as tie
-use Rattle.opening.proofs.may_separate.Reads as reads
-use Rattle.opening.proofs.may_separate.Lts as lts
-use Rattle.opening.proofs.is_between.Reads as is-between-reads
 
 is-between-requires : tie.Need-is-between-requires
 is-between-requires c κs = search needs
