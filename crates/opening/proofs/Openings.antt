@@ -1,7 +1,7 @@
 -- What the first three stages come to, by the tests that they make; and what a caller learns from the answer. Assumes nothing.
 use Prim.Native.Nat.{ℕ, _+_, _≤_, _<_}
 use mathlib.Core.Path.{_≡_, refl, sym, ap, ap₂, subst, _∙_}
-use mathlib.Core.Bool.{Bool, true, false, not, _&&_, _||_, false≢true}
+use mathlib.Core.Bool.{Bool, true, false, not, _&&_, _||_}
 use mathlib.Core.List.{List, [], _∷_, _++_}
 use mathlib.Core.Option.{Option, none, some, Option·some-ne-none}
 use native.Mathlib.Omega.{arith}
@@ -97,7 +97,7 @@ module _ (s : List ℕ) where
     pub usable-characters : usable c ≡ true
     pub unmet : answering (openingStages s) ≡ none
 
-  -- no refusal answers exactly where none of the tests refuses
+  -- where no refusal answers, none of the three tests refuses
   all-passed : (over bad opening : Bool) → asked over bad opening ≡ none → (over ≡ false) × (bad ≡ false) × (opening ≡ true)
   unfolding asked refusedIf
   all-passed true bad opening e = absurd (Option·some-ne-none _ e)
@@ -138,11 +138,14 @@ module _ (s : List ℕ) where
   Opens (Body c start) = Opening c start
   Opens (Refused r) = answering (openingStages s) ≡ some r
 
-  -- what a match on the answer shows
-  pub opens-as : {r answer : Opened} → answer ≡ openingOf s → answer ≡ r → Opens r
-  unfolding openingOf maybe
-  opens-as e d = subst Opens (sym e ∙ d) (step (answering (openingStages s)) refl)
+  pub opening-says : {r : Opened} → openingOf s ≡ r → Opens r
+  unfolding openingOf openedBy maybe
+  opening-says e = subst Opens e (step (answering (openingStages s)) refl)
     where
-      step : (o : Option Refusal) → answering (openingStages s) ≡ o → Opens (maybe (Body (charactersOf s) (bodyStart s)) Refused o)
+      step : (o : Option Refusal) → answering (openingStages s) ≡ o → Opens (openedBy o)
       step none h = opening-passed h
       step (some r) h = h
+
+  -- what a match on the answer shows
+  pub opens-as : {r answer : Opened} → answer ≡ openingOf s → answer ≡ r → Opens r
+  opens-as e d = opening-says (sym e ∙ d)

@@ -2,7 +2,7 @@
 // it uses, whether they are usable, and where its body begins. It promises what the first three stages
 // of Judge come to. What the body holds is left to others.
 ghost use mathlib.Core.Path.{_≡_};
-ghost use mathlib.Core.Bool.{not, _&&_, _||_};
+ghost use mathlib.Core.Bool.{not};
 ghost use mathlib.Core.List.{[], _∷_, _++_};
 ghost use Prim.Native.Nat.{_≤_};
 ghost use lib.ListN.{getD, drop};

@@ -29,7 +29,9 @@ byte-at-requires-6 c κs = search needs
 
 returns : tie.Need-returns
 returns c =
-    characters-advised _ (sym (c .before .before .before .before .before .before .before .is-advised .ensures) ∙ c .before .before .before .before .before .before .if1 .taken)
+    characters-advised _
+    (sym (c .before .before .before .before .before .before .before .is-advised .ensures)
+    ∙ c .before .before .before .before .before .before .if1 .taken)
     (c .before .before .before .before .before .byte-at .ensures)
     (c .before .before .before .before .byte-at2 .ensures)
     (c .before .before .before .byte-at3 .ensures)

@@ -15,13 +15,19 @@ tag-stands-requires : tie.Need-tag-stands-requires
 tag-stands-requires c κs = omega (arith, c .before .body-start .ensures, start-small (c .before .before .before .args .s .now))
 
 add-byte-stands : tie.Need-add-byte-stands
-add-byte-stands c = record { fits = omega (arith, c .before .before .body-start .ensures, start-small (c .before .before .before .before .args .s .now)) }
+add-byte-stands c =
+    record { fits = omega (arith, c .before .before .body-start .ensures, start-small (c .before .before .before .before .args .s .now)) }
 
 byte-stands-requires : tie.Need-byte-stands-requires
 byte-stands-requires c κs = search needs
 
 returns : tie.Need-returns
-returns c = opens-tests _ (c .before .before .before .body-start .ensures) (c .before .before .characters-of .ensures) (c .before .tag-stands .ensures) (c .byte-stands .ensures)
+returns c =
+    opens-tests _
+    (c .before .before .before .body-start .ensures)
+    (c .before .before .characters-of .ensures)
+    (c .before .tag-stands .ensures)
+    (c .byte-stands .ensures)
 
 pub is-opening-spec : {M : Type 1} → statement M
 is-opening-spec =

@@ -17,7 +17,13 @@ all-differ-requires : tie.Need-all-differ-requires
 all-differ-requires c κs = search needs
 
 returns : tie.Need-returns
-returns c = usable-three _ (c .before .before .before .before .before .may-separate .ensures) (c .before .before .before .before .may-separate2 .ensures) (c .before .before .before .may-separate3 .ensures) (c .before .if1 .taken) (c .all-differ .ensures)
+returns c =
+    usable-three _
+    (c .before .before .before .before .before .may-separate .ensures)
+    (c .before .before .before .before .may-separate2 .ensures)
+    (c .before .before .before .may-separate3 .ensures)
+    (c .before .if1 .taken)
+    (c .all-differ .ensures)
 
 differs-requires : tie.Need-differs-requires
 differs-requires c κs = search needs
@@ -29,7 +35,15 @@ may-separate-requires-4 : tie.Need-may-separate-requires-4
 may-separate-requires-4 c κs = search needs
 
 returns-2 : tie.Need-returns-2
-returns-2 c = usable-four _ (c .before .before .before .before .before .before .before .before .may-separate .ensures) (c .before .before .before .before .before .before .before .may-separate2 .ensures) (c .before .before .before .before .before .before .may-separate3 .ensures) (c .before .before .before .before .if1 .left) (c .may-separate4 .ensures) (c .before .before .before .differs .ensures) (c .before .all-differ2 .ensures)
+returns-2 c =
+    usable-four _
+    (c .before .before .before .before .before .before .before .before .may-separate .ensures)
+    (c .before .before .before .before .before .before .before .may-separate2 .ensures)
+    (c .before .before .before .before .before .before .may-separate3 .ensures)
+    (c .before .before .before .before .if1 .left)
+    (c .may-separate4 .ensures)
+    (c .before .before .before .differs .ensures)
+    (c .before .all-differ2 .ensures)
 
 pub is-usable-spec : {M : Type 1} → statement M
 is-usable-spec =

@@ -17,7 +17,12 @@ is-between-requires-4 : tie.Need-is-between-requires-4
 is-between-requires-4 c κs = search needs
 
 returns : tie.Need-returns
-returns c = separates-tests _ (c .is-between4 .ensures) (c .before .before .before .is-between .ensures) (c .before .before .is-between2 .ensures) (c .before .is-between3 .ensures)
+returns c =
+    separates-tests _
+    (c .is-between4 .ensures)
+    (c .before .before .before .is-between .ensures)
+    (c .before .before .is-between2 .ensures)
+    (c .before .is-between3 .ensures)
 
 pub may-separate-spec : {M : Type 1} → statement M
 may-separate-spec =

@@ -20,7 +20,11 @@ byte-stands-requires-3 : tie.Need-byte-stands-requires-3
 byte-stands-requires-3 c κs = search needs
 
 returns : tie.Need-returns
-returns c = begins-tag (c .before .before .before .before .args .s .now) (c .before .before .before .before .args .at) _ (c .before .before .byte-stands .ensures) (c .before .byte-stands2 .ensures) (c .byte-stands3 .ensures)
+returns c =
+    begins-tag (c .before .before .before .before .args .s .now) (c .before .before .before .before .args .at) _
+    (c .before .before .byte-stands .ensures)
+    (c .before .byte-stands2 .ensures)
+    (c .byte-stands3 .ensures)
 
 pub tag-stands-spec : {M : Type 1} → statement M
 tag-stands-spec =
