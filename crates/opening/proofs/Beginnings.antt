@@ -1,15 +1,15 @@
 -- How an input begins: a text stands at a place exactly where its bytes stand there, one behind the other. Assumes nothing.
 use Prim.Native.Nat.{ℕ, _+_, _≤_, _<_, zero-le, suc-le-suc}
 use mathlib.Core.Path.{_≡_, refl, sym, ap, _∙_}
-use mathlib.Core.Bool.{Bool, true, false, _&&_, and-assoc, and-true, false≢true}
+use mathlib.Core.Bool.{Bool, true, false, not, _&&_, _||_, and-assoc, and-true, false≢true}
 use mathlib.Core.List.{List, [], _∷_, _++_}
 use lib.ListN.{length, getD, drop, drop-of-length-le}
 use lib.Seq.{drop-cons, drop-drop, getD-drop}
-use lib.Dec.{eqb, lit≤}
+use lib.Dec.{eqb, ltb, lit≤}
 use Rattle.lists.specs.Lists.{if_then_else_, text, begins}
 use Rattle.lists.proofs.Texts.{and-right}
 use Rattle.characters.specs.declared.Characters.{Characters}
-use Rattle.characters.specs.Characters.{sixBytes, advised, plusCharacters, controlCharacters, charactersOf, bodyStart, body, opens}
+use Rattle.characters.specs.Characters.{sixBytes, advised, usable, plusCharacters, controlCharacters, charactersOf, bodyStart, body, badAdvice, opens}
 
 -- a text in two parts: the second stands behind the first
 pub begins-append : (ps qs xs : List ℕ) → begins (ps ++ qs) xs ≡ (begins ps xs && begins qs (drop (length ps) xs))
@@ -33,9 +33,9 @@ module _ (s : List ℕ) (at : ℕ) where
       begins-append ps qs (drop at s) ∙ ap (λ (l : List ℕ). begins ps (drop at s) && begins qs l) (drop-drop (length ps) at s)
 
   -- `UN` and a third byte, each asked for at its own place
-  pub begins-tag : (third : ℕ) {u n t : Bool} → u ≡ begins (85 ∷ []) (drop at s) → n ≡ begins (78 ∷ []) (drop (at + 1) s)
-      → t ≡ begins (third ∷ []) (drop (at + 2) s) → (u && n && t) ≡ begins (85 ∷ 78 ∷ third ∷ []) (drop at s)
-  begins-tag third e f g = cc (begins-at (85 ∷ 78 ∷ []) (third ∷ []), begins-at (85 ∷ []) (78 ∷ []), e, f, g)
+  pub begins-tag : (third : ℕ) {u n t : Bool} → u ≡ begins (text "U") (drop at s) → n ≡ begins (text "N") (drop (at + 1) s)
+      → t ≡ begins (third ∷ []) (drop (at + 2) s) → (u && n && t) ≡ begins (text "UN" ++ third ∷ []) (drop at s)
+  begins-tag third e f g = cc (begins-at (text "UN") (third ∷ []), begins-at (text "U") (text "N"), e, f, g)
 
   module _ (b : ℕ) where
     -- no byte stands behind the last
@@ -51,11 +51,16 @@ module _ (s : List ℕ) (at : ℕ) where
 
 module _ (s : List ℕ) where
   -- the six bytes of an advice stand behind `UNA`
-  pub characters-advised : advised s ≡ true
-      → record { component = getD s 3 0; element = getD s 4 0; mark = getD s 5 0; release = getD s 6 0; reserved = getD s 7 0; terminator = getD s 8 0 }
-      ≡ charactersOf s
+  pub characters-advised : {a b m r v t : ℕ} → advised s ≡ true → a ≡ getD s 3 0 → b ≡ getD s 4 0 → m ≡ getD s 5 0 → r ≡ getD s 6 0
+      → v ≡ getD s 7 0 → t ≡ getD s 8 0
+      → record { component = a; element = b; mark = m; release = r; reserved = v; terminator = t } ≡ charactersOf s
   unfolding charactersOf sixBytes
-  characters-advised e = simp (e, getD-drop)
+  characters-advised e p q x y z w = simp (e, getD-drop, p, q, x, y, z, w)
+
+  -- `UNB+`, asked for as `UNB` and the byte behind it
+  pub begins-plus : {tag plus t : Bool} → tag ≡ begins (text "UNB") s → plus ≡ begins (text "+") (drop 3 s) → (tag && plus) ≡ t
+      → begins (text "UNB+") s ≡ t
+  begins-plus e f g = cc (begins-append (text "UNB") (text "+") s)
 
   pub characters-plus : advised s ≡ false → begins (text "UNB+") s ≡ true → plusCharacters ≡ charactersOf s
   unfolding charactersOf
@@ -80,6 +85,11 @@ module _ (s : List ℕ) where
       step : (t : Bool) → (if t then 9 else 0) ≤ 9
       step true = lit≤ tt
       step false = lit≤ tt
+
+  pub bad-advice-tests : {c : Characters} {advice fit : Bool} → advice ≡ advised s → c ≡ charactersOf s → fit ≡ usable c
+      → (advice && (ltb (length s) 9 || not fit)) ≡ badAdvice s
+  unfolding badAdvice
+  bad-advice-tests e f g = cc
 
   -- the body's opening, asked for as `UNB` and the byte behind it
   pub opens-tests : {start : ℕ} {c : Characters} {tag separator : Bool} → start ≡ bodyStart s → c ≡ charactersOf s

@@ -1,13 +1,13 @@
 -- What the first three stages come to, by the tests that they make; and what a caller learns from the answer. Assumes nothing.
-use Prim.Native.Nat.{ℕ, _+_, _≤_}
-use mathlib.Core.Path.{_≡_, refl, sym, ap, subst, _∙_}
-use mathlib.Core.Bool.{Bool, true, false, not, _&&_, _||_, false≢true}
+use Prim.Native.Nat.{ℕ, _+_, _≤_, _<_}
+use mathlib.Core.Path.{_≡_, refl, sym, ap, ap₂, subst, _∙_}
+use mathlib.Core.Bool.{Bool, true, false, not, _&&_, _||_}
 use mathlib.Core.List.{List, [], _∷_, _++_}
 use mathlib.Core.Option.{Option, none, some, Option·some-ne-none}
 use native.Mathlib.Omega.{arith}
 use lib.ListN.{length, drop, length-drop}
 use lib.Dec.{ltb}
-use borrow.Author.Tests.{ltb-false, not-false}
+use borrow.Author.Tests.{ltb-false, not-false, lt-ltb, le-ltb}
 use Rattle.lists.specs.Lists.{if_then_else_, text, begins, member, allDiffer, all, maybe}
 use Rattle.lists.proofs.Texts.{or-none-right, if-false}
 use Rattle.characters.specs.declared.Characters.{Characters}
@@ -65,22 +65,25 @@ module _ (s : List ℕ) where
 
   -- ---- the four answers
 
-  pub opening-too-long : isOver s ≡ true → Refused (record { fault = TooLong; place = 0 }) ≡ openingOf s
-  unfolding openedBy asked refusedIf maybe
-  opening-too-long e = opening-asked true (badAdvice s) (opens s) e refl refl
+  pub opening-too-long : 32000 < length s → Refused (record { fault = TooLong; place = 0 }) ≡ openingOf s
+  unfolding isOver openedBy asked refusedIf maybe
+  opening-too-long h = opening-asked true (badAdvice s) (opens s) (lt-ltb 32000 (length s) h) refl refl
 
-  pub opening-unusable : isOver s ≡ false → badAdvice s ≡ true → Refused (record { fault = UnusableAdvice; place = 0 }) ≡ openingOf s
-  unfolding openedBy asked refusedIf maybe
-  opening-unusable e f = opening-asked false true (opens s) e f refl
+  pub opening-unusable : length s ≤ 32000 → badAdvice s ≡ true → Refused (record { fault = UnusableAdvice; place = 0 }) ≡ openingOf s
+  unfolding isOver openedBy asked refusedIf maybe
+  opening-unusable h f = opening-asked false true (opens s) (le-ltb 32000 (length s) h) f refl
 
-  pub opening-missing : isOver s ≡ false → badAdvice s ≡ false → opens s ≡ false
-      → Refused (record { fault = NoOpening; place = bodyStart s }) ≡ openingOf s
-  unfolding openedBy asked refusedIf maybe
-  opening-missing e f g = opening-asked false false false e f g
+  pub opening-missing : {start : ℕ} → length s ≤ 32000 → badAdvice s ≡ false → opens s ≡ false → start ≡ bodyStart s
+      → Refused (record { fault = NoOpening; place = start }) ≡ openingOf s
+  unfolding isOver openedBy asked refusedIf maybe
+  opening-missing h f g e =
+      ap (λ (p : ℕ). Refused (record { fault = NoOpening; place = p })) e
+      ∙ opening-asked false false false (le-ltb 32000 (length s) h) f g
 
-  pub opening-body : isOver s ≡ false → badAdvice s ≡ false → opens s ≡ true → Body (charactersOf s) (bodyStart s) ≡ openingOf s
-  unfolding openedBy asked refusedIf maybe
-  opening-body e f g = opening-asked false false true e f g
+  pub opening-body : {c : Characters} {start : ℕ} → length s ≤ 32000 → badAdvice s ≡ false → opens s ≡ true → c ≡ charactersOf s
+      → start ≡ bodyStart s → Body c start ≡ openingOf s
+  unfolding isOver openedBy asked refusedIf maybe
+  opening-body h f g d e = ap₂ Body d e ∙ opening-asked false false true (le-ltb 32000 (length s) h) f g
 
   -- ---- what a caller learns
 
@@ -91,10 +94,10 @@ module _ (s : List ℕ) where
     pub short : length s ≤ 32000
     pub begun : begins (text "UNB" ++ c .element ∷ []) (drop start s) ≡ true
     pub fits : start + 4 ≤ length s
-    pub sound : usable c ≡ true
-    pub passed : answering (openingStages s) ≡ none
+    pub usable-characters : usable c ≡ true
+    pub unmet : answering (openingStages s) ≡ none
 
-  -- no refusal answers exactly where none of the tests refuses
+  -- where no refusal answers, none of the three tests refuses
   all-passed : (over bad opening : Bool) → asked over bad opening ≡ none → (over ≡ false) × (bad ≡ false) × (opening ≡ true)
   unfolding asked refusedIf
   all-passed true bad opening e = absurd (Option·some-ne-none _ e)
@@ -126,8 +129,8 @@ module _ (s : List ℕ) where
         short = ltb-false 32000 (length s) (tests .0);
         begun = tests .2;
         fits = opening-fits (tests .2);
-        sound = characters-usable (advised s) refl (tests .1);
-        passed = e;
+        usable-characters = characters-usable (advised s) refl (tests .1);
+        unmet = e;
       }
 
   -- What each answer says. Every caller goes by this alone.
@@ -135,11 +138,14 @@ module _ (s : List ℕ) where
   Opens (Body c start) = Opening c start
   Opens (Refused r) = answering (openingStages s) ≡ some r
 
-  -- what a match on the answer shows
-  pub opens-as : {r answer : Opened} → answer ≡ openingOf s → answer ≡ r → Opens r
-  unfolding openingOf maybe
-  opens-as e d = subst Opens (sym e ∙ d) (step (answering (openingStages s)) refl)
+  pub opening-says : {r : Opened} → openingOf s ≡ r → Opens r
+  unfolding openingOf openedBy maybe
+  opening-says e = subst Opens e (step (answering (openingStages s)) refl)
     where
-      step : (o : Option Refusal) → answering (openingStages s) ≡ o → Opens (maybe (Body (charactersOf s) (bodyStart s)) Refused o)
+      step : (o : Option Refusal) → answering (openingStages s) ≡ o → Opens (openedBy o)
       step none h = opening-passed h
       step (some r) h = h
+
+  -- what a match on the answer shows
+  pub opens-as : {r answer : Opened} → answer ≡ openingOf s → answer ≡ r → Opens r
+  opens-as e d = opening-says (sym e ∙ d)

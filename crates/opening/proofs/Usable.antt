@@ -1,11 +1,11 @@
 -- When six bytes are usable, as the code asks it: the definition's tests, bracketed as the code brackets them. Assumes nothing.
 use Prim.Native.Nat.{ℕ}
-use mathlib.Core.Path.{_≡_, refl, ap₂}
+use mathlib.Core.Path.{_≡_, refl}
 use mathlib.Core.Bool.{Bool, true, false, not, _&&_, _||_, and-assoc, and-true, or-assoc, or-false}
-use mathlib.Core.List.{List, [], _∷_}
+use mathlib.Core.List.{[], _∷_}
 use lib.Dec.{eqb}
 use borrow.Author.Tests.{eq-eqb, ne-eqb}
-use Rattle.lists.specs.Lists.{if_then_else_, text, member, allDiffer, all}
+use Rattle.lists.specs.Lists.{member, allDiffer, all}
 use Rattle.characters.specs.declared.Characters.{Characters}
 use Rattle.characters.specs.Characters.{between, upper, lower, digit, separates, released, serviceCharacters, usable}
 

@@ -2,11 +2,11 @@
 // it uses, whether they are usable, and where its body begins. It promises what the first three stages
 // of Judge come to. What the body holds is left to others.
 ghost use mathlib.Core.Path.{_≡_};
-ghost use mathlib.Core.Bool.{not, _&&_, _||_};
-ghost use mathlib.Core.List.{[], _∷_};
+ghost use mathlib.Core.Bool.{not};
+ghost use mathlib.Core.List.{[], _∷_, _++_};
 ghost use Prim.Native.Nat.{_≤_};
 ghost use lib.ListN.{getD, drop};
-ghost use Rattle.lists.specs.Lists.{begins, member, allDiffer};
+ghost use Rattle.lists.specs.Lists.{text, begins, member, allDiffer};
 ghost use Rattle.characters.specs.Characters.{between, separates, usable, advised, charactersOf, bodyStart, badAdvice, opens};
 ghost use Rattle.opening.specs.Opening.{openingOf};
 use characters::Characters;
@@ -47,16 +47,19 @@ fn all_differ(a: u8, b: u8, c: u8, d: u8) -> bool
 pub fn is_usable(c: Characters) -> bool
     ensures { λ r. ⌜ r ≡ usable c ⌝ }
 {
-    let marks = (c.reserved == b' ') & ((c.mark == b'.') | (c.mark == b','));
+    let space_and_mark = (c.reserved == b' ') & ((c.mark == b'.') | (c.mark == b','));
     let separators = may_separate(c.component)
         & may_separate(c.element)
         & may_separate(c.terminator);
     if c.release == b' ' {
-        return marks & separators & all_differ(c.mark, c.component, c.element, c.terminator);
+        return space_and_mark
+            & separators
+            & all_differ(c.mark, c.component, c.element, c.terminator);
     }
-    let marked = differs(c.mark, c.component, c.element, c.terminator) & (c.mark != c.release);
-    let apart = all_differ(c.component, c.element, c.terminator, c.release);
-    marks & separators & may_separate(c.release) & marked & apart
+    let mark_differs = differs(c.mark, c.component, c.element, c.terminator)
+        & (c.mark != c.release);
+    let others_differ = all_differ(c.component, c.element, c.terminator, c.release);
+    space_and_mark & separators & may_separate(c.release) & mark_differs & others_differ
 }
 
 // ---- the opening, with and without advice
@@ -72,7 +75,7 @@ fn byte_at(s: &[u8], at: usize) -> u8
 }
 
 // The byte stands at a place.
-fn stands(s: &[u8], at: usize, b: u8) -> bool
+fn byte_stands(s: &[u8], at: usize, b: u8) -> bool
     ensures { λ r. ⌜ r ≡ begins (b ∷ []) (drop at (now (s .entry))) ⌝ }
 {
     if s.len() <= at {
@@ -82,17 +85,17 @@ fn stands(s: &[u8], at: usize, b: u8) -> bool
 }
 
 // `UN` and a third byte stand at a place.
-fn stands_tag(s: &[u8], at: usize, third: u8) -> bool
+fn tag_stands(s: &[u8], at: usize, third: u8) -> bool
     requires { ⌜ at ≤ 9 ⌝ }
-    ensures { λ r. ⌜ r ≡ begins (85 ∷ 78 ∷ third ∷ []) (drop at (now (s .entry))) ⌝ }
+    ensures { λ r. ⌜ r ≡ begins (text "UN" ++ third ∷ []) (drop at (now (s .entry))) ⌝ }
 {
-    stands(s, at, b'U') & stands(s, at + 1, b'N') & stands(s, at + 2, third)
+    byte_stands(s, at, b'U') & byte_stands(s, at + 1, b'N') & byte_stands(s, at + 2, third)
 }
 
 fn is_advised(s: &[u8]) -> bool
     ensures { λ r. ⌜ r ≡ advised (now (s .entry)) ⌝ }
 {
-    stands_tag(s, 0, b'A')
+    tag_stands(s, 0, b'A')
 }
 
 fn characters_of(s: &[u8]) -> Characters
@@ -108,7 +111,7 @@ fn characters_of(s: &[u8]) -> Characters
             terminator: byte_at(s, 8),
         };
     }
-    if stands_tag(s, 0, b'B') & stands(s, 3, b'+') {
+    if tag_stands(s, 0, b'B') & byte_stands(s, 3, b'+') {
         return Characters {
             component: b':',
             element: b'+',
@@ -149,7 +152,7 @@ fn is_opening(s: &[u8]) -> bool
 {
     let start = body_start(s);
     let c = characters_of(s);
-    stands_tag(s, start, b'B') & stands(s, start + 3, c.element)
+    tag_stands(s, start, b'B') & byte_stands(s, start + 3, c.element)
 }
 
 // What the first three stages of Judge come to.

@@ -3,9 +3,6 @@ use Rattle.opening.proofs.Usable.{all-differ-tests}
 use borrow.Author.Needs.{needs}
 use Rattle.opening.proofs.all_differ.Statement.{statement}
 use Rattle.opening.proofs.all_differ.Tie as tie
-use Rattle.opening.proofs.all_differ.Reads as reads
-use Rattle.opening.proofs.all_differ.Lts as lts
-use Rattle.opening.proofs.differs.Reads as differs-reads
 
 differs-requires : tie.Need-differs-requires
 differs-requires c κs = search needs

@@ -1,21 +1,18 @@
--- `opening::body_start` meets its contract. Assumes nothing.
+-- `opening::body_start` meets its contract: it makes the definition's test. Assumes nothing.
 use mathlib.Core.Path.{sym, _∙_}
 use Rattle.opening.proofs.Beginnings.{start-advised, start-plain}
 use borrow.Author.Needs.{needs}
 use Rattle.opening.proofs.body_start.Statement.{statement}
 use Rattle.opening.proofs.body_start.Tie as tie
-use Rattle.opening.proofs.body_start.Reads as reads
-use Rattle.opening.proofs.body_start.Lts as lts
-use Rattle.opening.proofs.is_advised.Reads as is-advised-reads
 
 is-advised-requires : tie.Need-is-advised-requires
 is-advised-requires c κs = search needs
 
 returns : tie.Need-returns
-returns c = start-advised (c .before .before .before .args .s .now) (sym (c .before .is-advised .ensures) ∙ c .if1 .taken)
+returns c = start-advised _ (sym (c .before .is-advised .ensures) ∙ c .if1 .taken)
 
 returns-2 : tie.Need-returns-2
-returns-2 c = start-plain (c .before .before .before .args .s .now) (sym (c .before .is-advised .ensures) ∙ c .if1 .left)
+returns-2 c = start-plain _ (sym (c .before .is-advised .ensures) ∙ c .if1 .left)
 
 pub body-start-spec : {M : Type 1} → statement M
 body-start-spec = tie.close (tie.spec is-advised-requires returns returns-2)

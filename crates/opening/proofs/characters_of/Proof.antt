@@ -1,18 +1,10 @@
 -- `opening::characters_of` meets its contract: it makes the definition's two tests. Assumes nothing.
-use mathlib.Core.Path.{sym, ap₂, _∙_}
-use mathlib.Core.Bool.{_&&_}
-use Rattle.lists.specs.Lists.{text}
+use mathlib.Core.Path.{sym, _∙_}
 use Rattle.characters.specs.Characters.{plusCharacters, controlCharacters, sixBytes}
-use Rattle.opening.proofs.Beginnings.{begins-append, characters-advised, characters-plus, characters-control}
+use Rattle.opening.proofs.Beginnings.{begins-plus, characters-advised, characters-plus, characters-control}
 use borrow.Author.Needs.{needs}
 use Rattle.opening.proofs.characters_of.Statement.{statement}
 use Rattle.opening.proofs.characters_of.Tie as tie
-use Rattle.opening.proofs.characters_of.Reads as reads
-use Rattle.opening.proofs.characters_of.Lts as lts
-use Rattle.opening.proofs.byte_at.Reads as byte-at-reads
-use Rattle.opening.proofs.is_advised.Reads as is-advised-reads
-use Rattle.opening.proofs.stands.Reads as stands-reads
-use Rattle.opening.proofs.stands_tag.Reads as stands-tag-reads
 
 is-advised-requires : tie.Need-is-advised-requires
 is-advised-requires c κs = search needs
@@ -36,21 +28,34 @@ byte-at-requires-6 : tie.Need-byte-at-requires-6
 byte-at-requires-6 c κs = search needs
 
 returns : tie.Need-returns
-returns c = cc (characters-advised (c .before .before .before .before .before .before .before .before .before .args .s .now) (sym (c .before .before .before .before .before .before .before .is-advised .ensures) ∙ c .before .before .before .before .before .before .if1 .taken))
+returns c =
+    characters-advised _
+    (sym (c .before .before .before .before .before .before .before .is-advised .ensures)
+    ∙ c .before .before .before .before .before .before .if1 .taken)
+    (c .before .before .before .before .before .byte-at .ensures)
+    (c .before .before .before .before .byte-at2 .ensures)
+    (c .before .before .before .byte-at3 .ensures)
+    (c .before .before .byte-at4 .ensures)
+    (c .before .byte-at5 .ensures)
+    (c .byte-at6 .ensures)
 
-stands-tag-requires : tie.Need-stands-tag-requires
-stands-tag-requires c κs = search needs
+tag-stands-requires : tie.Need-tag-stands-requires
+tag-stands-requires c κs = search needs
 
-stands-requires : tie.Need-stands-requires
-stands-requires c κs = search needs
+byte-stands-requires : tie.Need-byte-stands-requires
+byte-stands-requires c κs = search needs
 
 returns-2 : tie.Need-returns-2
 unfolding plusCharacters sixBytes
-returns-2 c = characters-plus (c .before .before .before .before .before .before .args .s .now) (sym (c .before .before .before .before .is-advised .ensures) ∙ c .before .before .before .if1 .left) (begins-append (text "UNB") (text "+") (c .before .before .before .before .before .before .args .s .now) ∙ sym (ap₂ _&&_ (c .before .before .stands-tag .ensures) (c .before .stands .ensures)) ∙ c .if2 .taken)
+returns-2 c =
+    characters-plus _ (sym (c .before .before .before .before .is-advised .ensures) ∙ c .before .before .before .if1 .left)
+    (begins-plus _ (c .before .before .tag-stands .ensures) (c .before .byte-stands .ensures) (c .if2 .taken))
 
 returns-3 : tie.Need-returns-3
 unfolding controlCharacters sixBytes
-returns-3 c = characters-control (c .before .before .before .before .before .before .args .s .now) (sym (c .before .before .before .before .is-advised .ensures) ∙ c .before .before .before .if1 .left) (begins-append (text "UNB") (text "+") (c .before .before .before .before .before .before .args .s .now) ∙ sym (ap₂ _&&_ (c .before .before .stands-tag .ensures) (c .before .stands .ensures)) ∙ c .if2 .left)
+returns-3 c =
+    characters-control _ (sym (c .before .before .before .before .is-advised .ensures) ∙ c .before .before .before .if1 .left)
+    (begins-plus _ (c .before .before .tag-stands .ensures) (c .before .byte-stands .ensures) (c .if2 .left))
 
 pub characters-of-spec : {M : Type 1} → statement M
 characters-of-spec =
@@ -64,7 +69,7 @@ characters-of-spec =
     byte-at-requires-5
     byte-at-requires-6
     returns
-    stands-tag-requires
-    stands-requires
+    tag-stands-requires
+    byte-stands-requires
     returns-2
     returns-3)

@@ -2,8 +2,6 @@
 use Rattle.opening.proofs.Usable.{differ-tests}
 use Rattle.opening.proofs.differs.Statement.{statement}
 use Rattle.opening.proofs.differs.Tie as tie
-use Rattle.opening.proofs.differs.Reads as reads
-use Rattle.opening.proofs.differs.Lts as lts
 
 returns : tie.Need-returns
 returns c = differ-tests (c .args .x) (c .args .a) (c .args .b) (c .args .c)

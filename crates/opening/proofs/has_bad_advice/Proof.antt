@@ -1,13 +1,8 @@
 -- `opening::has_bad_advice` meets its contract: it makes the definition's tests. Assumes nothing.
-use Rattle.characters.specs.Characters.{badAdvice}
+use Rattle.opening.proofs.Beginnings.{bad-advice-tests}
 use borrow.Author.Needs.{needs}
 use Rattle.opening.proofs.has_bad_advice.Statement.{statement}
 use Rattle.opening.proofs.has_bad_advice.Tie as tie
-use Rattle.opening.proofs.has_bad_advice.Reads as reads
-use Rattle.opening.proofs.has_bad_advice.Lts as lts
-use Rattle.opening.proofs.characters_of.Reads as characters-of-reads
-use Rattle.opening.proofs.is_advised.Reads as is-advised-reads
-use Rattle.opening.proofs.is_usable.Reads as is-usable-reads
 
 is-advised-requires : tie.Need-is-advised-requires
 is-advised-requires c κs = search needs
@@ -19,8 +14,7 @@ is-usable-requires : tie.Need-is-usable-requires
 is-usable-requires c κs = search needs
 
 returns : tie.Need-returns
-unfolding badAdvice
-returns c = cc
+returns c = bad-advice-tests _ (c .before .before .is-advised .ensures) (c .before .characters-of .ensures) (c .is-usable .ensures)
 
 pub has-bad-advice-spec : {M : Type 1} → statement M
 has-bad-advice-spec =

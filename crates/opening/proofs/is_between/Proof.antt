@@ -3,8 +3,6 @@ use mathlib.Core.Path.{refl}
 use Rattle.characters.specs.Characters.{between}
 use Rattle.opening.proofs.is_between.Statement.{statement}
 use Rattle.opening.proofs.is_between.Tie as tie
-use Rattle.opening.proofs.is_between.Reads as reads
-use Rattle.opening.proofs.is_between.Lts as lts
 
 returns : tie.Need-returns
 unfolding between

@@ -3,11 +3,6 @@ use Rattle.opening.proofs.Usable.{usable-three, usable-four}
 use borrow.Author.Needs.{needs}
 use Rattle.opening.proofs.is_usable.Statement.{statement}
 use Rattle.opening.proofs.is_usable.Tie as tie
-use Rattle.opening.proofs.is_usable.Reads as reads
-use Rattle.opening.proofs.is_usable.Lts as lts
-use Rattle.opening.proofs.all_differ.Reads as all-differ-reads
-use Rattle.opening.proofs.differs.Reads as differs-reads
-use Rattle.opening.proofs.may_separate.Reads as may-separate-reads
 
 may-separate-requires : tie.Need-may-separate-requires
 may-separate-requires c κs = search needs
@@ -22,7 +17,13 @@ all-differ-requires : tie.Need-all-differ-requires
 all-differ-requires c κs = search needs
 
 returns : tie.Need-returns
-returns c = usable-three _ (c .before .before .before .before .before .may-separate .ensures) (c .before .before .before .before .may-separate2 .ensures) (c .before .before .before .may-separate3 .ensures) (c .before .if1 .taken) (c .all-differ .ensures)
+returns c =
+    usable-three _
+    (c .before .before .before .before .before .may-separate .ensures)
+    (c .before .before .before .before .may-separate2 .ensures)
+    (c .before .before .before .may-separate3 .ensures)
+    (c .before .if1 .taken)
+    (c .all-differ .ensures)
 
 differs-requires : tie.Need-differs-requires
 differs-requires c κs = search needs
@@ -34,7 +35,15 @@ may-separate-requires-4 : tie.Need-may-separate-requires-4
 may-separate-requires-4 c κs = search needs
 
 returns-2 : tie.Need-returns-2
-returns-2 c = usable-four _ (c .before .before .before .before .before .before .before .before .may-separate .ensures) (c .before .before .before .before .before .before .before .may-separate2 .ensures) (c .before .before .before .before .before .before .may-separate3 .ensures) (c .before .before .before .before .if1 .left) (c .may-separate4 .ensures) (c .before .before .before .differs .ensures) (c .before .all-differ2 .ensures)
+returns-2 c =
+    usable-four _
+    (c .before .before .before .before .before .before .before .before .may-separate .ensures)
+    (c .before .before .before .before .before .before .before .may-separate2 .ensures)
+    (c .before .before .before .before .before .before .may-separate3 .ensures)
+    (c .before .before .before .before .if1 .left)
+    (c .may-separate4 .ensures)
+    (c .before .before .before .differs .ensures)
+    (c .before .all-differ2 .ensures)
 
 pub is-usable-spec : {M : Type 1} → statement M
 is-usable-spec =

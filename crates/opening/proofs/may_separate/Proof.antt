@@ -3,9 +3,6 @@ use Rattle.opening.proofs.Usable.{separates-tests}
 use borrow.Author.Needs.{needs}
 use Rattle.opening.proofs.may_separate.Statement.{statement}
 use Rattle.opening.proofs.may_separate.Tie as tie
-use Rattle.opening.proofs.may_separate.Reads as reads
-use Rattle.opening.proofs.may_separate.Lts as lts
-use Rattle.opening.proofs.is_between.Reads as is-between-reads
 
 is-between-requires : tie.Need-is-between-requires
 is-between-requires c κs = search needs
@@ -20,7 +17,12 @@ is-between-requires-4 : tie.Need-is-between-requires-4
 is-between-requires-4 c κs = search needs
 
 returns : tie.Need-returns
-returns c = separates-tests _ (c .is-between4 .ensures) (c .before .before .before .is-between .ensures) (c .before .before .is-between2 .ensures) (c .before .is-between3 .ensures)
+returns c =
+    separates-tests _
+    (c .is-between4 .ensures)
+    (c .before .before .before .is-between .ensures)
+    (c .before .before .is-between2 .ensures)
+    (c .before .is-between3 .ensures)
 
 pub may-separate-spec : {M : Type 1} → statement M
 may-separate-spec =

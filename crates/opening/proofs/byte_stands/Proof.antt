@@ -1,11 +1,9 @@
--- `opening::stands` meets its contract: behind the last byte nothing stands. Assumes nothing.
+-- `opening::byte_stands` meets its contract: behind the last byte nothing stands. Assumes nothing.
 use mathlib.Core.Path.{sym}
 use Rattle.opening.proofs.Beginnings.{stands-none, stands-byte}
 use borrow.Author.Needs.{needs}
-use Rattle.opening.proofs.stands.Statement.{statement}
-use Rattle.opening.proofs.stands.Tie as tie
-use Rattle.opening.proofs.stands.Reads as reads
-use Rattle.opening.proofs.stands.Lts as lts
+use Rattle.opening.proofs.byte_stands.Statement.{statement}
+use Rattle.opening.proofs.byte_stands.Tie as tie
 
 returns : tie.Need-returns
 returns c = sym (stands-none (c .before .args .s .now) (c .before .args .at) (c .before .args .b) (search needs))
@@ -16,5 +14,5 @@ shared-slice-read-result c = search needs
 returns-2 : tie.Need-returns-2
 returns-2 c = sym (stands-byte (c .before .before .args .s .now) (c .before .before .args .at) (c .before .before .args .b) (search needs))
 
-pub stands-spec : {M : Type 1} → statement M
-stands-spec = tie.close (tie.spec returns shared-slice-read-result returns-2)
+pub byte-stands-spec : {M : Type 1} → statement M
+byte-stands-spec = tie.close (tie.spec returns shared-slice-read-result returns-2)
