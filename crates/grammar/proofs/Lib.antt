@@ -1,7 +1,9 @@
 pub mod Trail
+pub mod Order
 pub mod Walk
+pub mod Pieces
 pub mod Passing
-pub mod Frames
+pub mod Control
 pub mod Begun
 pub mod Gone
 pub mod Theorem

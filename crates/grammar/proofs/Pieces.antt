@@ -1,28 +1,27 @@
--- Laws of the grammar's pieces: how many segments of a kind are in them, and what is seen from behind an open header.
+-- How many segments of a kind are in the grammar's pieces, and how many messages are counted behind an open header.
 -- What passed is a list of segments, the nearest first. Assumes nothing.
-use Prim.Native.Nat.{ℕ, suc, _+_, _<_}
+use Prim.Native.Nat.{ℕ, _+_, _<_}
 use native.Mathlib.Omega.{arith}
 use mathlib.Core.Path.{_≡_, refl, sym, ap, _∙_}
 use mathlib.Core.Logic.{inl, inr, ⊎-elim}
 use mathlib.Core.Bool.{Bool, true, false}
-use mathlib.Core.List.{List, [], _∷_, _++_}
-use mathlib.Core.Option.{none, some}
-use lib.ListN.{length, length-map, length-reverseAux}
-use lib.Dec.{eqb}
+use mathlib.Core.List.{List, [], _∷_, _++_, map}
+use lib.ListN.{length}
 use borrow.Author.Tests.{eq-eqb}
-use Rattle.lists.specs.Lists.{if_then_else_, all, those, through, first, maybe}
+use Rattle.lists.specs.Lists.{if_then_else_, all, those, through}
 use Rattle.lists.proofs.Texts.{and-left, and-right, or-cases, if-true, if-false}
 use Rattle.reading.specs.Tokens.{Segment}
 use Rattle.segments.specs.declared.Kind.{Kind}
-use Rattle.segments.specs.declared.Kind.the-variants.{Unb, Ung, Unh, Uns, Unt, User}
+use Rattle.segments.specs.declared.Kind.the-variants.{Unb, Ung, Unh, Uns, User}
 use Rattle.segments.specs.Kinds.{index, is}
 use Rattle.segments.specs.Tags.{kindOf}
-use Rattle.segments.specs.Order.{segmentsIn, messagesIn, groupsIn, segmentsSinceHeader, messagesSinceGroup}
-use Rattle.control.specs.Control.{isReference, referenceOf, countOf}
-use Rattle.grammar.specs.Grammar.{Frame, OneOrMore, one, more, size, Inner, isInner, Message, Group, Content, contentCount}
+use Rattle.segments.specs.Order.{messagesIn, groupsIn, messagesSinceGroup}
+use Rattle.grammar.specs.Grammar.{Frame, OneOrMore, one, more, size, Inner, isInner, Asking, Message, Group, Content}
 use Rattle.grammar.proofs.Trail.{_▸_, ▸-append, ▸-map}
-use Rattle.grammar.proofs.Walk.{is-eq}
-use Rattle.grammar.proofs.Passing.{kinds, nearestReference, Closes}
+use Rattle.grammar.proofs.Order.{is-eq}
+
+abbrev pub kinds : List Segment → List Kind
+kinds gs = map kindOf gs
 
 -- ---- how many segments of a kind
 
@@ -50,8 +49,8 @@ module _ (kind : Kind) where
   number-append xs ys =
       omega (arith, number-▸ [] (xs ++ ys), ap (number kind) (▸-append [] xs ys), number-▸ ([] ▸ xs) ys, number-▸ [] xs)
 
-  number-frame : {header trailer : Kind} {Middle : List Segment → Type 0} {count : List Segment → ℕ} {gs : List Segment}
-      (f : Frame header trailer Middle count gs)
+  number-frame : {header trailer : Kind} {Middle : List Segment → Type 0} {Asked : Segment → List Segment → Segment → Type 0}
+      {gs : List Segment} (f : Frame header trailer Middle Asked gs)
       → number kind gs ≡ alone kind header + (number kind (f .middle) + alone kind trailer)
   number-frame f =
       omega (
@@ -99,50 +98,51 @@ pub inner-headers : (gs : List Segment) → Inner gs → number Unh gs ≡ 0
 unfolding those is
 inner-headers = none-in-inner Unh refl refl
 
-pub messages-groups : (gs : List Segment) → OneOrMore Message gs → number Ung gs ≡ 0
-unfolding those is
-messages-groups gs =
-    none-in-pieces Ung (λ piece f. omega (arith, number-frame Ung f, none-in-inner Ung refl refl (f .middle) (f .inside)))
+module _ (asked : Asking) where
+  pub messages-groups : (gs : List Segment) → OneOrMore (Message asked) gs → number Ung gs ≡ 0
+  unfolding those is
+  messages-groups gs =
+      none-in-pieces Ung (λ piece f. omega (arith, number-frame Ung f, none-in-inner Ung refl refl (f .middle) (f .inside)))
 
-messages-interchanges : (gs : List Segment) → OneOrMore Message gs → number Unb gs ≡ 0
-unfolding those is
-messages-interchanges gs =
-    none-in-pieces Unb (λ piece f. omega (arith, number-frame Unb f, none-in-inner Unb refl refl (f .middle) (f .inside)))
+  messages-interchanges : (gs : List Segment) → OneOrMore (Message asked) gs → number Unb gs ≡ 0
+  unfolding those is
+  messages-interchanges gs =
+      none-in-pieces Unb (λ piece f. omega (arith, number-frame Unb f, none-in-inner Unb refl refl (f .middle) (f .inside)))
 
-pub content-interchanges : (gs : List Segment) → Content gs → number Unb gs ≡ 0
-unfolding those is
-content-interchanges gs (inl h) =
-    none-in-pieces Unb (λ piece f. omega (arith, number-frame Unb f, messages-interchanges (f .middle) (f .inside))) h
-content-interchanges gs (inr h) = messages-interchanges gs h
+  pub content-interchanges : (gs : List Segment) → Content asked gs → number Unb gs ≡ 0
+  unfolding those is
+  content-interchanges gs (inl h) =
+      none-in-pieces Unb (λ piece f. omega (arith, number-frame Unb f, messages-interchanges (f .middle) (f .inside))) h
+  content-interchanges gs (inr h) = messages-interchanges gs h
 
--- each message has one UNH, each group one UNG
-pub messages-size : {gs : List Segment} (hs : OneOrMore Message gs) → number Unh gs ≡ size hs
-unfolding those is
-messages-size =
-    one-in-pieces Unh (λ piece f. omega (arith, number-frame Unh f, inner-headers (f .middle) (f .inside)))
+  -- each message has one UNH, each group one UNG
+  pub messages-size : {gs : List Segment} (hs : OneOrMore (Message asked) gs) → number Unh gs ≡ size hs
+  unfolding those is
+  messages-size =
+      one-in-pieces Unh (λ piece f. omega (arith, number-frame Unh f, inner-headers (f .middle) (f .inside)))
 
-pub groups-size : {gs : List Segment} (hs : OneOrMore Group gs) → number Ung gs ≡ size hs
-unfolding those is
-groups-size =
-    one-in-pieces Ung (λ piece f. omega (arith, number-frame Ung f, messages-groups (f .middle) (f .inside)))
+  pub groups-size : {gs : List Segment} (hs : OneOrMore (Group asked) gs) → number Ung gs ≡ size hs
+  unfolding those is
+  groups-size =
+      one-in-pieces Ung (λ piece f. omega (arith, number-frame Ung f, messages-groups (f .middle) (f .inside)))
 
-pub some-messages : (gs : List Segment) → OneOrMore Message gs → 0 < number Unh gs
-unfolding those is
-some-messages gs = some-in-pieces Unh (λ piece f. omega (arith, number-frame Unh f))
+  pub some-messages : (gs : List Segment) → OneOrMore (Message asked) gs → 0 < number Unh gs
+  unfolding those is
+  some-messages gs = some-in-pieces Unh (λ piece f. omega (arith, number-frame Unh f))
 
-pub some-groups : (gs : List Segment) → OneOrMore Group gs → 0 < number Ung gs
-unfolding those is
-some-groups gs = some-in-pieces Ung (λ piece f. omega (arith, number-frame Ung f))
+  pub some-groups : (gs : List Segment) → OneOrMore (Group asked) gs → 0 < number Ung gs
+  unfolding those is
+  some-groups gs = some-in-pieces Ung (λ piece f. omega (arith, number-frame Ung f))
 
-pub some-content : (gs : List Segment) → Content gs → 0 < number Unh gs
-some-content gs (inl h) =
-    some-in-pieces Unh (λ piece f. omega (arith, number-frame Unh f, some-messages (f .middle) (f .inside))) h
-some-content gs (inr h) = some-messages gs h
+  pub some-content : (gs : List Segment) → Content asked gs → 0 < number Unh gs
+  some-content gs (inl h) =
+      some-in-pieces Unh (λ piece f. omega (arith, number-frame Unh f, some-messages (f .middle) (f .inside))) h
+  some-content gs (inr h) = some-messages gs h
 
 -- ---- behind an open header
 
 module _ (kind : Kind) where
-  passed-over : (g : Segment) (gs : List Segment) → number kind (g ∷ gs) ≡ 0
+  pub passed-over : (g : Segment) (gs : List Segment) → number kind (g ∷ gs) ≡ 0
       → (is kind (kindOf g) ≡ false) × (number kind gs ≡ 0)
   unfolding those
   passed-over g gs = step (is kind (kindOf g))
@@ -153,16 +153,6 @@ module _ (kind : Kind) where
       step false h = (refl, h)
 
   -- segments of other kinds hide nothing
-  nearest-▸ : (past gs : List Segment) → number kind gs ≡ 0
-      → nearestReference kind (past ▸ gs) ≡ nearestReference kind past
-  unfolding first
-  nearest-▸ past [] h = refl
-  nearest-▸ past (g ∷ gs) h =
-      let other = passed-over g gs h in
-      nearest-▸ (g ∷ past) gs (other .1)
-      ∙ ap (maybe none referenceOf)
-      (if-false (is kind (kindOf g)) (some g) (first (λ s. is kind (kindOf s)) past) (other .0))
-
   through-▸ : (past gs : List Segment) → number kind gs ≡ 0
       → through (is kind) (kinds (past ▸ gs)) ≡ through (is kind) (kinds past) ▸ kinds gs
   unfolding through
@@ -175,35 +165,18 @@ module _ (kind : Kind) where
 
 module _ (header : Kind) (head : Segment) (outer middle : List Segment) (opening : kindOf head ≡ header)
     (others : number header middle ≡ 0) where
-  own : is header (kindOf head) ≡ true
+  pub own : is header (kindOf head) ≡ true
   unfolding is
   own = ap (is header) opening ∙ eq-eqb (index header) (index header) refl
 
-  -- it is the nearest of its kind
-  nearest-own : nearestReference header (head ∷ outer ▸ middle) ≡ referenceOf head
-  unfolding first maybe
-  nearest-own =
-      nearest-▸ header (head ∷ outer) middle others
-      ∙ ap (maybe none referenceOf)
-      (if-true (is header (kindOf head)) (some head) (first (λ g. is header (kindOf g)) outer) own)
-
   -- since it, only the middle has passed
-  through-own : through (is header) (kinds (head ∷ outer ▸ middle)) ≡ header ∷ [] ▸ kinds middle
+  pub through-own : through (is header) (kinds (head ∷ outer ▸ middle)) ≡ header ∷ [] ▸ kinds middle
   unfolding through
   through-own =
       through-▸ header (head ∷ outer) middle others
       ∙ ap (λ (l : List Kind). kindOf head ∷ l ▸ kinds middle)
       (if-true (is header (kindOf head)) [] (through (is header) (kinds outer)) own)
       ∙ ap (λ (k : Kind). k ∷ [] ▸ kinds middle) opening
-
--- ---- the numbers that a trailer has to say
-
-pub message-count : (head : Segment) (outer middle : List Segment) → kindOf head ≡ Unh → number Unh middle ≡ 0
-    → segmentsSinceHeader (Unt ∷ kinds (head ∷ outer ▸ middle)) ≡ length middle + 2
-unfolding segmentsSinceHeader segmentsIn through is
-message-count head outer middle opening others =
-    ap (λ (l : List Kind). suc (length l)) (through-own Unh head outer middle opening others)
-    ∙ omega (arith, length-reverseAux (kinds middle) (Unh ∷ []), length-map middle kindOf)
 
 pub group-count : (head : Segment) (outer middle : List Segment) → kindOf head ≡ Ung → number Ung middle ≡ 0
     → messagesSinceGroup (kinds (head ∷ outer ▸ middle)) ≡ messagesIn (kinds middle)
@@ -223,40 +196,3 @@ module _ (head : Segment) (middle : List Segment) (opening : kindOf head ≡ Unb
   pub all-groups : groupsIn (kinds (head ∷ [] ▸ middle)) ≡ groupsIn (kinds middle)
   unfolding groupsIn those is
   all-groups = omega (arith, number-▸ Ung (head ∷ []) middle, ap (alone Ung) opening)
-
-  pub interchange-count : contentCount (kinds (head ∷ [] ▸ middle)) ≡ contentCount (kinds middle)
-  interchange-count = λ i. if eqb (all-groups i) 0 then all-messages i else all-groups i
-
--- ---- a frame is an open header, its middle and a trailer that closes it
-
-module _ {header trailer : Kind} {Middle : List Segment → Type 0} {count : List Segment → ℕ} {n : ℕ}
-    (outer : List Segment) where
-  pub framed : (head : Segment) (middle : List Segment) (tail : Segment)
-      → kindOf head ≡ header → isReference (referenceOf head) ≡ true
-      → Middle middle → number header middle ≡ 0 → n ≡ count middle
-      → kindOf tail ≡ trailer → Closes header n (head ∷ outer ▸ middle) (referenceOf tail) (countOf tail)
-      → Frame header trailer Middle count (head ∷ (middle ++ tail ∷ []))
-  framed head middle tail opening reference inside others right closing says =
-      record {
-        head = head;
-        middle = middle;
-        tail = tail;
-        shape = refl;
-        opening = opening;
-        closing = closing;
-        inside = inside;
-        reference = reference;
-        same-reference = says .same-reference ∙ nearest-own header head outer middle opening others;
-        counted = says .counted;
-        right-count = says .right-count ∙ right;
-      }
-
-  pub closes : {gs : List Segment} (f : Frame header trailer Middle count gs) → number header (f .middle) ≡ 0
-      → n ≡ count (f .middle) → Closes header n (f .head ∷ outer ▸ f .middle) (referenceOf (f .tail)) (countOf (f .tail))
-  closes f others right =
-      record {
-        referenced = ap isReference (f .same-reference) ∙ f .reference;
-        same-reference = f .same-reference ∙ sym (nearest-own header (f .head) outer (f .middle) (f .opening) others);
-        counted = f .counted;
-        right-count = f .right-count ∙ sym right;
-      }
