@@ -16,11 +16,13 @@ use Rattle.segments.specs.declared.Standing.the-variants.{BeforeInterchange, Be
 use Rattle.segments.specs.Kinds.{is}
 use Rattle.segments.specs.Tags.{kindOf}
 use Rattle.segments.specs.Order.{messagesSinceGroup, messagesIn, groupsIn, isOpen, allowed, standing, isComplete}
+use Rattle.walking.specs.Walking.{standsBehind}
+use Rattle.walking.proofs.Places.{stands-step}
 use Rattle.grammar.specs.Grammar.{Frame, OneOrMore, one, more, isInner, Inner, Asking, Message, Group, Content, Whole}
 use Rattle.grammar.proofs.Trail.{_▸_, ▸-append, ▸-back, Each, none-yet, passed}
-use Rattle.grammar.proofs.Order.{user, section, close-message, Allowed, open-interchange, open-group, open-message, close-interchange, open-group-message, close-group, in-group-message, in-message, allowed-from, ofGroup, next, standing-next, complete-standing}
+use Rattle.grammar.proofs.Order.{user, section, close-message, Allowed, open-interchange, open-group, open-message, close-interchange, open-group-message, close-group, in-group-message, in-message, allowed-from, complete-standing}
 use Rattle.grammar.proofs.Pieces.{kinds, inner-headers, messages-groups, content-interchanges, some-messages, some-groups, group-count, all-messages, all-groups}
-use Rattle.grammar.proofs.Passing.{Saying, Passes, Rules, orderly}
+use Rattle.grammar.proofs.Passing.{Saying, Passes, Rules, walks}
 
 -- ---- what has begun
 
@@ -84,12 +86,16 @@ framed head middle tail opening closing inside asked =
     }
 
 module _ (asked : Asking) (Says : Saying) (rules : Rules asked Says) where
+  -- an open group, behind any number of groups
+  abbrev OpenGroup : List Segment → Type 0
+  OpenGroup = Opened Says Ung (Opened Says Unb Nothing (Run (Group asked))) (Run (Message asked))
+
+  -- what has passed where the check stands there
   abbrev Begun : Standing → List Segment → Type 0
   Begun BeforeInterchange = Nothing
   Begun BetweenGroups = Opened Says Unb Nothing (Perhaps (Content asked))
-  Begun InGroup = Opened Says Ung (Opened Says Unb Nothing (Run (Group asked))) (Run (Message asked))
-  Begun InGroupMessage =
-      Opened Says Unh (Opened Says Ung (Opened Says Unb Nothing (Run (Group asked))) (Run (Message asked))) Inner
+  Begun InGroup = OpenGroup
+  Begun InGroupMessage = Opened Says Unh OpenGroup Inner
   Begun InMessage = Opened Says Unh (Opened Says Unb Nothing (Run (Message asked))) Inner
   Begun BehindInterchange = λ past. Whole asked ([] ▸ past)
 
@@ -155,8 +161,8 @@ module _ (asked : Asking) (Says : Saying) (rules : Rules asked Says) where
 
   -- a segment that passes takes what has begun one step on
   advance : {s : Standing} {kind : Kind} (past : List Segment) (g : Segment) → kindOf g ≡ kind → Allowed (kinds past) s kind
-      → Says kind past g → Begun s past → Begun (next s kind) (g ∷ past)
-  unfolding next ofGroup all isInner is
+      → Says kind past g → Begun s past → Begun (standsBehind s kind) (g ∷ past)
+  unfolding all isInner is
   advance past g e open-interchange says b = opened g e says b empty
   advance past g e (open-group h) says b = opened g e says (groups-only h b) empty
   advance past g e (open-message h) says b = opened g {middle = []} e says (messages-only h b) refl
@@ -170,11 +176,12 @@ module _ (asked : Asking) (Says : Saying) (rules : Rules asked Says) where
   advance past g e (in-message section) says b = inner-grown g (ap (λ (k : Kind). is User k || is Uns k) e) b
   advance past g e (in-message close-message) says b = widen (λ middle m. full (inr m)) (message-closed g e says b)
 
+  -- what has passed has begun so
   begun : {past : List Segment} → Each (Passes Says) past → Begun (standing (kinds past)) past
   unfolding standing isOpen allowed
   begun none-yet = nothing
   begun (passed {past} {x} h hs) =
-      subst (λ (s : Standing). Begun s (x ∷ past)) (sym (standing-next (kindOf x) (orderly hs) (h .place)))
+      subst (λ (s : Standing). Begun s (x ∷ past)) (stands-step (kinds past) (kindOf x) (walks hs) (h .place))
       (advance past x refl (allowed-from (kinds past) (standing (kinds past)) (kindOf x) (h .place)) (h .says) (begun hs))
 
   -- complete segments that passed are a whole interchange

@@ -1,6 +1,6 @@
 -- The tests of refusals 10 to 12 by the kind of a segment, and that they ask of a frame that its header and trailer agree.
 -- What passed is a list of segments, the nearest first. Assumes nothing.
-use Prim.Native.Nat.{ℕ, suc, _+_}
+use Prim.Native.Nat.{ℕ, suc}
 use native.Mathlib.Omega.{arith}
 use mathlib.Core.Path.{_≡_, refl, sym, ap, _∙_}
 use mathlib.Core.Logic.{_↔_}
@@ -20,7 +20,7 @@ use Rattle.segments.specs.Tags.{kindOf}
 use Rattle.segments.specs.Order.{segmentsIn, segmentsSinceHeader, messagesSinceGroup, allowed}
 use Rattle.control.specs.Positions.{positionTable, positionsOf}
 use Rattle.control.specs.Control.{controlElement, isReference, isCount, standsWell, controlRule, headerOf, referenceOf, sameValue, referenceDiffers, decimal, trueCount, countOf, countWrong}
-use Rattle.grammar.specs.Grammar.{interchangeCount, Agrees, misplaced, badControl}
+use Rattle.grammar.specs.Grammar.{messageCount, interchangeCount, Agrees, misplaced, badControl}
 use Rattle.grammar.proofs.Trail.{_▸_}
 use Rattle.grammar.proofs.Pieces.{kinds, number, passed-over, own, through-own, group-count, all-messages, all-groups}
 use Rattle.grammar.proofs.Passing.{Passes, Rules}
@@ -130,17 +130,16 @@ module _ (past : List Segment) (g : Segment) where
 
 -- ---- what it asks of a frame
 
-module _ (kind : Kind) where
-  -- segments of other kinds hide nothing
-  nearest-▸ : (past gs : List Segment) → number kind gs ≡ 0
-      → nearestReference kind (past ▸ gs) ≡ nearestReference kind past
-  unfolding first
-  nearest-▸ past [] h = refl
-  nearest-▸ past (g ∷ gs) h =
-      let other = passed-over kind g gs h in
-      nearest-▸ (g ∷ past) gs (other .1)
-      ∙ ap (maybe none referenceOf)
-      (if-false (is kind (kindOf g)) (some g) (first (λ s. is kind (kindOf s)) past) (other .0))
+-- segments of other kinds hide nothing
+nearest-▸ : (kind : Kind) (past gs : List Segment) → number kind gs ≡ 0
+    → nearestReference kind (past ▸ gs) ≡ nearestReference kind past
+unfolding first
+nearest-▸ kind past [] h = refl
+nearest-▸ kind past (g ∷ gs) h =
+    let other = passed-over kind g gs h in
+    nearest-▸ kind (g ∷ past) gs (other .1)
+    ∙ ap (maybe none referenceOf)
+    (if-false (is kind (kindOf g)) (some g) (first (λ s. is kind (kindOf s)) past) (other .0))
 
 module _ (header : Kind) (head : Segment) (outer middle : List Segment) (opening : kindOf head ≡ header)
     (others : number header middle ≡ 0) where
@@ -150,7 +149,7 @@ module _ (header : Kind) (head : Segment) (outer middle : List Segment) (opening
   nearest-own =
       nearest-▸ header (head ∷ outer) middle others
       ∙ ap (maybe none referenceOf)
-      (if-true (is header (kindOf head)) (some head) (first (λ g. is header (kindOf g)) outer) (own header head outer middle opening others))
+      (if-true (is header (kindOf head)) (some head) (first (λ g. is header (kindOf g)) outer) (own header head opening))
 
   -- and the trailer that closes it has to agree with it
   agrees-iff : {n : ℕ} {count : List Segment → ℕ} (tail : Segment) → n ≡ count middle
@@ -175,18 +174,21 @@ module _ (header : Kind) (head : Segment) (outer middle : List Segment) (opening
     ),
   )
 
+-- since UNH, the segments are UNH, the middle and UNT
 message-count : (head : Segment) (outer middle : List Segment) → kindOf head ≡ Unh → number Unh middle ≡ 0
-    → segmentsSinceHeader (Unt ∷ kinds (head ∷ outer ▸ middle)) ≡ length middle + 2
+    → segmentsSinceHeader (Unt ∷ kinds (head ∷ outer ▸ middle)) ≡ messageCount middle
 unfolding segmentsSinceHeader segmentsIn through is
 message-count head outer middle opening others =
     ap (λ (l : List Kind). suc (length l)) (through-own Unh head outer middle opening others)
     ∙ omega (arith, length-reverseAux (kinds middle) (Unh ∷ []), length-map middle kindOf)
 
+-- behind UNB, the count is that of the middle
 interchange-count : (head : Segment) (middle : List Segment) → kindOf head ≡ Unb
     → interchangeCount (head ∷ [] ▸ middle) ≡ interchangeCount middle
 interchange-count head middle opening = λ i.
     if eqb (all-groups head middle opening i) 0 then all-messages head middle opening i else all-groups head middle opening i
 
+-- what the tests ask is that headers and trailers agree
 pub agreeing : Rules Agrees Says
 agreeing =
     record {

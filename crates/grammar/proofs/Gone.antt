@@ -16,11 +16,13 @@ use Rattle.segments.specs.declared.Standing.the-variants.{BetweenGroups, InGrou
 use Rattle.segments.specs.Kinds.{is}
 use Rattle.segments.specs.Tags.{kindOf}
 use Rattle.segments.specs.Order.{messagesIn, groupsIn, isOpen, standing, allowedAt, allowed}
+use Rattle.walking.specs.Walking.{standsBehind}
+use Rattle.walking.proofs.Places.{stands-step}
 use Rattle.grammar.specs.Grammar.{Frame, OneOrMore, one, more, isInner, Inner, Asking, Message, Group, Content, Whole}
 use Rattle.grammar.proofs.Trail.{_▸_, ▸-append, Each, none-yet, passed}
-use Rattle.grammar.proofs.Order.{is-eq, Inside, user, section, close-message, Allowed, open-interchange, open-group, open-message, close-interchange, open-group-message, close-group, in-group-message, in-message, allowed-test, ofGroup, next, standing-next}
+use Rattle.grammar.proofs.Order.{is-eq, Inside, user, section, close-message, Allowed, open-interchange, open-group, open-message, close-interchange, open-group-message, close-group, in-group-message, in-message, allowed-test}
 use Rattle.grammar.proofs.Pieces.{kinds, number-▸, inner-headers, messages-groups, content-interchanges, some-messages, some-groups, some-content, group-count, all-messages, all-groups}
-use Rattle.grammar.proofs.Passing.{Saying, Passes, Rules, orderly}
+use Rattle.grammar.proofs.Passing.{Saying, Passes, Rules, walks}
 
 -- each one passed, and the check stands there
 abbrev pub Gone : Saying → Standing → List Segment → Type 0
@@ -37,11 +39,11 @@ pieces Holds leaves (more {before} {piece} ps p) past h =
 module _ (asked : Asking) (Says : Saying) (rules : Rules asked Says) where
   -- a segment goes by
   step : {s : Standing} {kind : Kind} (past : List Segment) (g : Segment) → Gone Says s past → kindOf g ≡ kind
-      → Allowed (kinds past) s kind → Says kind past g → Gone Says (next s kind) (g ∷ past)
+      → Allowed (kinds past) s kind → Says kind past g → Gone Says (standsBehind s kind) (g ∷ past)
   unfolding allowed
   step past g h e a says = (
     passed (record { place = place; says = subst (λ (k : Kind). Says k past g) (sym e) says }) (h .0),
-    standing-next (kindOf g) (orderly (h .0)) place ∙ (λ i. next (h .1 i) (e i)),
+    sym (stands-step (kinds past) (kindOf g) (walks (h .0)) place) ∙ (λ i. standsBehind (h .1 i) (e i)),
   )
     where
       place : allowed (kinds past) (kindOf g) ≡ true
@@ -52,20 +54,20 @@ module _ (asked : Asking) (Says : Saying) (rules : Rules asked Says) where
       {gs : List Segment} {s inner : Standing} (past : List Segment) (f : Frame header trailer Middle Asked gs)
       → Says header past (f .head) × Says trailer (f .head ∷ past ▸ f .middle) (f .tail)
       → Gone Says s past → Allowed (kinds past) s header
-      → (Gone Says (next s header) (f .head ∷ past) → Gone Says inner (f .head ∷ past ▸ f .middle))
-      → Allowed (kinds (f .head ∷ past ▸ f .middle)) inner trailer → Gone Says (next inner trailer) (past ▸ gs)
+      → (Gone Says (standsBehind s header) (f .head ∷ past) → Gone Says inner (f .head ∷ past ▸ f .middle))
+      → Allowed (kinds (f .head ∷ past ▸ f .middle)) inner trailer → Gone Says (standsBehind inner trailer) (past ▸ gs)
   frame {trailer} {inner} past f says h a middle b =
-      subst (Gone Says (next inner trailer))
+      subst (Gone Says (standsBehind inner trailer))
       (sym (ap (λ (l : List Segment). past ▸ l) (f .shape) ∙ ▸-append (f .head ∷ past) (f .middle) (f .tail ∷ [])))
       (step (f .head ∷ past ▸ f .middle) (f .tail) (middle (step past (f .head) h (f .opening) a (says .0))) (f .closing) b
       (says .1))
 
   -- ---- a message, where the check stands in a group or in none
 
-  module _ (s : Standing) (holds : (past : List Kind) (kind : Kind) → Inside kind → Allowed past (next s Unh) kind)
-      (back : next (next s Unh) Unt ≡ s) where
-    inner : (past gs : List Segment) → Inner gs → Gone Says (next s Unh) past → Gone Says (next s Unh) (past ▸ gs)
-    unfolding all next isInner
+  module _ (s : Standing) (holds : (past : List Kind) (kind : Kind) → Inside kind → Allowed past (standsBehind s Unh) kind)
+      (back : standsBehind (standsBehind s Unh) Unt ≡ s) where
+    inner : (past gs : List Segment) → Inner gs → Gone Says (standsBehind s Unh) past → Gone Says (standsBehind s Unh) (past ▸ gs)
+    unfolding all isInner
     inner past [] i h = h
     inner past (g ∷ gs) i h =
         inner (g ∷ past) gs (and-right (isInner g) (all isInner gs) i)
@@ -73,7 +75,8 @@ module _ (asked : Asking) (Says : Saying) (rules : Rules asked Says) where
         (λ e. step past g h (is-eq Uns (kindOf g) e) (holds (kinds past) Uns section) (rules .section past g))
         (or-cases (is User (kindOf g)) (is Uns (kindOf g)) (and-left (isInner g) (all isInner gs) i)))
 
-    message : (past gs : List Segment) → Message asked gs → Allowed (kinds past) s Unh → Gone Says s past → Gone Says s (past ▸ gs)
+    message : (past gs : List Segment) → Message asked gs → Allowed (kinds past) s Unh
+        → Gone Says s past → Gone Says s (past ▸ gs)
     message past gs f a h =
         let others = inner-headers (f .middle) (f .inside) in
         subst (λ (o : Standing). Gone Says o (past ▸ gs)) back
@@ -86,7 +89,7 @@ module _ (asked : Asking) (Says : Saying) (rules : Rules asked Says) where
   Ungrouped past = Gone Says BetweenGroups past × (groupsIn (kinds past) ≡ 0)
 
   messages : {gs : List Segment} → OneOrMore (Message asked) gs → (past : List Segment) → Ungrouped past → Ungrouped (past ▸ gs)
-  unfolding next ofGroup groupsIn
+  unfolding groupsIn
   messages =
       pieces Ungrouped
       (λ past piece m h. (
@@ -98,7 +101,6 @@ module _ (asked : Asking) (Says : Saying) (rules : Rules asked Says) where
 
   group-messages : {gs : List Segment} → OneOrMore (Message asked) gs
       → (past : List Segment) → Gone Says InGroup past → Gone Says InGroup (past ▸ gs)
-  unfolding next ofGroup
   group-messages =
       pieces (Gone Says InGroup)
       (λ past piece m. message InGroup (λ before kind. in-group-message) refl past piece m open-group-message)
@@ -107,7 +109,7 @@ module _ (asked : Asking) (Says : Saying) (rules : Rules asked Says) where
   Grouped past = Gone Says BetweenGroups past × ((0 < groupsIn (kinds past)) ⊎ (messagesIn (kinds past) ≡ 0))
 
   group : (past gs : List Segment) → Group asked gs → Grouped past → Gone Says BetweenGroups (past ▸ gs)
-  unfolding next messagesIn
+  unfolding messagesIn
   group past gs f h =
       let others = messages-groups asked (f .middle) (f .inside) in
       let count = group-count (f .head) past (f .middle) (f .opening) others in
@@ -134,7 +136,7 @@ module _ (asked : Asking) (Says : Saying) (rules : Rules asked Says) where
 
   -- each segment of a whole interchange passes, and then the check stands behind it
   pub gone : (gs : List Segment) → Whole asked gs → Gone Says BehindInterchange ([] ▸ gs)
-  unfolding next standing isOpen messagesIn
+  unfolding standing isOpen messagesIn
   gone gs f =
       let others = content-interchanges asked (f .middle) (f .inside) in
       frame [] f (rules .interchange (f .head) (f .middle) (f .tail) (f .opening) others .1 (f .asked)) (none-yet, refl)

@@ -1,6 +1,5 @@
 pub mod Trail
 pub mod Order
-pub mod Walk
 pub mod Pieces
 pub mod Passing
 pub mod Control

@@ -5,16 +5,17 @@ use mathlib.Core.Path.{_≡_, refl, ap, _∙_}
 use mathlib.Core.Logic.{_↔_}
 use mathlib.Core.Bool.{Bool, true, false}
 use mathlib.Core.List.{List, [], _∷_, _++_, cons-ne-nil}
+use Rattle.lists.proofs.Texts.{and-both}
 use Rattle.refusals.specs.Refusals.{placeIf}
 use Rattle.reading.specs.Tokens.{Segment, start}
 use Rattle.segments.specs.declared.Kind.{Kind}
 use Rattle.segments.specs.declared.Kind.the-variants.{Unb, Ung, Unh, Uns, Unt, Une, Unz, User}
 use Rattle.segments.specs.Tags.{kindOf}
 use Rattle.segments.specs.Order.{allowed}
+use Rattle.walking.specs.Walking.{walked}
 use Rattle.verdict.specs.Places.{startsWhere}
 use Rattle.grammar.specs.Grammar.{Asking, messageCount, groupCount, interchangeCount}
 use Rattle.grammar.proofs.Trail.{_▸_, Each, none-yet, passed, each-last, each-before}
-use Rattle.grammar.proofs.Order.{Orderly}
 use Rattle.grammar.proofs.Pieces.{kinds, number}
 
 -- what a segment of a kind says, given what passed before it
@@ -37,10 +38,12 @@ pub record Rules (asked : Asking) (Says : Saying) : Type 0 where
   pub interchange : (head : Segment) (middle : List Segment) (tail : Segment) → kindOf head ≡ Unb → number Unb middle ≡ 0
       → Says Unb [] head × Says Unz (head ∷ [] ▸ middle) tail ↔ asked interchangeCount head middle tail
 
--- what passed is orderly
-pub orderly : {Says : Saying} {past : List Segment} → Each (Passes Says) past → Orderly (kinds past)
-orderly none-yet = none-yet
-orderly (passed h hs) = passed (h .place) (orderly hs)
+-- then each was allowed where it stood
+pub walks : {Says : Saying} {past : List Segment} → Each (Passes Says) past → walked (kinds past) ≡ true
+unfolding walked
+walks none-yet = refl
+walks (passed {past} {x} h hs) =
+    and-both (allowed (kinds past) (kindOf x)) (walked (kinds past)) (h .place) (walks hs)
 
 -- ---- no segment fails a test
 

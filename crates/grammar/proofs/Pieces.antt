@@ -12,7 +12,7 @@ use Rattle.lists.specs.Lists.{if_then_else_, all, those, through}
 use Rattle.lists.proofs.Texts.{and-left, and-right, or-cases, if-true, if-false}
 use Rattle.reading.specs.Tokens.{Segment}
 use Rattle.segments.specs.declared.Kind.{Kind}
-use Rattle.segments.specs.declared.Kind.the-variants.{Unb, Ung, Unh, Uns, User}
+use Rattle.segments.specs.declared.Kind.the-variants.{Unb, Ung, Unh, Uns, Unt, User}
 use Rattle.segments.specs.Kinds.{index, is}
 use Rattle.segments.specs.Tags.{kindOf}
 use Rattle.segments.specs.Order.{messagesIn, groupsIn, messagesSinceGroup}
@@ -29,10 +29,12 @@ kinds gs = map kindOf gs
 abbrev alone : Kind → Kind → ℕ
 alone kind other = length (those (is kind) (other ∷ []))
 
+-- the segments of a kind are so many
 abbrev pub number : Kind → List Segment → ℕ
 number kind gs = length (those (is kind) (kinds gs))
 
 module _ (kind : Kind) where
+  -- they add up, however the lists are joined
   pub number-▸ : (past gs : List Segment) → number kind (past ▸ gs) ≡ number kind past + number kind gs
   unfolding those
   number-▸ past [] = omega arith
@@ -49,6 +51,7 @@ module _ (kind : Kind) where
   number-append xs ys =
       omega (arith, number-▸ [] (xs ++ ys), ap (number kind) (▸-append [] xs ys), number-▸ ([] ▸ xs) ys, number-▸ [] xs)
 
+  -- a frame has those of its middle, and its header and trailer
   number-frame : {header trailer : Kind} {Middle : List Segment → Type 0} {Asked : Segment → List Segment → Segment → Type 0}
       {gs : List Segment} (f : Frame header trailer Middle Asked gs)
       → number kind gs ≡ alone kind header + (number kind (f .middle) + alone kind trailer)
@@ -62,6 +65,7 @@ module _ (kind : Kind) where
         ap (alone kind) (f .closing),
       )
 
+  -- what no piece has, and what each piece has
   none-in-pieces : {Piece : List Segment → Type 0} {gs : List Segment}
       → ((piece : List Segment) → Piece piece → number kind piece ≡ 0) → OneOrMore Piece gs → number kind gs ≡ 0
   none-in-pieces none-in (one {piece} h) = none-in piece h
@@ -73,7 +77,7 @@ module _ (kind : Kind) where
   some-in-pieces some-in (one {piece} h) = some-in piece h
   some-in-pieces some-in (more {before} {piece} hs h) = omega (arith, number-append before piece, some-in piece h)
 
-  -- where each piece has one, there are as many as pieces
+  -- where each piece has just one, they are as many as the pieces
   one-in-pieces : {Piece : List Segment → Type 0} {gs : List Segment}
       → ((piece : List Segment) → Piece piece → number kind piece ≡ 1) → (hs : OneOrMore Piece gs) → number kind gs ≡ size hs
   unfolding size
@@ -81,6 +85,7 @@ module _ (kind : Kind) where
   one-in-pieces one-in (more {before} {piece} hs h) =
       omega (arith, number-append before piece, one-in-pieces one-in hs, one-in piece h)
 
+  -- between UNH and UNT there are only user segments and UNS
   none-in-inner : alone kind User ≡ 0 → alone kind Uns ≡ 0 → (gs : List Segment) → Inner gs → number kind gs ≡ 0
   unfolding all those isInner
   none-in-inner u s [] i = refl
@@ -99,21 +104,21 @@ unfolding those is
 inner-headers = none-in-inner Unh refl refl
 
 module _ (asked : Asking) where
+  messages-lack : (kind : Kind) → alone kind User ≡ 0 → alone kind Uns ≡ 0 → alone kind Unh + alone kind Unt ≡ 0
+      → (gs : List Segment) → OneOrMore (Message asked) gs → number kind gs ≡ 0
+  messages-lack kind u s h gs =
+      none-in-pieces kind (λ piece f. omega (arith, number-frame kind f, none-in-inner kind u s (f .middle) (f .inside)))
+
   pub messages-groups : (gs : List Segment) → OneOrMore (Message asked) gs → number Ung gs ≡ 0
   unfolding those is
-  messages-groups gs =
-      none-in-pieces Ung (λ piece f. omega (arith, number-frame Ung f, none-in-inner Ung refl refl (f .middle) (f .inside)))
-
-  messages-interchanges : (gs : List Segment) → OneOrMore (Message asked) gs → number Unb gs ≡ 0
-  unfolding those is
-  messages-interchanges gs =
-      none-in-pieces Unb (λ piece f. omega (arith, number-frame Unb f, none-in-inner Unb refl refl (f .middle) (f .inside)))
+  messages-groups = messages-lack Ung refl refl refl
 
   pub content-interchanges : (gs : List Segment) → Content asked gs → number Unb gs ≡ 0
   unfolding those is
   content-interchanges gs (inl h) =
-      none-in-pieces Unb (λ piece f. omega (arith, number-frame Unb f, messages-interchanges (f .middle) (f .inside))) h
-  content-interchanges gs (inr h) = messages-interchanges gs h
+      none-in-pieces Unb
+      (λ piece f. omega (arith, number-frame Unb f, messages-lack Unb refl refl refl (f .middle) (f .inside))) h
+  content-interchanges gs (inr h) = messages-lack Unb refl refl refl gs h
 
   -- each message has one UNH, each group one UNG
   pub messages-size : {gs : List Segment} (hs : OneOrMore (Message asked) gs) → number Unh gs ≡ size hs
@@ -142,6 +147,7 @@ module _ (asked : Asking) where
 -- ---- behind an open header
 
 module _ (kind : Kind) where
+  -- where a kind is missing, the first segment is of another, and it is missing in the rest
   pub passed-over : (g : Segment) (gs : List Segment) → number kind (g ∷ gs) ≡ 0
       → (is kind (kindOf g) ≡ false) × (number kind gs ≡ 0)
   unfolding those
@@ -163,21 +169,21 @@ module _ (kind : Kind) where
       ∙ ap (λ (l : List Kind). kindOf g ∷ l ▸ kinds gs)
       (if-false (is kind (kindOf g)) [] (through (is kind) (kinds past)) (other .0))
 
-module _ (header : Kind) (head : Segment) (outer middle : List Segment) (opening : kindOf head ≡ header)
-    (others : number header middle ≡ 0) where
-  pub own : is header (kindOf head) ≡ true
-  unfolding is
-  own = ap (is header) opening ∙ eq-eqb (index header) (index header) refl
+pub own : (header : Kind) (head : Segment) → kindOf head ≡ header → is header (kindOf head) ≡ true
+unfolding is
+own header head opening = ap (is header) opening ∙ eq-eqb (index header) (index header) refl
 
-  -- since it, only the middle has passed
-  pub through-own : through (is header) (kinds (head ∷ outer ▸ middle)) ≡ header ∷ [] ▸ kinds middle
-  unfolding through
-  through-own =
-      through-▸ header (head ∷ outer) middle others
-      ∙ ap (λ (l : List Kind). kindOf head ∷ l ▸ kinds middle)
-      (if-true (is header (kindOf head)) [] (through (is header) (kinds outer)) own)
-      ∙ ap (λ (k : Kind). k ∷ [] ▸ kinds middle) opening
+-- since an open header, only its middle has passed
+pub through-own : (header : Kind) (head : Segment) (outer middle : List Segment) → kindOf head ≡ header
+    → number header middle ≡ 0 → through (is header) (kinds (head ∷ outer ▸ middle)) ≡ header ∷ [] ▸ kinds middle
+unfolding through
+through-own header head outer middle opening others =
+    through-▸ header (head ∷ outer) middle others
+    ∙ ap (λ (l : List Kind). kindOf head ∷ l ▸ kinds middle)
+    (if-true (is header (kindOf head)) [] (through (is header) (kinds outer)) (own header head opening))
+    ∙ ap (λ (k : Kind). k ∷ [] ▸ kinds middle) opening
 
+-- since UNG, the messages are those of the middle
 pub group-count : (head : Segment) (outer middle : List Segment) → kindOf head ≡ Ung → number Ung middle ≡ 0
     → messagesSinceGroup (kinds (head ∷ outer ▸ middle)) ≡ messagesIn (kinds middle)
 unfolding messagesSinceGroup messagesIn those is
@@ -188,6 +194,7 @@ group-count head outer middle opening others =
     ∙ sym (▸-map kindOf (head ∷ []) middle))
     ∙ omega (arith, number-▸ Unh (head ∷ []) middle, ap (alone Unh) opening)
 
+-- behind UNB, all messages and groups are those of the middle
 module _ (head : Segment) (middle : List Segment) (opening : kindOf head ≡ Unb) where
   pub all-messages : messagesIn (kinds (head ∷ [] ▸ middle)) ≡ messagesIn (kinds middle)
   unfolding messagesIn those is

@@ -22,7 +22,7 @@ use Rattle.grammar.specs.Grammar.{size, interchangeCount, Asking, Group,
 use Rattle.grammar.proofs.Trail.{_▸_, ▸-map, Each, none-yet, each-map, each-both}
 use Rattle.grammar.proofs.Order.{standing-complete}
 use Rattle.grammar.proofs.Pieces.{kinds, messages-groups, some-groups, messages-size, groups-size}
-use Rattle.grammar.proofs.Passing.{Saying, Passes, Rules, orderly, each-clear, clear-each}
+use Rattle.grammar.proofs.Passing.{Saying, Passes, Rules, each-clear, clear-each}
 use Rattle.grammar.proofs.Control.{Says, passes-iff, agreeing}
 use Rattle.grammar.proofs.Begun.{whole}
 use Rattle.grammar.proofs.Gone.{gone}
@@ -36,7 +36,7 @@ walked {asked} {Says} rules gs = (
   λ h. whole asked Says rules gs (h .0) (ap isComplete (▸-map kindOf [] gs) ∙ h .1),
   λ f.
       let walk = gone asked Says rules gs f in
-      (walk .0, ap isComplete (sym (▸-map kindOf [] gs)) ∙ standing-complete (orderly (walk .0)) (walk .1)),
+      (walk .0, ap isComplete (sym (▸-map kindOf [] gs)) ∙ standing-complete (kinds ([] ▸ gs)) (walk .1)),
 )
 
 -- nothing is asked of segments but their order
