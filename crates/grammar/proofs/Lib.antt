@@ -1,7 +1,8 @@
 pub mod Trail
-pub mod Walk
+pub mod Order
+pub mod Pieces
 pub mod Passing
-pub mod Frames
+pub mod Control
 pub mod Begun
 pub mod Gone
 pub mod Theorem

@@ -16,9 +16,12 @@ use Rattle.segments.specs.Order.{messagesIn, groupsIn, allowed, isComplete}
 use Rattle.control.specs.Control.{isReference, isCount, referenceOf, countOf, decimal, controlRule, referenceDiffers, countWrong}
 use Rattle.verdict.specs.Places.{startsWhere}
 
--- A header, a middle and a trailer. The trailer's reference is its header's, and its count is that of the middle.
+-- ---- "Order of segments"
+
+-- a header, a middle and a trailer, and what else is asked of the three
 pub record Frame
-    (header trailer : Kind) (Middle : List Segment → Type 0) (count : List Segment → ℕ) (gs : List Segment) : Type 0 where
+    (header trailer : Kind) (Middle : List Segment → Type 0) (Asked : Segment → List Segment → Segment → Type 0)
+    (gs : List Segment) : Type 0 where
   pub head : Segment
   pub middle : List Segment
   pub tail : Segment
@@ -26,10 +29,7 @@ pub record Frame
   pub opening : kindOf head ≡ header
   pub closing : kindOf tail ≡ trailer
   pub inside : Middle middle
-  pub reference : isReference (referenceOf head) ≡ true
-  pub same-reference : referenceOf tail ≡ referenceOf head
-  pub counted : isCount (countOf tail) ≡ true
-  pub right-count : maybe 0 decimal (countOf tail) ≡ count middle
+  pub asked : Asked head middle tail
 
 -- one or more pieces of a sort, end to end
 pub data OneOrMore (Piece : List Segment → Type 0) : List Segment → Type 0 where
@@ -49,26 +49,55 @@ isInner g = is User (kindOf g) || is Uns (kindOf g)
 abbrev pub Inner : List Segment → Type 0
 Inner middle = all isInner middle ≡ true
 
--- "A message is UNH, any number of user segments and UNS, UNT."
 -- "UNT's count is the segments from UNH to UNT, both included"
-abbrev pub Message : List Segment → Type 0
-Message = Frame Unh Unt Inner (λ middle. length middle + 2)
+abbrev pub messageCount : List Segment → ℕ
+messageCount middle = length middle + 2
 
--- "A group is UNG, one or more messages, UNE." "UNE's is the messages of the group"
-abbrev pub Group : List Segment → Type 0
-Group = Frame Ung Une (OneOrMore Message) (λ middle. messagesIn (map kindOf middle))
-
--- "one or more groups, or one or more messages, not both"
-abbrev pub Content : List Segment → Type 0
-Content middle = OneOrMore Group middle ⊎ OneOrMore Message middle
+-- "UNE's is the messages of the group"
+abbrev pub groupCount : List Segment → ℕ
+groupCount middle = messagesIn (map kindOf middle)
 
 -- "UNZ's is the groups, or the messages where there are no groups."
-abbrev pub contentCount : List Kind → ℕ
-contentCount kinds = if eqb (groupsIn kinds) 0 then messagesIn kinds else groupsIn kinds
+abbrev pub interchangeCount : List Segment → ℕ
+interchangeCount middle =
+    if eqb (groupsIn (map kindOf middle)) 0 then messagesIn (map kindOf middle) else groupsIn (map kindOf middle)
 
--- "UNB; then one or more groups, or one or more messages, not both; then UNZ and nothing more."
+-- what is asked of a header, a middle and a trailer, by how the middle is counted
+abbrev pub Asking : Type 1
+Asking = (count : List Segment → ℕ) → Segment → List Segment → Segment → Type 0
+
+module _ (asked : Asking) where
+  -- "A message is UNH, any number of user segments and UNS, UNT."
+  abbrev pub Message : List Segment → Type 0
+  Message = Frame Unh Unt Inner (asked messageCount)
+
+  -- "A group is UNG, one or more messages, UNE."
+  abbrev pub Group : List Segment → Type 0
+  Group = Frame Ung Une (OneOrMore Message) (asked groupCount)
+
+  -- "one or more groups, or one or more messages, not both"
+  abbrev pub Content : List Segment → Type 0
+  Content middle = OneOrMore Group middle ⊎ OneOrMore Message middle
+
+  -- "UNB; then one or more groups, or one or more messages, not both; then UNZ and nothing more."
+  abbrev pub Whole : List Segment → Type 0
+  Whole = Frame Unb Unz Content (asked interchangeCount)
+
+-- the order alone
+abbrev pub Ordered : List Segment → Type 0
+Ordered = Whole (λ count head middle tail. Unit {0})
+
+-- ---- "Control elements"
+
+-- the header has a reference, the trailer's is the same, and the trailer's count is that of the middle
+pub record Agrees (count : List Segment → ℕ) (head : Segment) (middle : List Segment) (tail : Segment) : Type 0 where
+  pub reference : isReference (referenceOf head) ≡ true
+  pub same-reference : referenceOf tail ≡ referenceOf head
+  pub counted : isCount (countOf tail) ≡ true
+  pub right-count : maybe 0 decimal (countOf tail) ≡ count middle
+
 abbrev pub Interchange : List Segment → Type 0
-Interchange = Frame Unb Unz Content (λ middle. contentCount (map kindOf middle))
+Interchange = Whole Agrees
 
 -- ---- the tests that this grammar is held to
 
@@ -80,11 +109,13 @@ misplaced past g = not (allowed (map kindOf past) (kindOf g))
 abbrev pub badControl : List Segment → Segment → Bool
 badControl past g = not (controlRule g)
 
--- no segment meets one of the refusals 9 to 12, and the end is not before UNZ
-abbrev pub Unrefused : List Segment → Type 0
-Unrefused gs =
-    (startsWhere misplaced [] gs ≡ [])
-    × (isComplete (reverse (map kindOf gs)) ≡ true)
-    × (startsWhere badControl [] gs ≡ [])
+-- no segment meets refusal 9, and the end is not before UNZ
+abbrev pub InOrder : List Segment → Type 0
+InOrder gs = (startsWhere misplaced [] gs ≡ []) × (isComplete (reverse (map kindOf gs)) ≡ true)
+
+-- no segment meets refusal 10, 11 or 12
+abbrev pub InControl : List Segment → Type 0
+InControl gs =
+    (startsWhere badControl [] gs ≡ [])
     × (startsWhere referenceDiffers [] gs ≡ [])
     × (startsWhere countWrong [] gs ≡ [])
