@@ -1,17 +1,16 @@
 -- A control element of the trimmed contents is judged by the field of the element as it is spelled. Assumes nothing.
-use Prim.Native.Nat.{ℕ, zero, suc, _≤_, _<_}
+use Prim.Native.Nat.{ℕ, zero, suc, _≤_}
 use mathlib.Core.Path.{_≡_, refl, sym, ap, ap₂, _∙_, subst}
-use mathlib.Core.Bool.{Bool, true, false, _&&_, and-assoc, and-comm, false≢true}
+use mathlib.Core.Bool.{Bool, true, false, _&&_, and-comm, false≢true}
 use mathlib.Core.List.{List, [], _∷_, map, map-map}
 use mathlib.Core.Option.{Option, none, some}
 use native.Mathlib.Omega.{arith}
-use lib.ListN.{length, take}
+use lib.ListN.{length}
 use lib.Seq.{take-all}
 use lib.Dec.{leb}
 use borrow.Author.Tests.{leb-true}
 use Rattle.lists.specs.Lists.{if_then_else_, same, isEmpty, all, through, at, cut, unlessIdle, dropEnd, trimEnd, gather, maybe}
-use Rattle.lists.proofs.Texts.{and-left, and-right, if-true}
-use Rattle.lists.proofs.Pieces.{beyond, cut-first}
+use Rattle.lists.proofs.Texts.{and-left, and-right}
 use Rattle.characters.specs.declared.Characters.{Characters}
 use Rattle.characters.specs.Characters.{between, digit}
 use Rattle.reading.specs.Tokens.{Token, ends}
@@ -23,8 +22,7 @@ use Rattle.scanner.specs.Scan.{segmentAt}
 use Rattle.elements.specs.Elements.{elementFrom, firstElement, ElementAt}
 use Rattle.elements.proofs.Elements.{element-piece}
 use Rattle.fields.specs.declared.Field.{Field}
-use Rattle.fields.specs.Fields.{valuesIn, valueIn, blankIn, fieldWith, fieldIn, fieldOf, spellsReference, spellsCount}
-use Rattle.fields.specs.Reading.{valueEnd}
+use Rattle.fields.specs.Fields.{valuesIn, valueIn, fieldWith, fieldIn, fieldOf, spellsReference, spellsCount}
 use Rattle.fields.proofs.Values.{values-first, field-is}
 
 -- ---- lists, read at a number

@@ -1,14 +1,14 @@
 -- One step of reading a value and of looking for the end of an element, for each token that the scanner can find. Assumes nothing.
 use Prim.Native.Nat.{ℕ, _≤_, _<_}
-use mathlib.Core.Path.{_≡_, refl, sym, ap, _∙_, subst}
+use mathlib.Core.Path.{_≡_, sym, ap, _∙_, subst}
 use mathlib.Core.Bool.{Bool, true, false}
-use mathlib.Core.List.{List, [], _∷_, _++_}
+use mathlib.Core.List.{List, [], _∷_}
 use native.Mathlib.Omega.{arith}
 use lib.Dec.{leb}
 use borrow.Author.Tests.{le-leb, lt-leb}
 use Rattle.lists.specs.Lists.{if_then_else_, isEmpty, through, gather}
 use Rattle.characters.specs.declared.Characters.{Characters}
-use Rattle.reading.specs.Tokens.{Token, byte, separator, fault, ends}
+use Rattle.reading.specs.Tokens.{separator, ends}
 use Rattle.reading.specs.Values.{byteOf, bytesOf}
 use Rattle.reading.proofs.Steps.{tokensAt}
 use Rattle.scanner.specs.declared.Lexed.the-variants as lexed

@@ -1,21 +1,15 @@
 -- The field of an element is its first value, and whether the rest of it is blank. Assumes nothing.
-use Prim.Native.Nat.{ℕ}
-use mathlib.Core.Path.{_≡_, refl, sym, ap, ap₂, _∙_}
+use mathlib.Core.Path.{_≡_, refl, sym, ap, _∙_}
 use mathlib.Core.Bool.{Bool, true, false, _&&_, and-assoc}
 use mathlib.Core.List.{List, [], _∷_, _++_, map, append-nil}
 use native.Mathlib.Omega.{arith}
-use lib.ListN.{length, take}
 use lib.Dec.{leb}
 use borrow.Author.Tests.{lt-leb, leb-false}
 use Rattle.lists.specs.Lists.{if_then_else_, isEmpty, all, through, onto, cut, gather}
-use Rattle.lists.proofs.Texts.{if-true, if-false}
 use Rattle.lists.proofs.Pieces.{beyond, cut-first}
-use Rattle.characters.specs.Characters.{digit}
 use Rattle.reading.specs.Tokens.{Token, byte, separator, fault, ends}
 use Rattle.reading.specs.Values.{byteOf, bytesOf}
-use Rattle.control.specs.Control.{decimal, decimalFrom}
 use Rattle.elements.proofs.Elements.{through-through, ends-more}
-use Rattle.fields.specs.declared.Field.{Field}
 use Rattle.fields.specs.Fields.{valuesIn, valueIn, blankIn, fieldWith, fieldIn, fieldOf}
 use Rattle.fields.specs.Reading.{valueEnd}
 

@@ -1,6 +1,6 @@
 -- An element by its first component, as it stands in the tokens that it begins. Assumes nothing.
 use Prim.Native.Nat.{ℕ}
-use mathlib.Core.Bool.{Bool, true, false, _&&_}
+use mathlib.Core.Bool.{Bool, true, _&&_}
 use mathlib.Core.List.{List, [], _∷_, map}
 use lib.ListN.{length, take}
 use Rattle.lists.specs.Lists.{isEmpty, all, through, cut}

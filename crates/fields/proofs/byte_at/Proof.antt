@@ -26,28 +26,38 @@ enum-known-byte : tie.Need-enum-known-byte Inv-loop μ-loop
 enum-known-byte c = search needs
 
 returns : tie.Need-returns Inv-loop μ-loop
-returns c = next-byte _ _ _ _ (c .before .before .before .before .loop .inv) (lexes-as _ _ _ (c .before .before .before .lex .ensures) (c .before .byte .given .1))
+returns c =
+    let l = lexes-as _ _ _ (c .before .before .before .lex .ensures) (c .before .byte .given .1) in
+    next-byte _ _ _ _ (c .before .before .before .before .loop .inv) l
 
 enum-told : tie.Need-enum-told Inv-loop μ-loop
 enum-told c = search needs
 
 returns-2 : tie.Need-returns-2 Inv-loop μ-loop
-returns-2 c = next-separator _ _ _ _ (c .before .before .before .loop .inv) (lexes-as _ _ _ (c .before .before .lex .ensures) (c .enum-told .given .1))
+returns-2 c =
+    let l = lexes-as _ _ _ (c .before .before .lex .ensures) (c .enum-told .given .1) in
+    next-separator _ _ _ _ (c .before .before .before .loop .inv) l
 
 enum-known-next : tie.Need-enum-known-next Inv-loop μ-loop
 enum-known-next c = search needs
 
 loop-less : tie.Need-loop-less Inv-loop μ-loop
-loop-less c = let l = lexes-as _ _ _ (c .before .before .before .lex .ensures) (c .before .next .given .1) in omega arith
+loop-less c =
+    let l = lexes-as _ _ _ (c .before .before .before .lex .ensures) (c .before .next .given .1) in
+    omega arith
 
 loop-again : tie.Need-loop-again Inv-loop μ-loop
-loop-again c = next-stray _ _ _ _ (c .before .before .before .before .loop .inv) (lexes-as _ _ _ (c .before .before .before .lex .ensures) (c .before .next .given .1))
+loop-again c =
+    let l = lexes-as _ _ _ (c .before .before .before .lex .ensures) (c .before .next .given .1) in
+    next-stray _ _ _ _ (c .before .before .before .before .loop .inv) l
 
 enum-told-2 : tie.Need-enum-told-2 Inv-loop μ-loop
 enum-told-2 c = search needs
 
 returns-3 : tie.Need-returns-3 Inv-loop μ-loop
-returns-3 c = next-end _ _ _ _ (c .before .before .before .loop .inv) (lexes-as _ _ _ (c .before .before .lex .ensures) (c .enum-told2 .given .1))
+returns-3 c =
+    let l = lexes-as _ _ _ (c .before .before .lex .ensures) (c .enum-told2 .given .1) in
+    next-end _ _ _ _ (c .before .before .before .loop .inv) l
 
 pub byte-at-spec : {M : Type 1} → statement M
 byte-at-spec =

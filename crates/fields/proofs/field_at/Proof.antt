@@ -26,13 +26,19 @@ enum-known-byte : tie.Need-enum-known-byte Inv-loop μ-loop
 enum-known-byte c = search needs
 
 with-byte-requires : tie.Need-with-byte-requires Inv-loop μ-loop
-with-byte-requires c κs = let n = next-as _ _ _ (c .before .before .before .byte-at .ensures) (c .before .byte .given .1) in (omega arith, c .before .before .before .before .loop .inv .3)
+with-byte-requires c κs =
+    let n = next-as _ _ _ (c .before .before .before .byte-at .ensures) (c .before .byte .given .1) in
+    (omega arith, c .before .before .before .before .loop .inv .3)
 
 loop-less : tie.Need-loop-less Inv-loop μ-loop
-loop-less c = let n = next-as _ _ _ (c .before .before .before .before .byte-at .ensures) (c .before .before .byte .given .1) in omega arith
+loop-less c =
+    let n = next-as _ _ _ (c .before .before .before .before .byte-at .ensures) (c .before .before .byte .given .1) in
+    omega arith
 
 loop-again : tie.Need-loop-again Inv-loop μ-loop
-loop-again c = reads-byte _ _ _ _ _ (c .before .before .before .before .before .loop .inv) (next-as _ _ _ (c .before .before .before .before .byte-at .ensures) (c .before .before .byte .given .1)) (omega arith) (c .with-byte .ensures)
+loop-again c =
+    let n = next-as _ _ _ (c .before .before .before .before .byte-at .ensures) (c .before .before .byte .given .1) in
+    reads-byte _ _ _ _ _ (c .before .before .before .before .before .loop .inv) n (omega arith) (c .with-byte .ensures)
 
 enum-known-place : tie.Need-enum-known-place Inv-loop μ-loop
 enum-known-place c = search needs
@@ -41,7 +47,9 @@ blank-at-requires : tie.Need-blank-at-requires Inv-loop μ-loop
 blank-at-requires c κs = search needs
 
 returns : tie.Need-returns Inv-loop μ-loop
-returns c = reads-end _ _ _ _ _ (c .before .before .before .before .before .loop .inv) _ (next-as _ _ _ (c .before .before .before .before .byte-at .ensures) (c .before .before .place .given .1)) (c .blank-at .ensures)
+returns c =
+    let n = next-as _ _ _ (c .before .before .before .before .byte-at .ensures) (c .before .before .place .given .1) in
+    reads-end _ _ _ _ _ (c .before .before .before .before .before .loop .inv) _ n (c .blank-at .ensures)
 
 pub field-at-spec : {M : Type 1} → statement M
 field-at-spec =

@@ -1,6 +1,6 @@
 -- `fields::is_count` meets its contract: it asks the three tests. Assumes nothing.
 use mathlib.Core.Path.{ap₂, _∙_}
-use mathlib.Core.Bool.{Bool, _&&_}
+use mathlib.Core.Bool.{_&&_}
 use borrow.Author.Needs.{needs}
 use Rattle.fields.specs.Fields.{spellsCount}
 use Rattle.fields.proofs.is_count.Statement.{statement}

@@ -38,7 +38,9 @@ is-ended-requires c κs = search needs
 returns : tie.Need-returns Inv-loop μ-loop
 returns c =
     let n = next-as _ _ _ (c .before .before .before .before .byte-at .ensures) (c .before .before .enum-told .given .1) in
-    c .is-ended .ensures ∙ same-ended _ _ _ _ (c .before .byte-at2 .result) (n .0) (c .before .byte-at2 .ensures) ∙ sym (c .before .before .before .before .before .loop .inv)
+    c .is-ended .ensures
+    ∙ same-ended _ _ _ _ (c .before .byte-at2 .result) (n .0) (c .before .byte-at2 .ensures)
+    ∙ sym (c .before .before .before .before .before .loop .inv)
 
 enum-known-byte : tie.Need-enum-known-byte Inv-loop μ-loop
 enum-known-byte c = search needs

@@ -12,20 +12,26 @@ unfolding withDigit
 returns c = simp (le-ltb _ _ (c .if1 .taken))
 
 mul-result : tie.Need-mul-result
-mul-result c = let h = five-spell (c .before .before .before .before .args .f) (c .before .before .before .before .pre .1) (omega arith) in omega arith
+mul-result c =
+    let h = five-spell (c .before .before .before .before .args .f) (c .before .before .before .before .pre .1) (omega arith) in
+    omega arith
 
 returns-2 : tie.Need-returns-2
 unfolding withDigit
 returns-2 c = simp (lt-ltb _ _ (c .before .before .if1 .left)) (omega arith)
 
 mul-result-2 : tie.Need-mul-result-2
-mul-result-2 c = let h = five-spell (c .before .before .before .before .args .f) (c .before .before .before .before .pre .1) (omega arith) in omega arith
+mul-result-2 c =
+    let h = five-spell (c .before .before .before .before .args .f) (c .before .before .before .before .pre .1) (omega arith) in
+    omega arith
 
 sub-result : tie.Need-sub-result
 sub-result c = search needs
 
 add-result : tie.Need-add-result
-add-result c = let h = five-spell (c .before .before .before .before .args .f) (c .before .before .before .before .pre .1) (omega arith) in omega arith
+add-result c =
+    let h = five-spell (c .before .before .before .before .args .f) (c .before .before .before .before .pre .1) (omega arith) in
+    omega arith
 
 returns-3 : tie.Need-returns-3
 unfolding withDigit
