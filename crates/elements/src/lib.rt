@@ -1,6 +1,5 @@
 // Elements where they are spelled: at which place an element of a segment begins.
 // It promises the pieces into which `reading` cuts the segment, by their numbers.
-ghost use mathlib.Core.Path.{_≡_};
 ghost use Rattle.elements.specs.Elements.{ElementAt};
 use characters::Characters;
 use scanner::Lexed;

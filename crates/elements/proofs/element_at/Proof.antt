@@ -1,7 +1,7 @@
 -- `elements::element_at` meets its contract. The loop's invariant: the element that is looked for from the start is the one that is
 -- looked for from `at`, behind as many separators as are left. What is left of the input falls. Assumes nothing.
 use Prim.Native.Nat.{_≤_, _-_}
-use mathlib.Core.Path.{_≡_, refl, sym, ap, _∙_}
+use mathlib.Core.Path.{_≡_, refl, sym, _∙_}
 use native.Mathlib.Omega.{arith}
 use native.Mathlib.Nat.{le-refl}
 use lib.ListN.{length}
@@ -45,7 +45,11 @@ enum-known-kind c = search needs
 returns : tie.Need-returns Inv-loop μ-loop
 returns c =
     let l = lexes-as _ _ _ (c .before .before .before .before .lex .ensures) (c .before .before .kind .given .1) in
-    (at-end _ _ _ (le-refl _) ∙ sym (c .before .before .before .before .before .before .loop .inv .0 ∙ element-terminator _ _ _ _ (search needs) l (c .if1 .taken)), λ h. omega arith)
+    (
+      at-end _ _ _ (le-refl _)
+          ∙ sym (c .before .before .before .before .before .before .loop .inv .0 ∙ element-terminator _ _ _ _ (search needs) l (c .if1 .taken)),
+      λ h. omega arith,
+    )
 
 sub-left : tie.Need-sub-left Inv-loop μ-loop
 sub-left c = search needs
@@ -89,7 +93,11 @@ enum-told c = search needs
 returns-2 : tie.Need-returns-2 Inv-loop μ-loop
 returns-2 c =
     let l = lexes-as _ _ _ (c .before .before .lex .ensures) (c .enum-told .given .1) in
-    (at-end _ _ _ (le-refl _) ∙ sym (c .before .before .before .before .loop .inv .0 ∙ element-end _ _ _ _ (search needs) l), λ h. omega arith)
+    (
+      at-end _ _ _ (le-refl _)
+          ∙ sym (c .before .before .before .before .loop .inv .0 ∙ element-end _ _ _ _ (search needs) l),
+      λ h. omega arith,
+    )
 
 returns-3 : tie.Need-returns-3 Inv-loop μ-loop
 returns-3 c = (sym (c .before .loop .inv .0 ∙ element-here _ _ (omega arith)), c .before .loop .inv .1)

@@ -1,0 +1,5 @@
+pub mod Values
+pub mod Steps
+pub mod Bytes
+pub mod Loops
+pub mod Control

@@ -1,0 +1,88 @@
+-- One step of reading a value and of looking for the end of an element, for each token that the scanner can find. Assumes nothing.
+use Prim.Native.Nat.{ℕ, _≤_, _<_}
+use mathlib.Core.Path.{_≡_, sym, ap, _∙_, subst}
+use mathlib.Core.Bool.{Bool, true, false}
+use mathlib.Core.List.{List, [], _∷_}
+use native.Mathlib.Omega.{arith}
+use lib.Dec.{leb}
+use borrow.Author.Tests.{le-leb, lt-leb}
+use Rattle.lists.specs.Lists.{if_then_else_, isEmpty, through, gather}
+use Rattle.characters.specs.declared.Characters.{Characters}
+use Rattle.reading.specs.Tokens.{separator, ends}
+use Rattle.reading.specs.Values.{byteOf, bytesOf}
+use Rattle.reading.proofs.Steps.{tokensAt}
+use Rattle.scanner.specs.declared.Lexed.the-variants as lexed
+use Rattle.scanner.proofs.Lexing.{Lexes}
+use Rattle.fields.specs.declared.NextByte.{NextByte}
+use Rattle.fields.specs.declared.NextByte.the-variants.{Byte, Ended}
+use Rattle.fields.specs.Fields.{valueIn, blankIn}
+use Rattle.fields.specs.Reading.{valueEnd, NextAt}
+
+module _ (c : Characters) (s : List ℕ) where
+  -- the same value goes on at another place, and ends where the first ends
+  abbrev pub Continues : ℕ → ℕ → Type 0
+  Continues from at =
+      (valueIn (tokensAt c s from) ≡ valueIn (tokensAt c s at))
+      × (valueEnd (tokensAt c s from) ≡ valueEnd (tokensAt c s at))
+      × (from ≤ at)
+
+  -- ---- the next byte
+
+  pub next-byte : (from at : ℕ) {b place next : ℕ} → Continues from at → Lexes c s at (lexed.Byte b place next)
+      → NextAt c s from (Byte b next)
+  unfolding valueIn valueEnd through ends bytesOf gather byteOf
+  next-byte from at h l = (h .0 ∙ ap valueIn (l .0), h .1 ∙ ap valueEnd (l .0), omega arith, omega arith)
+
+  pub next-separator : (from at : ℕ) {kind next : ℕ} → Continues from at → Lexes c s at (lexed.Separator kind next)
+      → NextAt c s from (Ended at)
+  unfolding valueIn valueEnd through ends bytesOf gather byteOf
+  next-separator from at {kind} {next} h l = (
+    h .0 ∙ ap valueIn (l .0) ∙ ap (λ (b : Bool). bytesOf (if b then [] else through (ends 2) (tokensAt c s next))) ended,
+    h .1
+        ∙ ap valueEnd (l .0)
+        ∙ ap (λ (b : Bool). if b then separator kind at ∷ tokensAt c s next else valueEnd (tokensAt c s next)) ended
+        ∙ sym (l .0),
+  )
+    where
+      ended : leb kind 2 ≡ true
+      ended = le-leb kind 2 (l .3)
+
+  pub next-stray : (from at : ℕ) {next : ℕ} → Continues from at → Lexes c s at (lexed.Stray next) → Continues from next
+  unfolding valueIn valueEnd through ends bytesOf gather byteOf
+  next-stray from at h l = (h .0 ∙ ap valueIn (l .0), h .1 ∙ ap valueEnd (l .0), omega arith)
+
+  pub next-end : (from at : ℕ) → Continues from at → Lexes c s at lexed.End → NextAt c s from (Ended at)
+  unfolding valueIn valueEnd through bytesOf gather
+  next-end from at h l = (h .0 ∙ ap valueIn (l .0), h .1 ∙ ap valueEnd (l .0) ∙ sym (l .0))
+
+  -- ---- the end of the element
+
+  module _ (at : ℕ) where
+    pub blank-byte : {b place next : ℕ} → Lexes c s at (lexed.Byte b place next) → blankIn (tokensAt c s at) ≡ false
+    unfolding blankIn through ends bytesOf gather byteOf isEmpty
+    blank-byte l = ap blankIn (l .0)
+
+    pub blank-over : {kind next : ℕ} → Lexes c s at (lexed.Separator kind next) → kind ≤ 1 → blankIn (tokensAt c s at) ≡ true
+    unfolding blankIn through ends bytesOf gather byteOf isEmpty
+    blank-over {kind} {next} l h =
+        ap blankIn (l .0)
+        ∙ ap (λ (b : Bool). isEmpty (bytesOf (if b then [] else through (ends 1) (tokensAt c s next)))) (le-leb kind 1 h)
+
+    pub blank-component : {kind next : ℕ} → Lexes c s at (lexed.Separator kind next) → 1 < kind
+        → blankIn (tokensAt c s at) ≡ blankIn (tokensAt c s next)
+    unfolding blankIn through ends bytesOf gather byteOf isEmpty
+    blank-component {kind} {next} l h =
+        ap blankIn (l .0)
+        ∙ ap (λ (b : Bool). isEmpty (bytesOf (if b then [] else through (ends 1) (tokensAt c s next)))) (lt-leb kind 1 h)
+
+    pub blank-stray : {next : ℕ} → Lexes c s at (lexed.Stray next) → blankIn (tokensAt c s at) ≡ blankIn (tokensAt c s next)
+    unfolding blankIn through ends bytesOf gather byteOf isEmpty
+    blank-stray l = ap blankIn (l .0)
+
+    pub blank-end : Lexes c s at lexed.End → blankIn (tokensAt c s at) ≡ true
+    unfolding blankIn through bytesOf gather isEmpty
+    blank-end l = ap blankIn (l .0)
+
+    -- what a match on the next byte shows
+    pub next-as : {r answer : NextByte} → NextAt c s at answer → answer ≡ r → NextAt c s at r
+    next-as n e = subst (NextAt c s at) e n
