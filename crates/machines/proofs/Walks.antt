@@ -72,7 +72,7 @@ module _ (s : List ℕ) where
       ap lowest (met-append MisplacedSegment (startsWhere misplaced [] (segmentsOf s)) (placeIf incomplete (length s))
       ∙ ap (λ (l : Stage). l ++ met MisplacedSegment (placeIf incomplete (length s))) (met-starts MisplacedSegment misplaced [] (segmentsOf s)))
       ∙ lowest-ended (failing MisplacedSegment misplaced) orderedSegment (failing-within MisplacedSegment misplaced) answers
-          [] MisplacedSegment incomplete (segments-rise s)
+      [] MisplacedSegment incomplete (segments-rise s)
       ∙ ap (orElse (firstIn orderedSegment [] (segmentsOf s))) (if-not (isComplete (kindsOf s)) (refuse MisplacedSegment (length s)))
     where
       misplaced : List Segment → Segment → Bool

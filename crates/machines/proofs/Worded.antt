@@ -79,7 +79,7 @@ unfolding misworded wordedOr brokenTag finished merge maybe lowerOf
 misworded-answers low high past g spans =
     lowest-append (met StrayRelease (gather strayAt g)) (failing BrokenTag brokenTag (past, g))
     ∙ ap₂ merge (stray-answers g (spans .2)) (lowest-if BrokenTag (brokenTag past g) (start g)
-      ∙ ap (λ (t : Bool). if (endedBy 0 g && t) && not (tagRule g) then refuse BrokenTag (start g) else none) (no-fault g))
+    ∙ ap (λ (t : Bool). if (endedBy 0 g && t) && not (tagRule g) then refuse BrokenTag (start g) else none) (no-fault g))
     ∙ step (firstFault g) (endedBy 0 g) (tagRule g)
   where
     broken : Option Refusal
