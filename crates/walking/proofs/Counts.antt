@@ -1,5 +1,5 @@
 -- The five counters behind each segment, whatever its kind and whatever passed before it, and how high they can be. Assumes nothing.
-use Prim.Native.Nat.{ℕ, suc, _+_, _≤_}
+use Prim.Native.Nat.{ℕ, suc, _≤_, _<_}
 use mathlib.Core.Path.{refl}
 use mathlib.Core.Bool.{Bool, true, false}
 use mathlib.Core.List.{List, [], _∷_}
@@ -70,12 +70,12 @@ counts-within w past e h =
 pub within-more : (w : Walk) {n m : ℕ} → n ≤ m → Within n w → Within m w
 within-more w h e = omega arith
 
-pub within-step : (w : Walk) (kind : Kind) {n : ℕ} → Within n w → Within (n + 1) (steppedBy w kind)
-within-step w Unb e = omega arith
-within-step w Ung e = omega arith
-within-step w Unh e = omega arith
-within-step w Uns e = omega arith
-within-step w Unt e = omega arith
-within-step w Une e = omega arith
-within-step w Unz e = omega arith
-within-step w User e = omega arith
+pub within-step : (w : Walk) (kind : Kind) {n m : ℕ} → n < m → Within n w → Within m (steppedBy w kind)
+within-step w Unb h e = omega arith
+within-step w Ung h e = omega arith
+within-step w Unh h e = omega arith
+within-step w Uns h e = omega arith
+within-step w Unt h e = omega arith
+within-step w Une h e = omega arith
+within-step w Unz h e = omega arith
+within-step w User h e = omega arith

@@ -4,7 +4,7 @@
 // in proofs/ say that it is the answer of `segments` for all that passed. Going through the segments
 // of an input is left to `ordering`.
 ghost use mathlib.Core.Path.{_≡_};
-ghost use Prim.Native.Nat.{_<_, _≤_, _+_};
+ghost use Prim.Native.Nat.{_≤_};
 ghost use mathlib.Core.List.{[]};
 ghost use Rattle.segments.specs.Order.{walkOver};
 ghost use Rattle.walking.specs.Walking.{Within, allowedBefore, allowedBetween, allowedInGroup, allowedInMessage, allowedBy, messageOpened, messageClosed, standsBehind, segmentCounted, messageCounted, groupCounted, headerCounted, steppedBy, isBehind};
