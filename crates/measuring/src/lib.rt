@@ -38,8 +38,8 @@ pub fn width_of(b: u8) -> usize
     1
 }
 
-fn with_byte(m: Measure, b: u8) -> Measure
-    requires { ⌜ held m ≤ 64000 ⌝ }
+pub fn with_byte(m: Measure, b: u8) -> Measure
+    requires { ⌜ held m ≤ 64009 ⌝ }
     ensures { λ r. ⌜ r ≡ behindByte m b ⌝ }
 {
     Measure {
@@ -49,8 +49,8 @@ fn with_byte(m: Measure, b: u8) -> Measure
     }
 }
 
-fn with_separator(m: Measure, kind: u8) -> Measure
-    requires { ⌜ held m ≤ 64000 ⌝ }
+pub fn with_separator(m: Measure, kind: u8) -> Measure
+    requires { ⌜ held m ≤ 64009 ⌝ }
     ensures { λ r. ⌜ r ≡ behindSeparator m kind ⌝ }
 {
     if kind == 0 {

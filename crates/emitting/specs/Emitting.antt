@@ -1,0 +1,17 @@
+-- What a separator stores at once, and what is emitted from a measure on. Assumes nothing.
+use Prim.Native.Nat.{ℕ}
+use mathlib.Core.List.{List, [], _∷_}
+use lib.Dec.{leb}
+use Rattle.lists.specs.Lists.{if_then_else_}
+use Rattle.reading.specs.Tokens.{Token}
+use Rattle.verdict.specs.Contents.{normalCharacters}
+use Rattle.emission.specs.Emission.{emitted}
+use Rattle.measuring.specs.declared.Measure.{Measure}
+
+-- a terminator, and nothing for another separator
+unfoldable pub endText : ℕ → List ℕ
+endText kind = if leb kind 0 then 39 ∷ [] else []
+
+-- the emission, with what the measure holds back
+unfoldable pub emittedFrom : ℕ → Measure → List Token → List ℕ
+emittedFrom mark m ts = emitted (normalCharacters mark) (m .elements) (m .components) ts
