@@ -1,6 +1,6 @@
 // Stage 9 (paper 01, "Order of segments"): the first segment that is not allowed where it stands, or
 // the end before UNZ; or else the walk over the whole, with its counts. It promises what the walk of
-// `machines` answers. What trailers must say is left to `controls`.
+// `machines` answers. What trailers must say is left to others.
 ghost use Prim.Native.Nat.{_≤_};
 ghost use mathlib.Core.Path.{_≡_};
 ghost use lib.ListN.{length};
@@ -17,6 +17,7 @@ use walking::beginning;
 use walking::is_complete;
 use walking::stepped;
 
+// The walk over the whole, or the refusal that stage 9 answers.
 pub enum Ordered {
     Whole(Walk),
     Failed(Refusal),

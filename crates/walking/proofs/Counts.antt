@@ -14,6 +14,7 @@ use Rattle.segments.specs.Kinds.{is}
 use Rattle.segments.specs.Order.{segmentsIn, messagesIn, groupsIn, segmentsSinceHeader, messagesSinceGroup, walkOver}
 use Rattle.walking.specs.Walking.{Counts, Within, steppedBy}
 
+-- one segment more: the counters are those of what passed with it
 pub counts-step : (w : Walk) (past : List Kind) (kind : Kind) → Counts w past → Counts (steppedBy w kind) (kind ∷ past)
 unfolding segmentsIn messagesIn groupsIn segmentsSinceHeader messagesSinceGroup those through is
 counts-step w past Unb e = omega arith
@@ -25,6 +26,7 @@ counts-step w past Une e = omega arith
 counts-step w past Unz e = omega arith
 counts-step w past User e = omega arith
 
+-- the walk over what passed has its counts
 pub counts-walk : (past : List Kind) → Counts (walkOver past) past
 unfolding walkOver
 counts-walk past =

@@ -15,23 +15,34 @@ use Rattle.walking.specs.Walking.{walked, Counts, Within, allowedFrom, a
 use Rattle.walking.proofs.Counts.{counts-step, counts-walk, counts-within}
 use Rattle.walking.proofs.Places.{each, complete-behind, stands-step}
 
--- what is allowed at a standing place
+-- the tables of each standing place say what the order of segments says there
 abbrev Answers : Standing → List Kind → Kind → Type 0
 Answers place past kind = allowedFrom place (walkOver past) kind ≡ allowedAt place past kind
 
 answers : (place : Standing) (past : List Kind) (kind : Kind) → Answers place past kind
 unfolding allowedAt insideMessage is walkOver
 answers BeforeInterchange past = each (Answers BeforeInterchange past) refl refl refl refl refl refl refl refl
-answers BetweenGroups past = each (Answers BetweenGroups past) refl (sym (ung (ltb 0 (groupsIn past) || eqb (messagesIn past) 0))) (sym (or-false (eqb (groupsIn past) 0))) refl refl refl refl refl
+answers BetweenGroups past =
+    each
+    (Answers BetweenGroups past)
+    refl
+    (sym (or-neither (ltb 0 (groupsIn past) || eqb (messagesIn past) 0)))
+    (sym (or-false (eqb (groupsIn past) 0)))
+    refl
+    refl
+    refl
+    refl
+    refl
   where
-    ung : (b : Bool) → (b || false || false) ≡ b
-    ung true = refl
-    ung false = refl
+    or-neither : (b : Bool) → (b || false || false) ≡ b
+    or-neither true = refl
+    or-neither false = refl
 answers InGroup past = each (Answers InGroup past) refl refl refl refl refl refl refl refl
 answers InGroupMessage past = each (Answers InGroupMessage past) refl refl refl refl refl refl refl refl
 answers InMessage past = each (Answers InMessage past) refl refl refl refl refl refl refl refl
 answers BehindInterchange past = each (Answers BehindInterchange past) refl refl refl refl refl refl refl refl
 
+-- what is allowed
 pub allowed-over : (past : List Kind) (kind : Kind) → allowedBy (walkOver past) kind ≡ allowed past kind
 unfolding allowed walkOver
 allowed-over past kind = answers (standing past) past kind
@@ -54,7 +65,8 @@ stepped-stands : (w : Walk) (kind : Kind) → steppedBy w kind .standing ≡ sta
 stepped-stands w =
     each (λ kind. steppedBy w kind .standing ≡ standsBehind (w .standing) kind) refl refl refl refl refl refl refl refl
 
--- the walk behind one segment more, where each was allowed where it stood
+-- the walk behind one segment more, where each was allowed where it stood. (Elsewhere the standing place may differ: behind a UNH
+-- with no UNB before it, UNT is allowed and leads between groups, where `standing` says before the interchange.)
 pub stepped-over : (past : List Kind) (kind : Kind) → walked past ≡ true → allowed past kind ≡ true
     → steppedBy (walkOver past) kind ≡ walkOver (kind ∷ past)
 unfolding walkOver
@@ -63,9 +75,11 @@ stepped-over past kind h k =
     (stepped-stands (walkOver past) kind ∙ stands-step past kind h k)
     (counts-step (walkOver past) past kind (counts-walk past))
 
+-- whether an interchange is complete
 pub complete-over : (past : List Kind) → isBehind (walkOver past .standing) ≡ isComplete past
 unfolding walkOver
 complete-over past = complete-behind past
 
+-- no counter is higher than the number of segments that passed
 pub within-over : (past : List Kind) {n : ℕ} → length past ≤ n → Within n (walkOver past)
 within-over past h = counts-within (walkOver past) past (counts-walk past) h

@@ -15,6 +15,7 @@ use segments::Segments;
 use segments::Standing;
 use segments::Walk;
 
+// Before the first segment.
 pub fn beginning() -> Walk
     ensures { λ r. ⌜ r ≡ walkOver [] ⌝ }
 {
@@ -91,6 +92,7 @@ fn in_group(w: Walk, kind: Kind) -> bool
     }
 }
 
+// A segment of this kind is allowed where the walk stands.
 pub fn allowed(w: Walk, kind: Kind) -> bool
     ensures { λ r. ⌜ r ≡ allowedBy w kind ⌝ }
 {
@@ -214,6 +216,7 @@ fn header_counted(w: Walk, kind: Kind) -> Walk
     }
 }
 
+// The walk behind a segment of this kind, which is allowed there.
 pub fn stepped(w: Walk, kind: Kind) -> Walk
     requires { ⌜ Within 32000 w ⌝ }
     ensures { λ r. ⌜ r ≡ steppedBy w kind ⌝ }
@@ -223,6 +226,7 @@ pub fn stepped(w: Walk, kind: Kind) -> Walk
     header_counted(segment_counted(behind, w), kind)
 }
 
+// Nothing more may follow, and nothing is missing.
 pub fn is_complete(w: Walk) -> bool
     ensures { λ r. ⌜ r ≡ isBehind (w .standing) ⌝ }
 {

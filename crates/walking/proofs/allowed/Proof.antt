@@ -43,10 +43,16 @@ returns : tie.Need-returns
 returns c = search needs
 
 returns-2 : tie.Need-returns-2
-returns-2 c = c .between-groups .ensures ∙ ap (λ (place : Standing). allowedFrom place (c .before .before .before .args .w) (c .before .before .before .args .kind)) (sym (c .before .enum-told2 .given .1))
+returns-2 c =
+    let args = c .before .before .before .args in
+    c .between-groups .ensures
+    ∙ ap (λ (place : Standing). allowedFrom place (args .w) (args .kind)) (sym (c .before .enum-told2 .given .1))
 
 returns-3 : tie.Need-returns-3
-returns-3 c = c .in-group .ensures ∙ ap (λ (place : Standing). allowedFrom place (c .before .before .before .args .w) (c .before .before .before .args .kind)) (sym (c .before .enum-told3 .given .1))
+returns-3 c =
+    let args = c .before .before .before .args in
+    c .in-group .ensures
+    ∙ ap (λ (place : Standing). allowedFrom place (args .w) (args .kind)) (sym (c .before .enum-told3 .given .1))
 
 returns-4 : tie.Need-returns-4
 returns-4 c = search needs

@@ -21,9 +21,10 @@ header-counted-requires c κs =
 
 returns : tie.Need-returns
 returns c =
+    let args = c .before .before .before .args in
     c .header-counted .ensures
-    ∙ ap (λ (w : Walk). headerCounted w (c .before .before .before .args .kind)) (c .before .segment-counted .ensures)
-    ∙ ap (λ (place : Standing). headerCounted (segmentCounted place (c .before .before .before .args .w)) (c .before .before .before .args .kind)) (c .before .before .stands .ensures)
+    ∙ ap (λ (w : Walk). headerCounted w (args .kind)) (c .before .segment-counted .ensures)
+    ∙ ap (λ (place : Standing). headerCounted (segmentCounted place (args .w)) (args .kind)) (c .before .before .stands .ensures)
 
 pub stepped-spec : {M : Type 1} → statement M
 stepped-spec =
