@@ -44,8 +44,7 @@ enum-known-kind c = search needs
 
 returns : tie.Need-returns Inv-loop μ-loop
 returns c =
-    let l = lexes-as _ _ _ (c .before .before .before .before .lex .ensures) (c .before .before .kind .given .1) in
-    (
+    let l = lexes-as _ _ _ (c .before .before .before .before .lex .ensures) (c .before .before .kind .given .1) in (
       at-end _ _ _ (le-refl _)
           ∙ sym (c .before .before .before .before .before .before .loop .inv .0 ∙ element-terminator _ _ _ _ (search needs) l (c .if1 .taken)),
       λ h. omega arith,
@@ -92,8 +91,7 @@ enum-told c = search needs
 
 returns-2 : tie.Need-returns-2 Inv-loop μ-loop
 returns-2 c =
-    let l = lexes-as _ _ _ (c .before .before .lex .ensures) (c .enum-told .given .1) in
-    (
+    let l = lexes-as _ _ _ (c .before .before .lex .ensures) (c .enum-told .given .1) in (
       at-end _ _ _ (le-refl _)
           ∙ sym (c .before .before .before .before .loop .inv .0 ∙ element-end _ _ _ _ (search needs) l),
       λ h. omega arith,
