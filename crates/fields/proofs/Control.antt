@@ -96,6 +96,7 @@ lone-values (piece ∷ pieces) =
     ∙ ap (λ (later : List (List ℕ)). lone (bytesOf piece) (all isEmpty later)) (map-map (λ v. v .bytes) valueOf pieces)
 
 module _ {B : Type 0} (h : Option (List ℕ) → B) (blank : h (some []) ≡ h none) where
+  -- an idle element is read as none
   idle-none : (values : List Value) → isIdle isBlank values ≡ true → h (oneOf values) ≡ h none
   unfolding isIdle single isEmpty
   idle-none [] e = refl
@@ -173,6 +174,7 @@ module _ (ts : List Token) (k : ℕ) where
   unfolding fieldWith
   digits-are = ap (λ (f : Field). f .digits) (field-is spelled)
 
+  -- it is a reference, or a count, exactly where the field says so
   pub reference-is : isReference element ≡ spellsReference (fieldOf spelled)
   unfolding isReference spellsReference lone maybe between
   reference-is =
@@ -202,6 +204,7 @@ module _ (ts : List Token) (k : ℕ) where
       present-is element (valueIn spelled) (subst (λ (n : ℕ). 1 ≤ n) size-is h)
       (control-element present refl ts k ∙ ap (λ (b : Bool). present (lone (valueIn spelled) b)) a)
 
+  -- a reference, or a count, is the value that is spelled there
   pub reference-value : isReference element ≡ true → element ≡ some (valueIn spelled)
   unfolding spellsReference
   reference-value h =
@@ -234,6 +237,7 @@ module _ (ts : List Token) (k : ℕ) where
 -- ---- the same at a place
 
 module _ (c : Characters) (s : List ℕ) (from k : ℕ) {r : ℕ} (e : ElementAt c s from k r) where
+  -- what `is_reference` and `is_count` answer of `field_at` at the place that `element_at` gives
   pub reference-at : isReference (controlElement (segmentAt c s from) k) ≡ spellsReference (fieldOf (tokensAt c s r))
   unfolding segmentAt
   reference-at = reference-is (tokensAt c s from) k ∙ ap (λ (ts : List Token). spellsReference (fieldOf ts)) (sym (e .0))
@@ -242,6 +246,7 @@ module _ (c : Characters) (s : List ℕ) (from k : ℕ) {r : ℕ} (e : ElementAt
   unfolding segmentAt
   count-at = count-is (tokensAt c s from) k ∙ ap (λ (ts : List Token). spellsCount (fieldOf ts)) (sym (e .0))
 
+  -- the value that `same_value` reads there, and the number of the field
   pub reference-value-at : isReference (controlElement (segmentAt c s from) k) ≡ true
       → controlElement (segmentAt c s from) k ≡ some (valueIn (tokensAt c s r))
   unfolding segmentAt
