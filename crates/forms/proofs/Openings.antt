@@ -1,0 +1,52 @@
+-- A text that begins with an advice: its service characters, its body, and what a spelled list is read as. Assumes nothing.
+use Prim.Native.Nat.{ℕ, _+_}
+use mathlib.Core.Path.{_≡_, refl, sym, ap, ap₂, _∙_}
+use mathlib.Core.Bool.{Bool, true, false, not, _&&_, _||_}
+use mathlib.Core.List.{List, [], _∷_, _++_, map}
+use native.Mathlib.Omega.{arith}
+use lib.ListN.{length, getD, drop}
+use lib.Dec.{ltb}
+use borrow.Author.Tests.{le-ltb}
+use Rattle.lists.specs.Lists.{if_then_else_, isEmpty, text, begins}
+use Rattle.characters.specs.declared.Characters.{Characters}
+use Rattle.characters.specs.Characters.{usable, sixBytes, spelledOut, advised, adviceOf, charactersOf, bodyStart, body, badAdvice}
+use Rattle.reading.specs.Spelling.{Bytes, SegmentList, spell}
+use Rattle.verdict.specs.Contents.{contents, interchange}
+use Rattle.operations.specs.ValueList.{trimList}
+use Rattle.spelling.specs.Bodies.{readList, Shaped, Releasable}
+use Rattle.spelling.proofs.Laws.{read-spelling}
+use Rattle.forms.proofs.Trimmed.{contents-read}
+
+module _ (c : Characters) (more : Bytes) where
+  pub advice-advised : advised (adviceOf c ++ more) ≡ true
+  unfolding advised adviceOf spelledOut begins
+  advice-advised = refl
+
+  pub advice-characters : charactersOf (adviceOf c ++ more) ≡ c
+  unfolding charactersOf sixBytes advised adviceOf spelledOut begins
+  advice-characters = refl
+
+  pub advice-start : bodyStart (adviceOf c ++ more) ≡ 9
+  unfolding bodyStart advised adviceOf spelledOut begins
+  advice-start = refl
+
+  pub advice-body : body (adviceOf c ++ more) ≡ more
+  unfolding body bodyStart advised adviceOf spelledOut begins
+  advice-body = refl
+
+  pub advice-good : usable c ≡ true → badAdvice (adviceOf c ++ more) ≡ false
+  unfolding badAdvice advised adviceOf spelledOut begins
+  advice-good u =
+      ap₂ (λ (a b : Bool). a || not b)
+      (le-ltb (length (adviceOf c ++ more)) 9 (omega arith))
+      (ap usable advice-characters ∙ u)
+
+-- a list that can be spelled is read back from its interchange, and trimmed
+pub contents-interchange : (c : Characters) (list : SegmentList) → usable c ≡ true → Shaped list → Releasable c list
+    → contents (interchange c list) ≡ trimList list
+unfolding interchange
+contents-interchange c list u s r =
+    let t : Bytes = adviceOf c ++ spell c list in
+    contents-read t
+    ∙ ap₂ (λ (k : Characters) (bs : Bytes). trimList (readList k (bodyStart t) bs)) (advice-characters c (spell c list)) (advice-body c (spell c list))
+    ∙ ap trimList (read-spelling c u (bodyStart t) list s r)
