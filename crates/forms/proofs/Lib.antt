@@ -3,3 +3,7 @@ pub mod Trimmed
 pub mod Openings
 pub mod Accepted
 pub mod Theorems
+pub mod Tags
+pub mod Alike
+pub mod LevelBytes
+pub mod Accepting

@@ -13,8 +13,8 @@ use Rattle.characters.specs.Characters.{usable, sixBytes, spelledOut, advised, 
 use Rattle.reading.specs.Spelling.{Bytes, SegmentList, spell}
 use Rattle.verdict.specs.Contents.{contents, interchange}
 use Rattle.operations.specs.ValueList.{trimList}
-use Rattle.spelling.specs.Bodies.{readList, Shaped, Releasable}
-use Rattle.spelling.proofs.Laws.{read-spelling}
+use Rattle.spelling.specs.Bodies.{readList, Passes, Shaped, Releasable}
+use Rattle.spelling.proofs.Laws.{read-spelling, spelling-passes}
 use Rattle.forms.proofs.Trimmed.{contents-read}
 
 module _ (c : Characters) (more : Bytes) where
@@ -41,12 +41,22 @@ module _ (c : Characters) (more : Bytes) where
       (le-ltb (length (adviceOf c ++ more)) 9 (omega arith))
       (ap usable advice-characters ∙ u)
 
--- a list that can be spelled is read back from its interchange, and trimmed
-pub contents-interchange : (c : Characters) (list : SegmentList) → usable c ≡ true → Shaped list → Releasable c list
-    → contents (interchange c list) ≡ trimList list
-unfolding interchange
-contents-interchange c list u s r =
-    let t : Bytes = adviceOf c ++ spell c list in
-    contents-read t
-    ∙ ap₂ (λ (k : Characters) (bs : Bytes). trimList (readList k (bodyStart t) bs)) (advice-characters c (spell c list)) (advice-body c (spell c list))
-    ∙ ap trimList (read-spelling c u (bodyStart t) list s r)
+-- a list that can be spelled, behind its advice
+module _ (c : Characters) (list : SegmentList) (u : usable c ≡ true) (shaped : Shaped list) (releasable : Releasable c list) where
+  abbrev written : Bytes
+  written = adviceOf c ++ spell c list
+
+  -- its body passes and is read as the list
+  pub interchange-passes : Passes (charactersOf (interchange c list)) (bodyStart (interchange c list)) (body (interchange c list))
+  unfolding interchange
+  interchange-passes =
+      rw (advice-characters c (spell c list), advice-body c (spell c list)) (spelling-passes c u (bodyStart written) list shaped releasable)
+
+  pub interchange-read : readList (charactersOf (interchange c list)) (bodyStart (interchange c list)) (body (interchange c list)) ≡ list
+  unfolding interchange
+  interchange-read =
+      rw (advice-characters c (spell c list), advice-body c (spell c list)) (read-spelling c u (bodyStart written) list shaped releasable)
+
+  -- its contents are the list, trimmed
+  pub interchange-contents : contents (interchange c list) ≡ trimList list
+  interchange-contents = contents-read (interchange c list) ∙ ap trimList interchange-read

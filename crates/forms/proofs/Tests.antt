@@ -37,18 +37,21 @@ module _ {A : Type 0} (p t : A → Bool) where
 
 -- ---- what is met nowhere
 
+-- two parts are empty exactly where both tests say so
+pub none-both : {A : Type 0} (xs ys : List A) (t u : Bool) → (xs ≡ []) ↔ (t ≡ true) → (ys ≡ []) ↔ (u ≡ true)
+    → (xs ++ ys ≡ []) ↔ ((t && u) ≡ true)
+none-both xs ys t u h k =
+    let parts = append-eq-nil-iff {p = xs} {q = ys} in (
+      λ e. and-both t u (h .0 (parts .0 e .0)) (k .0 (parts .0 e .1)),
+      λ e. parts .1 (h .1 (and-left t u e), k .1 (and-right t u e)),
+    )
+
 -- nothing is gathered exactly where each brings nothing
 pub gather-none : {A B : Type 0} (f : A → List B) (t : A → Bool) → ((x : A) → (f x ≡ []) ↔ (t x ≡ true)) → (xs : List A)
     → (gather f xs ≡ []) ↔ (all t xs ≡ true)
 unfolding gather all
 gather-none f t h [] = (λ e. refl, λ e. refl)
-gather-none f t h (x ∷ xs) =
-    let ih = gather-none f t h xs in (
-      λ e.
-          let parts = append-eq-nil-iff {p = f x} {q = gather f xs} .0 e in
-          and-both (t x) (all t xs) (h x .0 (parts .0)) (ih .0 (parts .1)),
-      λ k. append-eq-nil-iff {p = f x} {q = gather f xs} .1 (h x .1 (and-left (t x) (all t xs) k), ih .1 (and-right (t x) (all t xs) k)),
-    )
+gather-none f t h (x ∷ xs) = none-both (f x) (gather f xs) (t x) (all t xs) (h x) (gather-none f t h xs)
 
 -- a refusal is not met exactly where its test fails
 pub place-none : (t : Bool) (p : ℕ) → (placeIf t p ≡ []) ↔ (t ≡ false)

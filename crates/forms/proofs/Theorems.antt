@@ -21,7 +21,7 @@ use Rattle.spelling.specs.Bodies.{readList, Sound, Passes, Shaped, Releasable}
 use Rattle.spelling.proofs.Laws.{read-shaped}
 use Rattle.emission.proofs.Theorems.{contents-bound}
 use Rattle.forms.proofs.Trimmed.{contents-read, trimList-again, trim-shaped}
-use Rattle.forms.proofs.Openings.{advice-characters, contents-interchange}
+use Rattle.forms.proofs.Openings.{advice-characters, interchange-passes, interchange-read}
 use Rattle.forms.proofs.Accepted.{Accepted, accepted-exactly, passes-accepted, usable-accepted}
 
 -- "the mark"
@@ -39,9 +39,9 @@ usable-mark c u =
     (and-left (eqb (c .reserved) space && member (c .mark) (text ".,") && all separates (serviceCharacters c)) (allDiffer (c .mark ∷ serviceCharacters c)) u))
 
 -- with either of them the normal form's characters are usable
-pub normal-usable : (mark : ℕ) → member mark (text ".,") ≡ true → usable (normalCharacters mark) ≡ true
+marked-usable : (mark : ℕ) → member mark (text ".,") ≡ true → usable (normalCharacters mark) ≡ true
 unfolding member usable normalCharacters sixBytes serviceCharacters released separates between upper lower digit all allDiffer
-normal-usable mark h = step (or-cases (eqb mark 46) (eqb mark 44 || false) h)
+marked-usable mark h = step (or-cases (eqb mark 46) (eqb mark 44 || false) h)
   where
     step : (eqb mark 46 ≡ true) ⊎ ((eqb mark 44 || false) ≡ true) → usable (normalCharacters mark) ≡ true
     step (inl e) = rw (eqb-true mark 46 e) refl
@@ -80,13 +80,25 @@ module _ (s : List ℕ) (accepted : refusalOf s ≡ none) where
       ∙ trimList-again (readList (charactersOf s) (bodyStart s) (body s))
       ∙ sym (contents-read s)
 
-  -- the normal form has the same contents, under its own characters with the same mark
-  pub normal-contents : contents (normalForm s) ≡ contents s
+  -- ---- its normal form
+
+  -- its characters are usable; its body passes and is read as the contents
+  pub normal-usable : usable (normalCharacters (markOf s)) ≡ true
+  normal-usable = marked-usable (markOf s) accepted-mark
+
+  pub normal-passes : Passes (charactersOf (normalForm s)) (bodyStart (normalForm s)) (body (normalForm s))
   unfolding normalForm
-  normal-contents =
-      let c : Characters = normalCharacters (markOf s) in
-      contents-interchange c (contents s) (normal-usable (markOf s) accepted-mark) contents-shaped (normal-releasable (markOf s) (contents s))
-      ∙ contents-trimmed
+  normal-passes =
+      interchange-passes (normalCharacters (markOf s)) (contents s) normal-usable contents-shaped (normal-releasable (markOf s) (contents s))
+
+  pub normal-read : readList (charactersOf (normalForm s)) (bodyStart (normalForm s)) (body (normalForm s)) ≡ contents s
+  unfolding normalForm
+  normal-read =
+      interchange-read (normalCharacters (markOf s)) (contents s) normal-usable contents-shaped (normal-releasable (markOf s) (contents s))
+
+  -- it has the same contents, under its own characters with the same mark
+  pub normal-contents : contents (normalForm s) ≡ contents s
+  normal-contents = contents-read (normalForm s) ∙ ap trimList normal-read ∙ contents-trimmed
 
   pub normal-characters : charactersOf (normalForm s) ≡ normalCharacters (markOf s)
   unfolding normalForm interchange
