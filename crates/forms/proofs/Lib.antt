@@ -7,3 +7,5 @@ pub mod Tags
 pub mod Alike
 pub mod LevelBytes
 pub mod Accepting
+pub mod Trailers
+pub mod EndToEnd
