@@ -154,8 +154,7 @@ module _ (s : List ℕ) (accepted : refusalOf s ≡ none) where
       let parts = append-eq-nil-iff {p = startsWhere (λ past g. not (allowed (map kindOf past) (kindOf g))) [] (segmentsOf s)} .0 (nowhere .order) in
       let kinds : map kindOf (segmentsOf s) ≡ map kindOf (segmentsOf (normalForm s)) = kinds-alike (segmentsOf s) (segmentsOf (normalForm s)) alike in
       let whole : isComplete (reverse (map kindOf (segmentsOf s))) ≡ true = place-none-not (isComplete (kindsOf s)) (length s) .0 (parts .1) in
-      append-eq-nil-iff .1
-      (
+      append-eq-nil-iff .1 (
         starts-alike (λ past g. not (allowed (map kindOf past) (kindOf g))) order-by-contents [] [] (segmentsOf s) (segmentsOf (normalForm s)) refl alike (parts .0),
         place-none-not (isComplete (kindsOf (normalForm s))) (length (normalForm s)) .1 (rw (← kinds) whole),
       )

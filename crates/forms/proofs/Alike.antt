@@ -94,8 +94,7 @@ starts-alike fails by past past′ (g ∷ gs) [] p e k = absurd (cons≢nil e)
 starts-alike fails by past past′ (g ∷ gs) (h ∷ hs) p e k =
     let same : contentsOf g ≡ contentsOf h = head-eq-of-cons-eq e in
     let parts = append-eq-nil-iff {p = placeIf (fails past g) (start g)} {q = startsWhere fails (g ∷ past) gs} .0 k in
-    append-eq-nil-iff {p = placeIf (fails past′ h) (start h)} {q = startsWhere fails (h ∷ past′) hs} .1
-    (
+    append-eq-nil-iff {p = placeIf (fails past′ h) (start h)} {q = startsWhere fails (h ∷ past′) hs} .1 (
       place-none (fails past′ h) (start h) .1 (sym (by past past′ g h p same) ∙ place-none (fails past g) (start g) .0 (parts .0)),
       starts-alike fails by (g ∷ past) (h ∷ past′) gs hs (ap₂ _∷_ same p) (tail-eq-of-cons-eq e) (parts .1),
     )

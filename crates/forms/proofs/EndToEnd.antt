@@ -99,7 +99,7 @@ module _ (s : List ℕ) (accepted : refusalOf s ≡ none) (more : List ℕ) wher
   behind-form =
       let n : List ℕ = normalForm s in
       let parts = append-eq-nil-iff {p = startsWhere (λ past g. not (allowed (map kindOf past) (kindOf g))) [] (segmentsOf n)} .0
-          (accepted-exactly n .0 (normal-accepted s accepted) .order) in
+      (accepted-exactly n .0 (normal-accepted s accepted) .order) in
       let c : Characters = normalCharacters (markOf s) in
       ap behindTrailer (segments-more c (contents s) more (normal-usable s accepted) (contents-shaped s accepted) (normal-releasable (markOf s) (contents s)))
       ∙ trailer-last [] (segmentsOf n) (segments (tokens (normalCharacters (markOf s)) (length n) more)) (parts .0)
