@@ -1,28 +1,30 @@
 -- What it is to be accepted: each of the refusals 1 to 13 is met nowhere. Assumes nothing.
 use Prim.Native.Nat.{ℕ, zero, suc}
-use mathlib.Core.Path.{_≡_, refl, sym, ap, _∙_}
+use mathlib.Core.Path.{_≡_, refl, ap}
 use mathlib.Core.Bool.{Bool, true, false, not, _&&_, _||_}
 use mathlib.Core.List.{List, [], _∷_, _++_, List·Memᴰ·head, List·Memᴰ·tail, append-eq-nil-iff}
-use mathlib.Core.Option.{Option, none, some}
+use mathlib.Core.Option.{none}
 use mathlib.Core.Logic.{_↔_}
 use lib.ListN.{length, drop, getD}
 use lib.Dec.{ltb}
 use Rattle.lists.specs.Lists.{if_then_else_, begins, text, all, allDiffer, member}
-use Rattle.lists.proofs.Texts.{and-left, and-right, or-none-right, if-true, if-false}
+use Rattle.lists.proofs.Texts.{or-none-right}
 use borrow.Author.Tests.{not-true, not-false}
 use Rattle.characters.specs.declared.Characters.{Characters}
-use Rattle.characters.specs.Characters.{between, upper, lower, digit, space, separates, released, serviceCharacters, usable, sixBytes, advised, plusCharacters, controlCharacters, charactersOf, bodyStart, body, badAdvice}
+use Rattle.characters.specs.Characters.{between, upper, lower, digit, separates, released, serviceCharacters, usable, sixBytes, advised, plusCharacters, controlCharacters, charactersOf, badAdvice}
 use Rattle.refusals.specs.declared.Fault.{Fault}
 use Rattle.refusals.specs.declared.Fault.the-variants.{TooLong, UnusableAdvice, NoOpening, StrayRelease, UnendedSegment, BrokenTag, ForeignLevel, OutsideLevel, MisplacedSegment, BadControl, ReferenceDiffers, CountWrong, NormalTooLong}
-use Rattle.refusals.specs.declared.Refusal.{Refusal}
 use Rattle.refusals.specs.Refusals.{Stage, met, placeIf, lowest, orElse, answering}
 use Rattle.refusals.proofs.Stages.{NoneMet, met-none, answering-none}
 use Rattle.reading.specs.Tokens.{Token, placeOf}
 use Rattle.reading.specs.Values.{isFault, endsInside}
-use Rattle.verdict.specs.Contents.{bodyTokens}
-use Rattle.verdict.specs.Places.{tooLong, unusableAdvice, noOpening, strayReleases, unendedSegment, brokenTags, foreignLevel, outsideLevel, misplacedSegments, badControls, differingReferences, wrongCounts, normalTooLong}
+use Rattle.segments.specs.Order.{isComplete}
+use Rattle.verdict.specs.Contents.{bodyTokens, segmentsOf, kindsOf}
+use Rattle.verdict.specs.Places.{startsWhere, tooLong, unusableAdvice, noOpening, strayReleases, unendedSegment, brokenTags, foreignLevel, outsideLevel, misplacedSegments, badControls, differingReferences, wrongCounts, normalTooLong}
 use Rattle.verdict.specs.Stages.{laterStages, stages, refusalOf}
 use Rattle.spelling.specs.Bodies.{Sound, Passes}
+use Rattle.grammar.specs.Grammar.{misplaced}
+use Rattle.forms.specs.Forms.{BodyPasses}
 use Rattle.forms.proofs.Tests.{gather-none, place-none, place-none-not}
 
 -- none of 1 to 13 is met
@@ -102,7 +104,7 @@ accepted-exactly s = (there, back)
 
 module _ (s : List ℕ) where
   -- neither 4 nor 5 is met exactly where the body passes
-  pub passes-accepted : ((strayReleases s ≡ []) × (unendedSegment s ≡ [])) ↔ Passes (charactersOf s) (bodyStart s) (body s)
+  pub passes-accepted : ((strayReleases s ≡ []) × (unendedSegment s ≡ [])) ↔ BodyPasses s
   unfolding strayReleases unendedSegment Passes Sound bodyTokens
   passes-accepted =
       let faults = gather-none (λ t. placeIf (isFault t) (placeOf t)) (λ t. not (isFault t)) stray (bodyTokens s) in
@@ -111,6 +113,14 @@ module _ (s : List ℕ) where
     where
       stray : (t : Token) → (placeIf (isFault t) (placeOf t) ≡ []) ↔ (not (isFault t) ≡ true)
       stray t = (λ e. ap not (place-none (isFault t) (placeOf t) .0 e), λ e. place-none (isFault t) (placeOf t) .1 (not-true (isFault t) e))
+
+  -- 9 is met nowhere exactly where each segment is allowed where it stands, and UNZ comes before the end
+  pub order-accepted : (misplacedSegments s ≡ []) ↔ ((startsWhere misplaced [] (segmentsOf s) ≡ []) × (isComplete (kindsOf s) ≡ true))
+  unfolding misplacedSegments
+  order-accepted =
+      let parts = append-eq-nil-iff {p = startsWhere misplaced [] (segmentsOf s)} {q = placeIf (not (isComplete (kindsOf s))) (length s)} in
+      let end = place-none-not (isComplete (kindsOf s)) (length s) in
+      (λ e. (parts .0 e .0, end .0 (parts .0 e .1)), λ k. parts .1 (k .0, end .1 (k .1)))
 
   -- the service characters of an input that 2 does not refuse are usable
   pub usable-accepted : unusableAdvice s ≡ [] → usable (charactersOf s) ≡ true

@@ -1,75 +1,64 @@
 -- "Normal form": the normal form of an accepted input is accepted. Assumes nothing.
 use Prim.Native.Nat.{ℕ}
-use mathlib.Core.Path.{_≡_, refl, sym, ap, ap₂, subst, _∙_}
-use mathlib.Core.Bool.{Bool, true, false, not, _&&_, _||_, false≢true, true≢false}
-use mathlib.Core.List.{List, [], _∷_, _++_, map, reverse, append-eq-nil-iff, nil≢cons, cons≢nil, head-eq-of-cons-eq}
+use mathlib.Core.Path.{_≡_, refl, sym, ap, _∙_}
+use mathlib.Core.Bool.{Bool, true, false, not, false≢true}
+use mathlib.Core.List.{List, [], _∷_, _++_, map, reverse, append-eq-nil-iff, cons≢nil}
 use mathlib.Core.Option.{Option, none, some}
-use mathlib.Core.Logic.{_↔_}
 use lib.ListN.{length}
-use lib.Dec.{eqb}
 use Rattle.lists.specs.Lists.{if_then_else_, isEmpty, text, same, begins, member, all, at, maybe, gather, behind, joined}
-use Rattle.lists.proofs.Texts.{and-left, and-right, same-eq}
+use Rattle.lists.proofs.Texts.{and-left, same-eq}
 use Rattle.characters.specs.declared.Characters.{Characters}
-use Rattle.characters.specs.Characters.{upper, digit, between, released, serviceCharacters, isService, usable, sixBytes, adviceOf, charactersOf, bodyStart, body, badAdvice, opens}
+use Rattle.characters.specs.Characters.{upper, digit, between, released, serviceCharacters, isService, sixBytes, bodyStart, badAdvice, opens}
 use Rattle.refusals.specs.Refusals.{placeIf}
-use Rattle.reading.specs.Tokens.{Token, Segment, start, segments, tokens}
-use Rattle.reading.specs.Values.{finished}
+use Rattle.reading.specs.Tokens.{Segment, start}
 use Rattle.reading.specs.Trimming.{trimSegment, valueAt, contentsOf}
 use Rattle.reading.specs.Spelling.{Bytes, SegmentList, spellByte, spellValue, spellElement, spellSegment, spell}
 use Rattle.levels.specs.Levels.{isOurVersion, levelOf, inLevel}
 use Rattle.segments.specs.declared.Kind.{Kind}
 use Rattle.segments.specs.declared.Kind.the-variants.{Unb, Ung, Unh, Uns, Unt, Une, Unz, User}
 use Rattle.segments.specs.Kinds.{is, kindNamed}
-use Rattle.segments.specs.Tags.{tagOf, kindOf, isTag, tagRule}
+use Rattle.segments.specs.Tags.{tagOf, kindOf, isTag}
 use Rattle.segments.specs.Order.{isOpen, standing, allowedAt, allowed, isComplete}
-use Rattle.control.specs.Control.{controlRule, referenceDiffers, countWrong}
+use Rattle.control.specs.Control.{referenceDiffers, countWrong}
 use Rattle.verdict.specs.Contents.{bodyTokens, segmentsOf, contents, kindsOf, normalCharacters, interchange, normalForm}
-use Rattle.verdict.specs.Places.{isOver, startsWhere, tooLong, unusableAdvice, noOpening, strayReleases, unendedSegment, brokenTags, foreignLevel, level, outsideLevel, misplacedSegments, badControls, differingReferences, wrongCounts, normalTooLong}
+use Rattle.verdict.specs.Places.{isOver, startsWhere, tooLong, unusableAdvice, noOpening, brokenTags, foreignLevel, level, misplacedSegments, badControls, differingReferences, wrongCounts, normalTooLong}
 use Rattle.verdict.specs.Stages.{refusalOf}
 use Rattle.operations.specs.ValueList.{trimList}
-use Rattle.spelling.specs.Bodies.{listed, readList, Sound, Passes, Shaped}
-use Rattle.spelling.proofs.Laws.{read-spelling, spelling-passes}
+use Rattle.spelling.specs.Bodies.{listed, readList, Passes}
+use Rattle.grammar.specs.Grammar.{misplaced, badControl}
+use Rattle.forms.specs.Forms.{markOf, listOf}
 use Rattle.forms.proofs.Tests.{all-map, place-none, place-none-not}
-use Rattle.forms.proofs.Trimmed.{contents-read, trim-values}
-use Rattle.forms.proofs.Openings.{advice-characters, advice-start, advice-body, advice-good}
-use Rattle.forms.proofs.Accepted.{Accepted, accepted-exactly, passes-accepted}
-use Rattle.forms.proofs.Theorems.{markOf, accepted-passes, normal-usable, normal-passes, normal-read, normal-contents, normal-again}
+use Rattle.forms.proofs.Trimmed.{allBytes, contents-read, trim-bytes}
+use Rattle.forms.proofs.Openings.{advice-characters, advice-body, advice-good}
+use Rattle.forms.proofs.Accepted.{Accepted, accepted-exactly, passes-accepted, order-accepted}
+use Rattle.forms.proofs.Normal.{accepted-passes, normal-usable, normal-passes, normal-read, normal-contents, normal-again}
 use Rattle.forms.proofs.Tags.{firstValue, isSingle, lone, tagStands, tag-trim, tag-first, tags-words, all-finished}
-use Rattle.forms.proofs.Alike.{Alike, level-alike, kinds-alike, starts-alike, order-by-contents, controls-by-contents, references-by-contents, counts-by-contents}
-use Rattle.forms.proofs.LevelBytes.{allBytes, level-bytes}
+use Rattle.forms.proofs.Alike.{Alike, first-alike, level-alike, kinds-alike, starts-alike, order-by-contents, controls-by-contents, references-by-contents, counts-by-contents}
+use Rattle.forms.proofs.LevelBytes.{level-bytes}
 
 -- ---- the level
 
-module _ (s t : List ℕ) (e : Alike (segmentsOf s) (segmentsOf t)) where
+module _ (s t : List ℕ) (alike : Alike (segmentsOf s) (segmentsOf t)) where
   -- inputs with equal contents name the same level
   same-level : level s ≡ level t
-  unfolding level at maybe
-  same-level = step (segmentsOf s) (segmentsOf t) e
-    where
-      named : List Segment → ℕ
-      named gs = maybe 0 (λ unb. maybe 0 (λ n. n) (levelOf unb)) (at gs 0)
-
-      step : (gs hs : List Segment) → Alike gs hs → named gs ≡ named hs
-      step [] [] e = refl
-      step [] (h ∷ hs) e = absurd (nil≢cons e)
-      step (g ∷ gs) [] e = absurd (cons≢nil e)
-      step (g ∷ gs) (h ∷ hs) e = ap (maybe 0 (λ n. n)) (level-alike g h (head-eq-of-cons-eq e))
+  unfolding level maybe
+  same-level =
+      let named : Option Segment → ℕ = maybe 0 (λ unb. maybe 0 (λ n. n) (levelOf unb)) in
+      first-alike (λ o q. named o ≡ named q) refl (λ g h e. ap (maybe 0 (λ n. n)) (level-alike g h e)) (segmentsOf s) (segmentsOf t) alike
 
   same-named : foreignLevel s ≡ [] → foreignLevel t ≡ []
-  unfolding foreignLevel at maybe
-  same-named = step (segmentsOf s) (segmentsOf t) e
+  unfolding foreignLevel maybe
+  same-named =
+      let foreign : Option Segment → List ℕ = maybe [] (λ unb. maybe (start unb ∷ []) (λ n. []) (levelOf unb)) in
+      first-alike (λ o q. foreign o ≡ [] → foreign q ≡ []) (λ k. k)
+      (λ g h e k. rw (← level-alike g h e) (known (levelOf g) (start g) (start h) k))
+      (segmentsOf s)
+      (segmentsOf t)
+      alike
     where
-      foreign : List Segment → List ℕ
-      foreign gs = maybe [] (λ unb. maybe (start unb ∷ []) (λ n. []) (levelOf unb)) (at gs 0)
-
       known : (o : Option ℕ) (p q : ℕ) → maybe (p ∷ []) (λ n. []) o ≡ [] → maybe (q ∷ []) (λ n. []) o ≡ []
       known none p q h = absurd (cons≢nil h)
       known (some n) p q h = refl
-
-      step : (gs hs : List Segment) → Alike gs hs → foreign gs ≡ [] → foreign hs ≡ []
-      step gs [] e k = refl
-      step [] (h ∷ hs) e k = absurd (nil≢cons e)
-      step (g ∷ gs) (h ∷ hs) e k = rw (← level-alike g h (head-eq-of-cons-eq e)) (known (levelOf g) (start g) (start h) k)
 
 -- ---- the opening
 
@@ -109,7 +98,7 @@ module _ (mark : ℕ) (rest : SegmentList) where
   spelled-opening g ((x ∷ []) ∷ []) e v l n = absurd (cons≢nil (sym (ap (maybe (start g ∷ []) (λ (m : ℕ). [])) (no-level g (x ∷ []) e)) ∙ n))
   spelled-opening g ((x ∷ []) ∷ z ∷ zs) e v l n = rw v refl
 
-opening : (mark : ℕ) (gs : List Segment) → startsWhere (λ past g. not (allowed (map kindOf past) (kindOf g))) [] gs ≡ []
+opening : (mark : ℕ) (gs : List Segment) → startsWhere misplaced [] gs ≡ []
     → isComplete (reverse (map kindOf gs)) ≡ true → all tagStands (map contentsOf gs) ≡ true
     → maybe [] (λ unb. maybe (start unb ∷ []) (λ n. []) (levelOf unb)) (at gs 0) ≡ []
     → begins (text "UNB" ++ 43 ∷ []) (spell (normalCharacters mark) (map contentsOf gs)) ≡ true
@@ -128,10 +117,6 @@ module _ (s : List ℕ) (accepted : refusalOf s ≡ none) where
   abbrev nowhere : Accepted s
   nowhere = accepted-exactly s .0 accepted
 
-  -- the values as they were read
-  abbrev words : SegmentList
-  words = readList (charactersOf s) (bodyStart s) (body s)
-
   alike : Alike (segmentsOf s) (segmentsOf (normalForm s))
   unfolding contents
   alike = sym (normal-contents s accepted)
@@ -141,32 +126,31 @@ module _ (s : List ℕ) (accepted : refusalOf s ≡ none) where
   unfolding brokenTags segmentsOf bodyTokens readList listed trimList Passes
   contents-tags =
       rw (contents-read s)
-      (all-map (trimSegment isEmpty) tagStands tagStands tag-trim words
+      (all-map (trimSegment isEmpty) tagStands tagStands tag-trim (listOf s)
       (tags-words [] (segmentsOf s) (all-finished (bodyTokens s) (accepted-passes s accepted)) .0 (nowhere .tags)))
 
   -- every byte of the contents is in the level
   contents-level : allBytes (inLevel (level s)) (contents s) ≡ true
-  contents-level = rw (contents-read s) (trim-values (inLevel (level s)) words (level-bytes s .0 (nowhere .bytes)))
+  contents-level = rw (contents-read s) (trim-bytes (inLevel (level s)) (listOf s) (level-bytes s .0 (nowhere .bytes)))
+
+  -- each segment is allowed where it stands, and UNZ comes before the end
+  order : (startsWhere misplaced [] (segmentsOf s) ≡ []) × (isComplete (kindsOf s) ≡ true)
+  order = order-accepted s .0 (nowhere .order)
 
   normal-order : misplacedSegments (normalForm s) ≡ []
-  unfolding misplacedSegments kindsOf
+  unfolding kindsOf
   normal-order =
-      let parts = append-eq-nil-iff {p = startsWhere (λ past g. not (allowed (map kindOf past) (kindOf g))) [] (segmentsOf s)} .0 (nowhere .order) in
-      let kinds : map kindOf (segmentsOf s) ≡ map kindOf (segmentsOf (normalForm s)) = kinds-alike (segmentsOf s) (segmentsOf (normalForm s)) alike in
-      let whole : isComplete (reverse (map kindOf (segmentsOf s))) ≡ true = place-none-not (isComplete (kindsOf s)) (length s) .0 (parts .1) in
-      append-eq-nil-iff .1 (
-        starts-alike (λ past g. not (allowed (map kindOf past) (kindOf g))) order-by-contents [] [] (segmentsOf s) (segmentsOf (normalForm s)) refl alike (parts .0),
-        place-none-not (isComplete (kindsOf (normalForm s))) (length (normalForm s)) .1 (rw (← kinds) whole),
+      order-accepted (normalForm s) .1 (
+        starts-alike misplaced order-by-contents [] [] (segmentsOf s) (segmentsOf (normalForm s)) refl alike (order .0),
+        ap (λ (kinds : List Kind). isComplete (reverse kinds)) (sym (kinds-alike (segmentsOf s) (segmentsOf (normalForm s)) alike)) ∙ order .1,
       )
 
   normal-opens : opens (normalForm s) ≡ true
-  unfolding opens normalForm interchange misplacedSegments kindsOf foreignLevel contents normalCharacters sixBytes
+  unfolding opens normalForm interchange kindsOf foreignLevel contents normalCharacters sixBytes
   normal-opens =
       let c : Characters = normalCharacters (markOf s) in
-      let spelled : Bytes = spell c (contents s) in
-      let parts = append-eq-nil-iff {p = startsWhere (λ past g. not (allowed (map kindOf past) (kindOf g))) [] (segmentsOf s)} .0 (nowhere .order) in
-      rw (advice-characters c spelled, advice-body c spelled)
-      (opening (markOf s) (segmentsOf s) (parts .0) (place-none-not (isComplete (kindsOf s)) (length s) .0 (parts .1)) contents-tags (nowhere .level))
+      rw (advice-characters c (spell c (contents s)), advice-body c (spell c (contents s)))
+      (opening (markOf s) (segmentsOf s) (order .0) (order .1) contents-tags (nowhere .level))
 
   normal-nowhere : Accepted (normalForm s)
   unfolding tooLong unusableAdvice noOpening brokenTags badControls differingReferences wrongCounts normalTooLong segmentsOf readList listed Passes bodyTokens normalForm interchange
@@ -186,7 +170,7 @@ module _ (s : List ℕ) (accepted : refusalOf s ≡ none) where
         level = same-named s n alike (nowhere .level);
         bytes = level-bytes n .1 (rw (normal-read s accepted, ← same-level s n alike) contents-level);
         order = normal-order;
-        controls = starts-alike (λ past g. not (controlRule g)) controls-by-contents [] [] (segmentsOf s) (segmentsOf n) refl alike (nowhere .controls);
+        controls = starts-alike badControl controls-by-contents [] [] (segmentsOf s) (segmentsOf n) refl alike (nowhere .controls);
         references = starts-alike referenceDiffers references-by-contents [] [] (segmentsOf s) (segmentsOf n) refl alike (nowhere .references);
         counts = starts-alike countWrong counts-by-contents [] [] (segmentsOf s) (segmentsOf n) refl alike (nowhere .counts);
         normal = place-none (isOver (normalForm n)) (length (normalForm n)) .1 (ap isOver (normal-again s accepted) ∙ short);

@@ -2,22 +2,23 @@
 -- nowhere in the other. Assumes nothing.
 use Prim.Native.Nat.{ℕ}
 use mathlib.Core.Path.{_≡_, refl, sym, ap, ap₂, fun-ext, _∙_}
-use mathlib.Core.Bool.{Bool, true, false, not, _&&_}
-use mathlib.Core.List.{List, [], _∷_, _++_, map, map-map, append-eq-nil-iff, nil≢cons, cons≢nil, head-eq-of-cons-eq, tail-eq-of-cons-eq}
+use mathlib.Core.Bool.{Bool, true, false, not}
+use mathlib.Core.List.{List, [], _∷_, map, map-map, append-eq-nil-iff, nil≢cons, cons≢nil, head-eq-of-cons-eq, tail-eq-of-cons-eq}
 use mathlib.Core.Option.{Option, none, some}
 use lib.Dec.{eqb}
 use Rattle.lists.specs.Lists.{if_then_else_, first, at, maybe}
 use Rattle.refusals.specs.Refusals.{placeIf}
 use Rattle.reading.specs.Tokens.{Segment, start}
-use Rattle.reading.specs.Trimming.{valueAt, contentsOf}
+use Rattle.reading.specs.Trimming.{contentsOf}
 use Rattle.levels.specs.Levels.{isOurVersion, levelOf}
 use Rattle.segments.specs.declared.Kind.{Kind}
 use Rattle.segments.specs.Kinds.{is, kindNamed}
-use Rattle.segments.specs.Tags.{tagOf, kindOf}
+use Rattle.segments.specs.Tags.{kindOf}
 use Rattle.segments.specs.Order.{allowed}
 use Rattle.control.specs.Positions.{positionsOf}
 use Rattle.control.specs.Control.{controlElement, standsWell, controlRule, headerOf, referenceOf, sameValue, referenceDiffers, decimal, trueCount, countOf, countWrong}
 use Rattle.verdict.specs.Places.{startsWhere}
+use Rattle.grammar.specs.Grammar.{misplaced, badControl}
 use Rattle.forms.proofs.Tags.{firstValue, tag-first}
 use Rattle.forms.proofs.Tests.{place-none}
 
@@ -61,6 +62,15 @@ kinds-alike gs hs e = by-contents gs ∙ ap (map (λ k. kindNamed (firstValue k)
         ap (λ (f : Segment → Kind). map f xs) (fun-ext (λ x. ap kindNamed (tag-first x)))
         ∙ sym (map-map (λ k. kindNamed (firstValue k)) contentsOf xs)
 
+-- what is related for two segments with equal contents is related for the first of two such rows, if there is one
+pub first-alike : (R : Option Segment → Option Segment → Type 0) → R none none
+    → ((g h : Segment) → contentsOf g ≡ contentsOf h → R (some g) (some h)) → (gs hs : List Segment) → Alike gs hs → R (at gs 0) (at hs 0)
+unfolding at
+first-alike R n r [] [] e = n
+first-alike R n r [] (h ∷ hs) e = absurd (nil≢cons e)
+first-alike R n r (g ∷ gs) [] e = absurd (cons≢nil e)
+first-alike R n r (g ∷ gs) (h ∷ hs) e = r g h (head-eq-of-cons-eq e)
+
 -- the reference of the nearest segment of a kind
 nearest-alike : (kind : Kind) (gs hs : List Segment) → Alike gs hs
     → maybe none referenceOf (first (λ g. is kind (kindOf g)) gs) ≡ maybe none referenceOf (first (λ g. is kind (kindOf g)) hs)
@@ -99,10 +109,10 @@ starts-alike fails by past past′ (g ∷ gs) (h ∷ hs) p e k =
       starts-alike fails by (g ∷ past) (h ∷ past′) gs hs (ap₂ _∷_ same p) (tail-eq-of-cons-eq e) (parts .1),
     )
 
-pub order-by-contents : ByContents (λ past g. not (allowed (map kindOf past) (kindOf g)))
+pub order-by-contents : ByContents misplaced
 order-by-contents past past′ g h p e = ap₂ (λ (ks : List Kind) (k : Kind). not (allowed ks k)) (kinds-alike past past′ p) (kind-alike g h e)
 
-pub controls-by-contents : ByContents (λ past g. not (controlRule g))
+pub controls-by-contents : ByContents badControl
 controls-by-contents past past′ g h p e = ap not (control-alike g h e)
 
 pub references-by-contents : ByContents referenceDiffers

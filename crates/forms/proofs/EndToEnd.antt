@@ -1,9 +1,9 @@
 -- A file of normal forms end to end is cut apart again in only one way. Assumes nothing.
 use Prim.Native.Nat.{ℕ, zero, suc, _+_, _≤_}
 use mathlib.Core.Path.{_≡_, refl, sym, ap, ap₂, _∙_}
-use mathlib.Core.Bool.{Bool, true, false, not, _&&_}
-use mathlib.Core.List.{List, [], _∷_, _++_, map, append-assoc, append-nil, append-eq-nil-iff, List·Memᴰ, List·Memᴰ·head, List·Memᴰ·tail}
-use mathlib.Core.Option.{Option, none, some}
+use mathlib.Core.Bool.{Bool, true, false}
+use mathlib.Core.List.{List, [], _∷_, _++_, map, append-assoc, append-nil, List·Memᴰ·head, List·Memᴰ·tail}
+use mathlib.Core.Option.{none}
 use native.Mathlib.Omega.{arith}
 use lib.ListN.{length, take, drop, length-append}
 use lib.Seq.{take-append-seam, drop-append-seam}
@@ -18,17 +18,14 @@ use Rattle.reading.specs.Tokens.{Token, byte, separator, fault, unreleased, rel
 use Rattle.reading.specs.Values.{endedBy, endsInside}
 use Rattle.reading.specs.Spelling.{Bytes, SegmentList, spell}
 use Rattle.segments.specs.Tags.{kindOf}
-use Rattle.segments.specs.Order.{allowed, isComplete}
 use Rattle.verdict.specs.Contents.{bodyTokens, segmentsOf, contents, kindsOf, normalCharacters, interchange, normalForm}
-use Rattle.verdict.specs.Places.{startsWhere, misplacedSegments}
 use Rattle.verdict.specs.Stages.{refusalOf}
 use Rattle.spelling.specs.Bodies.{Sound, Passes, Shaped, Releasable}
 use Rattle.spelling.proofs.Laws.{spelling-passes, tokens-append}
-use Rattle.forms.specs.Files.{NormalForm, endToEnd, behindTrailer, formEnd, cutUpTo, cutForms}
-use Rattle.forms.proofs.Tests.{place-none-not}
+use Rattle.forms.specs.Forms.{markOf, NormalForm, NormalForms, endToEnd, behindTrailer, formEnd, cutUpTo}
 use Rattle.forms.proofs.Openings.{advice-characters, advice-start, advice-body}
-use Rattle.forms.proofs.Accepted.{Accepted, accepted-exactly}
-use Rattle.forms.proofs.Theorems.{markOf, normal-releasable, contents-shaped, normal-usable}
+use Rattle.forms.proofs.Accepted.{accepted-exactly, order-accepted}
+use Rattle.forms.proofs.Normal.{normal-releasable, contents-shaped, normal-usable}
 use Rattle.forms.proofs.Accepting.{normal-accepted}
 use Rattle.forms.proofs.Trailers.{complete-any, trailer-last}
 
@@ -95,15 +92,13 @@ segments-more c list more u s r =
 module _ (s : List ℕ) (accepted : refusalOf s ≡ none) (more : List ℕ) where
   -- behind the first UNZ stands what follows the normal form
   behind-form : behindTrailer (segmentsOf (normalForm s ++ more)) ≡ segments (tokens (normalCharacters (markOf s)) (length (normalForm s)) more)
-  unfolding misplacedSegments kindsOf normalForm
+  unfolding kindsOf normalForm
   behind-form =
       let n : List ℕ = normalForm s in
-      let parts = append-eq-nil-iff {p = startsWhere (λ past g. not (allowed (map kindOf past) (kindOf g))) [] (segmentsOf n)} .0
-      (accepted-exactly n .0 (normal-accepted s accepted) .order) in
       let c : Characters = normalCharacters (markOf s) in
+      let order = order-accepted n .0 (accepted-exactly n .0 (normal-accepted s accepted) .order) in
       ap behindTrailer (segments-more c (contents s) more (normal-usable s accepted) (contents-shaped s accepted) (normal-releasable (markOf s) (contents s)))
-      ∙ trailer-last [] (segmentsOf n) (segments (tokens (normalCharacters (markOf s)) (length n) more)) (parts .0)
-      (complete-any (map kindOf (segmentsOf n)) (place-none-not (isComplete (kindsOf n)) (length n) .0 (parts .1)))
+      ∙ trailer-last [] (segmentsOf n) (segments (tokens c (length n) more)) (order .0) (complete-any (map kindOf (segmentsOf n)) (order .1))
 
   form-end : formEnd (normalForm s ++ more) ≡ length (normalForm s)
   unfolding formEnd maybe at segments cut tokens tokensFrom
@@ -114,11 +109,7 @@ module _ (s : List ℕ) (accepted : refusalOf s ≡ none) (more : List ℕ) wher
       step [] = ap length (append-nil (normalForm s))
       step (b ∷ bs) = first-byte (length (normalForm s ++ b ∷ bs)) (normalCharacters (markOf s)) (length (normalForm s)) b bs
 
--- ---- the theorems
-
--- each of them is a normal form
-abbrev pub NormalForms : List (List ℕ) → Type 0
-NormalForms forms = (form : List ℕ) → List·Memᴰ form forms → NormalForm form
+-- ---- cutting
 
 form-next : (form more : List ℕ) → NormalForm form → formEnd (form ++ more) ≡ length form
 form-next form more f = rw (← f .made) (form-end (f .input) (f .accepted) more)
@@ -129,7 +120,7 @@ unfolding normalForm interchange adviceOf spelledOut
 form-length form f = omega (arith, ap length (f .made))
 
 -- so a file has a byte for each of its forms
-file-length : (forms : List (List ℕ)) → NormalForms forms → length forms ≤ length (endToEnd forms)
+pub file-length : (forms : List (List ℕ)) → NormalForms forms → length forms ≤ length (endToEnd forms)
 unfolding endToEnd gather
 file-length [] f = omega arith
 file-length (form ∷ forms) f =
@@ -141,7 +132,7 @@ file-length (form ∷ forms) f =
     )
 
 -- as many cuts as there are forms, or more, find them all
-cut-enough : (n : ℕ) (forms : List (List ℕ)) → NormalForms forms → length forms ≤ n → cutUpTo n (endToEnd forms) ≡ forms
+pub cut-enough : (n : ℕ) (forms : List (List ℕ)) → NormalForms forms → length forms ≤ n → cutUpTo n (endToEnd forms) ≡ forms
 unfolding cutUpTo endToEnd gather
 cut-enough zero [] f h = refl
 cut-enough zero (form ∷ forms) f h = absurd (omega arith)
@@ -153,12 +144,3 @@ cut-enough (suc n) ((b ∷ bs) ∷ forms) f h =
     ap (λ (k : ℕ). take k file ∷ cutUpTo n (drop k file)) (form-next form (endToEnd forms) (f form (List·Memᴰ·head refl)))
     ∙ ap₂ (λ (first rest : List ℕ). first ∷ cutUpTo n rest) (take-append-seam form (endToEnd forms)) (drop-append-seam form (endToEnd forms))
     ∙ ap (λ (rest : List (List ℕ)). form ∷ rest) (cut-enough n forms (λ g m. f g (List·Memᴰ·tail m)) (omega arith))
-
--- the file is cut into its normal forms
-pub cut-forms : (forms : List (List ℕ)) → NormalForms forms → cutForms (endToEnd forms) ≡ forms
-unfolding cutForms
-cut-forms forms f = cut-enough (length (endToEnd forms)) forms f (file-length forms f)
-
--- two lists of normal forms that make the same file are the same
-pub file-unique : (forms others : List (List ℕ)) → NormalForms forms → NormalForms others → endToEnd forms ≡ endToEnd others → forms ≡ others
-file-unique forms others f g e = sym (cut-forms forms f) ∙ ap cutForms e ∙ cut-forms others g

@@ -1,21 +1,20 @@
 -- The bytes of tokens are the bytes of the values that they hold, so that refusal 8 is a test of values. Assumes nothing.
 use Prim.Native.Nat.{ℕ}
-use mathlib.Core.Path.{_≡_, refl, sym, ap, ap₂, subst, _∙_}
-use mathlib.Core.Bool.{Bool, true, false, not, _&&_, and-assoc, and-true}
-use mathlib.Core.List.{List, [], _∷_, _++_, map}
+use mathlib.Core.Path.{_≡_, refl, ap, _∙_}
+use mathlib.Core.Bool.{Bool, true, false, _&&_, and-assoc, and-true}
+use mathlib.Core.List.{List, [], _∷_, _++_}
 use mathlib.Core.Logic.{_↔_}
-use Rattle.lists.specs.Lists.{all, gather, cut}
+use Rattle.lists.specs.Lists.{all, cut}
 use Rattle.lists.proofs.Texts.{and-left, and-both, all-append}
-use Rattle.characters.specs.Characters.{charactersOf, bodyStart, body}
-use Rattle.refusals.specs.Refusals.{placeIf}
 use Rattle.reading.specs.Tokens.{Token, byte, separator, fault, ends, segments}
 use Rattle.reading.specs.Values.{byteOf}
-use Rattle.reading.specs.Spelling.{Bytes, SegmentList}
 use Rattle.levels.specs.Levels.{inLevel}
 use Rattle.verdict.specs.Contents.{bodyTokens}
 use Rattle.verdict.specs.Places.{level, placeOutside, outsideLevel}
 use Rattle.spelling.specs.Bodies.{listed, readList}
 use Rattle.spelling.proofs.Listing.{pushed, push, listed-next}
+use Rattle.forms.specs.Forms.{listOf}
+use Rattle.forms.proofs.Trimmed.{allBytes}
 use Rattle.forms.proofs.Tests.{gather-none, place-none-not}
 
 -- what is pushed onto the first is tested besides what was there
@@ -32,10 +31,6 @@ all-pushed b f q a n h xs = step b xs
     step false [] = ap (λ (t : Bool). t && true) alone
     step false (x ∷ xs) = ap (λ (t : Bool). t && all q xs) (h x) ∙ and-assoc a (q x) (all q xs)
 
--- every byte of every value
-abbrev pub allBytes : (ℕ → Bool) → SegmentList → Bool
-allBytes p list = all (all (all (all p))) list
-
 pub all-listed : (p : ℕ → Bool) (ts : List Token) → allBytes p (listed ts) ≡ all (λ t. all p (byteOf t)) ts
 unfolding all listed segments cut push
 all-listed p [] = refl
@@ -49,8 +44,7 @@ all-listed p (t ∷ ts) =
     ∙ ap (λ (b : Bool). here && b) (all-listed p ts)
 
 -- 8 is met nowhere exactly where every byte of every value that was read is in the level
-pub level-bytes : (s : List ℕ)
-    → (outsideLevel s ≡ []) ↔ (allBytes (inLevel (level s)) (readList (charactersOf s) (bodyStart s) (body s)) ≡ true)
+pub level-bytes : (s : List ℕ) → (outsideLevel s ≡ []) ↔ (allBytes (inLevel (level s)) (listOf s) ≡ true)
 unfolding outsideLevel readList bodyTokens placeOutside all byteOf
 level-bytes s =
     let inside : ℕ → Bool = inLevel (level s) in

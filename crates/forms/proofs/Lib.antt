@@ -2,10 +2,11 @@ pub mod Tests
 pub mod Trimmed
 pub mod Openings
 pub mod Accepted
-pub mod Theorems
+pub mod Normal
 pub mod Tags
 pub mod Alike
 pub mod LevelBytes
 pub mod Accepting
 pub mod Trailers
 pub mod EndToEnd
+pub mod Theorems

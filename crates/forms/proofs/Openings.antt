@@ -1,20 +1,20 @@
 -- A text that begins with an advice: its service characters, its body, and what a spelled list is read as. Assumes nothing.
-use Prim.Native.Nat.{ℕ, _+_}
-use mathlib.Core.Path.{_≡_, refl, sym, ap, ap₂, _∙_}
-use mathlib.Core.Bool.{Bool, true, false, not, _&&_, _||_}
-use mathlib.Core.List.{List, [], _∷_, _++_, map}
+use Prim.Native.Nat.{_+_}
+use mathlib.Core.Path.{_≡_, refl, ap, ap₂, _∙_}
+use mathlib.Core.Bool.{Bool, true, false, not, _||_}
+use mathlib.Core.List.{_++_}
 use native.Mathlib.Omega.{arith}
-use lib.ListN.{length, getD, drop}
-use lib.Dec.{ltb}
+use lib.ListN.{length}
 use borrow.Author.Tests.{le-ltb}
-use Rattle.lists.specs.Lists.{if_then_else_, isEmpty, text, begins}
+use Rattle.lists.specs.Lists.{begins}
 use Rattle.characters.specs.declared.Characters.{Characters}
 use Rattle.characters.specs.Characters.{usable, sixBytes, spelledOut, advised, adviceOf, charactersOf, bodyStart, body, badAdvice}
 use Rattle.reading.specs.Spelling.{Bytes, SegmentList, spell}
 use Rattle.verdict.specs.Contents.{contents, interchange}
 use Rattle.operations.specs.ValueList.{trimList}
-use Rattle.spelling.specs.Bodies.{readList, Passes, Shaped, Releasable}
+use Rattle.spelling.specs.Bodies.{Shaped, Releasable}
 use Rattle.spelling.proofs.Laws.{read-spelling, spelling-passes}
+use Rattle.forms.specs.Forms.{BodyPasses, listOf}
 use Rattle.forms.proofs.Trimmed.{contents-read}
 
 module _ (c : Characters) (more : Bytes) where
@@ -47,12 +47,12 @@ module _ (c : Characters) (list : SegmentList) (u : usable c ≡ true) (shaped :
   written = adviceOf c ++ spell c list
 
   -- its body passes and is read as the list
-  pub interchange-passes : Passes (charactersOf (interchange c list)) (bodyStart (interchange c list)) (body (interchange c list))
+  pub interchange-passes : BodyPasses (interchange c list)
   unfolding interchange
   interchange-passes =
       rw (advice-characters c (spell c list), advice-body c (spell c list)) (spelling-passes c u (bodyStart written) list shaped releasable)
 
-  pub interchange-read : readList (charactersOf (interchange c list)) (bodyStart (interchange c list)) (body (interchange c list)) ≡ list
+  pub interchange-read : listOf (interchange c list) ≡ list
   unfolding interchange
   interchange-read =
       rw (advice-characters c (spell c list), advice-body c (spell c list)) (read-spelling c u (bodyStart written) list shaped releasable)

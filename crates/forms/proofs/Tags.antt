@@ -3,21 +3,19 @@
 use Prim.Native.Nat.{ℕ, _≤_}
 use mathlib.Core.Path.{_≡_, refl, sym, ap, ap₂, _∙_}
 use mathlib.Core.Bool.{Bool, true, false, not, _&&_, _||_, false≢true, true≢false}
-use mathlib.Core.List.{List, [], _∷_, _++_, map}
-use mathlib.Core.Logic.{_↔_, ⊎-elim}
+use mathlib.Core.List.{List, [], _∷_, map}
+use mathlib.Core.Logic.{_↔_}
 use native.Mathlib.Omega.{arith}
-use lib.Dec.{leb}
 use borrow.Author.Tests.{le-leb, leb-true, not-false}
-use Rattle.lists.specs.Lists.{if_then_else_, isEmpty, all, text, begins, same, through, onto, cut, lastOr, dropEnd, trimEnd, gather}
+use Rattle.lists.specs.Lists.{if_then_else_, isEmpty, all, text, begins, through, onto, cut, lastOr, dropEnd, trimEnd, gather}
 use Rattle.lists.proofs.Texts.{and-left, and-right, and-both}
 use Rattle.lists.proofs.Pieces.{beyond, cut-first}
 use Rattle.refusals.specs.Refusals.{placeIf}
 use Rattle.reading.specs.Tokens.{Token, byte, separator, fault, ends, Segment, start, segments}
 use Rattle.reading.specs.Values.{bytesOf, valueOf, valuesOf, elementsOf, isFault, endedBy, endsInside, finished}
-use Rattle.reading.specs.Trimming.{trimElement, isIdle, trimSegment, contentsOf}
+use Rattle.reading.specs.Trimming.{trimElement, trimSegment, contentsOf}
 use Rattle.reading.specs.Spelling.{Bytes}
-use Rattle.segments.specs.declared.Kind.{Kind}
-use Rattle.segments.specs.declared.Kind.the-variants.{Unb, Ung, Unh, Uns, Unt, Une, Unz, User}
+use Rattle.segments.specs.declared.Kind.the-variants.{User}
 use Rattle.segments.specs.Kinds.{is, kindNamed}
 use Rattle.segments.specs.Tags.{tagPiece, tagOf, kindOf, isTag, tagRule}
 use Rattle.spelling.specs.Bodies.{wordsOf, Sound}
@@ -178,35 +176,34 @@ tags-words past (g ∷ gs) f =
     (place-none-not (tagStands (wordsOf g)) (start g))
     (tags-words (g ∷ past) gs (and-right (finished g) (all finished gs) f)))
 
--- a terminator alone is a finished segment
+-- a terminator alone is a finished segment, and so is one with a token more in front
 finished-alone : (t : Token) → ends 0 t ≡ true → not (isFault t) ≡ true → finished (t ∷ []) ≡ true
 unfolding finished endedBy lastOr all
-finished-alone t e f = and-both (ends 0 t) (not (isFault t) && true) e (and-both (not (isFault t)) true f refl)
+finished-alone t e f = rw (e, f)
+
+finished-next : (t : Token) (g : Segment) → not (isFault t) ≡ true → finished g ≡ true → finished (t ∷ g) ≡ true
+unfolding finished endedBy lastOr all
+finished-next t [] f h = absurd (false≢true h)
+finished-next t (u ∷ us) f h = rw f h
 
 -- the segments of sound tokens are finished
 pub all-finished : (ts : List Token) → Sound ts → all finished (segments ts) ≡ true
-unfolding Sound segments cut onto all endsInside endedBy finished lastOr isEmpty
+unfolding Sound segments cut onto all endsInside endedBy lastOr isEmpty
 all-finished [] h = refl
 all-finished (t ∷ []) h =
     let ended : ends 0 t ≡ true = not-false (ends 0 t) (h .1) in
-    rw ended (and-both (finished (t ∷ [])) true (finished-alone t ended (and-left (not (isFault t)) true (h .0))) refl)
+    rw (ended, finished-alone t ended (and-left (not (isFault t)) true (h .0)))
 all-finished (t ∷ u ∷ us) h =
-    let faultless : Token → Bool = λ v. not (isFault v) in
+    let others : Bool = all (λ v. not (isFault v)) (u ∷ us) in
     rw (cut-first (ends 0) u us)
     (step (ends 0 t) refl (through (ends 0) (u ∷ us)) (cut (ends 0) (beyond (ends 0) (u ∷ us)))
-    (and-left (faultless t) (all faultless (u ∷ us)) (h .0))
-    (rw (cut-first (ends 0) u us) at (all-finished (u ∷ us) (and-right (faultless t) (all faultless (u ∷ us)) (h .0), h .1))))
+    (and-left (not (isFault t)) others (h .0))
+    (rw (cut-first (ends 0) u us) at (all-finished (u ∷ us) (and-right (not (isFault t)) others (h .0), h .1))))
   where
     step : (b : Bool) → ends 0 t ≡ b → (piece : Segment) (pieces : List Segment) → not (isFault t) ≡ true
         → all finished (piece ∷ pieces) ≡ true → all finished (onto b t (piece ∷ pieces)) ≡ true
-    step true e piece pieces f k =
-        and-both (finished (t ∷ [])) (all finished (piece ∷ pieces)) (finished-alone t e f) k
-    step false e [] pieces f k = absurd (false≢true k)
-    step false e (p ∷ ps) pieces f k =
-        let faultless : Token → Bool = λ v. not (isFault v) in
-        let whole : finished (p ∷ ps) ≡ true = and-left (finished (p ∷ ps)) (all finished pieces) k in
-        and-both (finished (t ∷ p ∷ ps)) (all finished pieces)
-        (and-both (ends 0 (lastOr p ps)) (faultless t && all faultless (p ∷ ps))
-        (and-left (ends 0 (lastOr p ps)) (all faultless (p ∷ ps)) whole)
-        (and-both (faultless t) (all faultless (p ∷ ps)) f (and-right (ends 0 (lastOr p ps)) (all faultless (p ∷ ps)) whole)))
-        (and-right (finished (p ∷ ps)) (all finished pieces) k)
+    step true e piece pieces f k = rw (finished-alone t e f) k
+    step false e piece pieces f k =
+        and-both (finished (t ∷ piece)) (all finished pieces)
+        (finished-next t piece f (and-left (finished piece) (all finished pieces) k))
+        (and-right (finished piece) (all finished pieces) k)

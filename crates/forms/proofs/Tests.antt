@@ -1,41 +1,20 @@
--- Tests of all of a list. Assumes nothing.
-use mathlib.Core.Path.{_≡_, refl, sym, ap, _∙_}
+-- Tests of all, and what is met nowhere. Assumes nothing.
 use Prim.Native.Nat.{ℕ}
+use mathlib.Core.Path.{_≡_, refl}
 use mathlib.Core.Bool.{Bool, true, false, not, _&&_, true≢false, false≢true}
 use mathlib.Core.List.{List, [], _∷_, _++_, map, append-eq-nil-iff, cons≢nil}
 use mathlib.Core.Logic.{_↔_}
-use Rattle.lists.specs.Lists.{all, any, gather, unlessIdle, dropEnd, trimEnd}
-use Rattle.lists.proofs.Texts.{and-left, and-right, and-both, all-append}
+use Rattle.lists.specs.Lists.{all, gather}
+use Rattle.lists.proofs.Texts.{and-left, and-right, and-both}
 use Rattle.refusals.specs.Refusals.{placeIf}
 
-module _ {A B : Type 0} (f : A → B) (p : A → Bool) (q : B → Bool) where
-  -- where f turns what passes one test into what passes another, it does so to all
-  pub all-map : ((x : A) → p x ≡ true → q (f x) ≡ true) → (xs : List A) → all p xs ≡ true → all q (map f xs) ≡ true
-  unfolding all
-  all-map h [] k = refl
-  all-map h (x ∷ xs) k =
-      and-both (q (f x)) (all q (map f xs)) (h x (and-left (p x) (all p xs) k)) (all-map h xs (and-right (p x) (all p xs) k))
-
-module _ {A : Type 0} (p t : A → Bool) where
-  -- what is left of a list without its idle end passes where the list passes
-  all-dropEnd : (xs : List A) → all p xs ≡ true → all p (dropEnd t xs) ≡ true
-  unfolding all dropEnd unlessIdle
-  all-dropEnd [] k = refl
-  all-dropEnd (x ∷ xs) k =
-      step (t x) (dropEnd t xs) (and-left (p x) (all p xs) k) (all-dropEnd xs (and-right (p x) (all p xs) k))
-    where
-      step : (b : Bool) (ys : List A) → p x ≡ true → all p ys ≡ true → all p (unlessIdle b x ys) ≡ true
-      step true [] h k = refl
-      step true (y ∷ ys) h k = and-both (p x) (all p (y ∷ ys)) h k
-      step false ys h k = and-both (p x) (all p ys) h k
-
-  pub all-trimEnd : (xs : List A) → all p xs ≡ true → all p (trimEnd t xs) ≡ true
-  unfolding all trimEnd
-  all-trimEnd [] k = refl
-  all-trimEnd (x ∷ xs) k =
-      and-both (p x) (all p (dropEnd t xs)) (and-left (p x) (all p xs) k) (all-dropEnd xs (and-right (p x) (all p xs) k))
-
--- ---- what is met nowhere
+-- where f turns what passes one test into what passes another, it does so to all
+pub all-map : {A B : Type 0} (f : A → B) (p : A → Bool) (q : B → Bool) → ((x : A) → p x ≡ true → q (f x) ≡ true)
+    → (xs : List A) → all p xs ≡ true → all q (map f xs) ≡ true
+unfolding all
+all-map f p q h [] k = refl
+all-map f p q h (x ∷ xs) k =
+    and-both (q (f x)) (all q (map f xs)) (h x (and-left (p x) (all p xs) k)) (all-map f p q h xs (and-right (p x) (all p xs) k))
 
 -- two parts are empty exactly where both tests say so
 pub none-both : {A : Type 0} (xs ys : List A) (t u : Bool) → (xs ≡ []) ↔ (t ≡ true) → (ys ≡ []) ↔ (u ≡ true)

@@ -1,5 +1,5 @@
 -- In an accepted input UNZ stands last and nowhere else. Assumes nothing.
-use mathlib.Core.Path.{_≡_, refl, sym, ap, _∙_}
+use mathlib.Core.Path.{_≡_, refl, sym, _∙_}
 use mathlib.Core.Bool.{Bool, true, false, not, _||_, false≢true, true≢false, or-false}
 use mathlib.Core.List.{List, [], _∷_, _++_, map, reverse, reverseAux, append-eq-nil-iff}
 use Rattle.lists.specs.Lists.{if_then_else_, any}
@@ -11,7 +11,8 @@ use Rattle.segments.specs.Kinds.{is}
 use Rattle.segments.specs.Tags.{kindOf}
 use Rattle.segments.specs.Order.{isOpen, standing, allowedAt, allowed, isComplete}
 use Rattle.verdict.specs.Places.{startsWhere}
-use Rattle.forms.specs.Files.{behindTrailer}
+use Rattle.grammar.specs.Grammar.{misplaced}
+use Rattle.forms.specs.Forms.{behindTrailer}
 use Rattle.forms.proofs.Tests.{place-none-not}
 
 -- what is open was opened
@@ -48,7 +49,7 @@ unfolding allowed standing isOpen allowedAt
 none-behind trailer past kind h = rw h
 
 -- so what follows the segments is what stands behind the first UNZ
-pub trailer-last : (past gs more : List Segment) → startsWhere (λ past g. not (allowed (map kindOf past) (kindOf g))) past gs ≡ []
+pub trailer-last : (past gs more : List Segment) → startsWhere misplaced past gs ≡ []
     → any (is Unz) (map kindOf gs) ≡ true → behindTrailer (gs ++ more) ≡ more
 unfolding startsWhere any behindTrailer
 trailer-last past [] more o a = absurd (false≢true a)
@@ -57,7 +58,7 @@ trailer-last past (g ∷ gs) more o a =
     step (is Unz (kindOf g)) refl gs (parts .1) a (trailer-last (g ∷ past) gs more (parts .1))
   where
     step : (b : Bool) → is Unz (kindOf g) ≡ b → (gs : List Segment)
-        → startsWhere (λ past g. not (allowed (map kindOf past) (kindOf g))) (g ∷ past) gs ≡ []
+        → startsWhere misplaced (g ∷ past) gs ≡ []
         → (b || any (is Unz) (map kindOf gs)) ≡ true → (any (is Unz) (map kindOf gs) ≡ true → behindTrailer (gs ++ more) ≡ more)
         → (if b then gs ++ more else behindTrailer (gs ++ more)) ≡ more
     step true e [] o a ih = refl

@@ -1,45 +1,26 @@
--- Trimming: the contents are the list that was read, trimmed; trimming again takes nothing more, and keeps what can be spelled.
--- Assumes nothing.
+-- The contents are the list that was read, trimmed; and trimming keeps what holds of every byte. Assumes nothing.
 use Prim.Native.Nat.{ℕ}
-use mathlib.Core.Path.{_≡_, refl, sym, ap, ap₂, fun-ext, _∙_}
-use mathlib.Core.Bool.{Bool, true, false, not, _&&_}
+use mathlib.Core.Path.{_≡_, refl, sym, ap, fun-ext, _∙_}
+use mathlib.Core.Bool.{Bool, true, not}
 use mathlib.Core.List.{List, [], _∷_, map, map-map}
-use Rattle.lists.specs.Lists.{isEmpty, all, trimEnd}
-use Rattle.lists.proofs.Texts.{and-left, and-right, and-both}
-use Rattle.lists.proofs.Ends.{trimEnd-again, trimEnd-map}
+use Rattle.lists.specs.Lists.{isEmpty, all, dropEnd, trimEnd}
+use Rattle.lists.proofs.Texts.{and-left, and-right, and-both, all-append}
+use Rattle.lists.proofs.Ends.{trimEnd-map}
 use Rattle.characters.specs.declared.Characters.{Characters}
-use Rattle.characters.specs.Characters.{charactersOf, bodyStart, body, isService}
-use Rattle.reading.specs.Tokens.{Segment, tokens, segments}
+use Rattle.characters.specs.Characters.{isService}
+use Rattle.reading.specs.Tokens.{Segment}
 use Rattle.reading.specs.Values.{elementsOf}
 use Rattle.reading.specs.Trimming.{trimElement, isIdle, trimSegment, trimmed, contentsOf}
 use Rattle.reading.specs.Spelling.{Bytes, SegmentList}
 use Rattle.verdict.specs.Contents.{bodyTokens, segmentsOf, contents}
 use Rattle.operations.specs.ValueList.{trimList}
-use Rattle.spelling.specs.Bodies.{wordsOf, listed, readList, shapedSegment, Shaped, Releasable}
-use Rattle.forms.proofs.Tests.{all-map, all-trimEnd}
+use Rattle.spelling.specs.Bodies.{wordsOf, listed, readList, Releasable}
+use Rattle.trimming.proofs.Trimmed.{dropEnd-shortened}
+use Rattle.trimming.proofs.Again.{trimList-again}
+use Rattle.forms.specs.Forms.{listOf}
+use Rattle.forms.proofs.Tests.{all-map}
 
-module _ {A : Type 0} (t : A → Bool) where
-  -- trimming again takes nothing more
-  pub trim-again : (segment : List (List A)) → trimSegment t (trimSegment t segment) ≡ trimSegment t segment
-  unfolding trimSegment trimElement
-  trim-again segment =
-      ap (trimEnd (isIdle t)) elements ∙ trimEnd-again (isIdle t) (map (trimElement t) segment)
-    where
-      -- the elements that are left are trimmed
-      elements : map (trimElement t) (trimEnd (isIdle t) (map (trimElement t) segment)) ≡ trimEnd (isIdle t) (map (trimElement t) segment)
-      elements =
-          let left : List (List A) = trimEnd (λ e. isIdle t (trimElement t e)) segment in
-          ap (map (trimElement t)) (trimEnd-map (trimElement t) (isIdle t) segment)
-          ∙ map-map (trimElement t) (trimElement t) left
-          ∙ ap (λ (f : List A → List A). map f left) (fun-ext (trimEnd-again t))
-          ∙ sym (trimEnd-map (trimElement t) (isIdle t) segment)
-
-  -- what every value passes, every value that is left passes
-  pub trim-all : (p : A → Bool) (segment : List (List A)) → all (all p) segment ≡ true → all (all p) (trimSegment t segment) ≡ true
-  unfolding trimSegment trimElement
-  trim-all p segment h =
-      all-trimEnd (all p) (isIdle t) (map (trimElement t) segment)
-      (all-map (trimElement t) (all p) (all p) (all-trimEnd p t) segment h)
+-- ---- the contents
 
 -- values may be trimmed before or behind a map that keeps which of them are empty
 trim-map : {A B : Type 0} (f : A → B) (t : B → Bool) (segment : List (List A))
@@ -65,42 +46,42 @@ unfolding contentsOf trimmed wordsOf
 contents-words g = sym (trim-map (λ v. v .bytes) isEmpty (elementsOf g))
 
 -- "The contents are the trimmed list."
-pub contents-read : (s : Bytes) → contents s ≡ trimList (readList (charactersOf s) (bodyStart s) (body s))
+pub contents-read : (s : Bytes) → contents s ≡ trimList (listOf s)
 unfolding contents segmentsOf bodyTokens readList listed trimList
 contents-read s =
     ap (λ (f : Segment → List (List Bytes)). map f (segmentsOf s)) (fun-ext contents-words)
     ∙ sym (map-map (trimSegment isEmpty) wordsOf (segmentsOf s))
 
-pub trimList-again : (list : SegmentList) → trimList (trimList list) ≡ trimList list
+-- nothing is left to trim
+pub contents-trimmed : (s : Bytes) → trimList (contents s) ≡ contents s
+contents-trimmed s = ap trimList (contents-read s) ∙ trimList-again (listOf s) ∙ sym (contents-read s)
+
+-- ---- what holds of every byte
+
+all-trimEnd : {A : Type 0} (p t : A → Bool) (xs : List A) → all p xs ≡ true → all p (trimEnd t xs) ≡ true
+unfolding all trimEnd
+all-trimEnd p t [] h = refl
+all-trimEnd p t (x ∷ xs) h =
+    let left : List _ = dropEnd t xs in
+    let s = dropEnd-shortened t xs in
+    and-both (p x) (all p left)
+    (and-left (p x) (all p xs) h)
+    (and-left (all p left) (all p (s .gone)) (sym (all-append p left (s .gone)) ∙ sym (ap (all p) (s .parts)) ∙ and-right (p x) (all p xs) h))
+
+trim-segment : (p : Bytes → Bool) (segment : List (List Bytes)) → all (all p) segment ≡ true → all (all p) (trimSegment isEmpty segment) ≡ true
+unfolding trimSegment trimElement
+trim-segment p segment h =
+    all-trimEnd (all p) (isIdle isEmpty) (map (trimElement isEmpty) segment)
+    (all-map (trimElement isEmpty) (all p) (all p) (all-trimEnd p isEmpty) segment h)
+
+-- every byte of every value passes the test
+abbrev pub allBytes : (ℕ → Bool) → SegmentList → Bool
+allBytes p list = all (all (all (all p))) list
+
+pub trim-bytes : (p : ℕ → Bool) (list : SegmentList) → allBytes p list ≡ true → allBytes p (trimList list) ≡ true
 unfolding trimList
-trimList-again list =
-    map-map (trimSegment isEmpty) (trimSegment isEmpty) list
-    ∙ ap (λ (f : List (List Bytes) → List (List Bytes)). map f list) (fun-ext (trim-again isEmpty))
-
--- ---- trimming keeps what can be spelled
-
--- what is not empty keeps its first
-trimEnd-stays : {A : Type 0} (t : A → Bool) (xs : List A) → not (isEmpty xs) ≡ true → not (isEmpty (trimEnd t xs)) ≡ true
-unfolding trimEnd isEmpty
-trimEnd-stays t [] h = h
-trimEnd-stays t (x ∷ xs) h = refl
-
-trim-shapedSegment : (segment : List (List Bytes)) → shapedSegment segment ≡ true → shapedSegment (trimSegment isEmpty segment) ≡ true
-unfolding shapedSegment trimSegment trimElement isEmpty trimEnd
-trim-shapedSegment [] h = h
-trim-shapedSegment (e ∷ es) h =
-    let filled : List Bytes → Bool = λ x. not (isEmpty x) in
-    all-trimEnd filled (isIdle isEmpty) (map (trimElement isEmpty) (e ∷ es))
-    (all-map (trimElement isEmpty) filled filled (trimEnd-stays isEmpty) (e ∷ es) h)
-
-pub trim-shaped : (list : SegmentList) → Shaped list → Shaped (trimList list)
-unfolding Shaped trimList
-trim-shaped = all-map (trimSegment isEmpty) shapedSegment shapedSegment trim-shapedSegment
-
-pub trim-values : (p : ℕ → Bool) (list : SegmentList) → all (all (all (all p))) list ≡ true → all (all (all (all p))) (trimList list) ≡ true
-unfolding trimList
-trim-values p = all-map (trimSegment isEmpty) (all (all (all p))) (all (all (all p))) (trim-all isEmpty (all p))
+trim-bytes p = all-map (trimSegment isEmpty) (all (all (all p))) (all (all (all p))) (trim-segment (all p))
 
 pub trim-releasable : (c : Characters) (list : SegmentList) → Releasable c list → Releasable c (trimList list)
 unfolding Releasable
-trim-releasable c list h r = trim-values (λ b. not (isService c b)) list (h r)
+trim-releasable c list h r = trim-bytes (λ b. not (isService c b)) list (h r)
