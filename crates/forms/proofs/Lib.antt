@@ -1,0 +1,12 @@
+pub mod Tests
+pub mod Trimmed
+pub mod Openings
+pub mod Accepted
+pub mod Normal
+pub mod Tags
+pub mod Alike
+pub mod LevelBytes
+pub mod Accepting
+pub mod Trailers
+pub mod EndToEnd
+pub mod Theorems

@@ -1,0 +1,44 @@
+-- Tests of all, and what is met nowhere. Assumes nothing.
+use Prim.Native.Nat.{ℕ}
+use mathlib.Core.Path.{_≡_, refl}
+use mathlib.Core.Bool.{Bool, true, false, not, _&&_, true≢false, false≢true}
+use mathlib.Core.List.{List, [], _∷_, _++_, map, append-eq-nil-iff, cons≢nil}
+use mathlib.Core.Logic.{_↔_}
+use Rattle.lists.specs.Lists.{all, gather}
+use Rattle.lists.proofs.Texts.{and-left, and-right, and-both}
+use Rattle.refusals.specs.Refusals.{placeIf}
+
+-- where f turns what passes one test into what passes another, it does so to all
+pub all-map : {A B : Type 0} (f : A → B) (p : A → Bool) (q : B → Bool) → ((x : A) → p x ≡ true → q (f x) ≡ true)
+    → (xs : List A) → all p xs ≡ true → all q (map f xs) ≡ true
+unfolding all
+all-map f p q h [] k = refl
+all-map f p q h (x ∷ xs) k =
+    and-both (q (f x)) (all q (map f xs)) (h x (and-left (p x) (all p xs) k)) (all-map f p q h xs (and-right (p x) (all p xs) k))
+
+-- two parts are empty exactly where both tests say so
+pub none-both : {A : Type 0} (xs ys : List A) (t u : Bool) → (xs ≡ []) ↔ (t ≡ true) → (ys ≡ []) ↔ (u ≡ true)
+    → (xs ++ ys ≡ []) ↔ ((t && u) ≡ true)
+none-both xs ys t u h k =
+    let parts = append-eq-nil-iff {p = xs} {q = ys} in (
+      λ e. and-both t u (h .0 (parts .0 e .0)) (k .0 (parts .0 e .1)),
+      λ e. parts .1 (h .1 (and-left t u e), k .1 (and-right t u e)),
+    )
+
+-- nothing is gathered exactly where each brings nothing
+pub gather-none : {A B : Type 0} (f : A → List B) (t : A → Bool) → ((x : A) → (f x ≡ []) ↔ (t x ≡ true)) → (xs : List A)
+    → (gather f xs ≡ []) ↔ (all t xs ≡ true)
+unfolding gather all
+gather-none f t h [] = (λ e. refl, λ e. refl)
+gather-none f t h (x ∷ xs) = none-both (f x) (gather f xs) (t x) (all t xs) (h x) (gather-none f t h xs)
+
+-- a refusal is not met exactly where its test fails
+pub place-none : (t : Bool) (p : ℕ) → (placeIf t p ≡ []) ↔ (t ≡ false)
+unfolding placeIf
+place-none true p = (λ e. absurd (cons≢nil e), λ e. absurd (true≢false e))
+place-none false p = (λ e. refl, λ e. refl)
+
+pub place-none-not : (t : Bool) (p : ℕ) → (placeIf (not t) p ≡ []) ↔ (t ≡ true)
+unfolding placeIf
+place-none-not true p = (λ e. refl, λ e. refl)
+place-none-not false p = (λ e. absurd (cons≢nil e), λ e. absurd (false≢true e))
