@@ -43,8 +43,9 @@ pub record Accepted (s : List ℕ) : Type 0 where
   pub counts : wrongCounts s ≡ []
   pub normal : normalTooLong s ≡ []
 
--- in a stage of three nothing is met exactly where none of the three is
-three-none : (f g h : Fault) (ps qs rs : List ℕ) → (met f ps ++ met g qs ++ met h rs ≡ []) → (ps ≡ []) × (qs ≡ []) × (rs ≡ [])
+-- where nothing is met in a stage of three, none of the three is
+three-none : (f g h : Fault) (ps qs rs : List ℕ) → met f ps ++ met g qs ++ met h rs ≡ []
+    → (ps ≡ []) × (qs ≡ []) × (rs ≡ [])
 three-none f g h ps qs rs e =
     let outer = append-eq-nil-iff {p = met f ps ++ met g qs} {q = met h rs} .0 e in
     let inner = append-eq-nil-iff {p = met f ps} {q = met g qs} .0 (outer .0) in
@@ -64,21 +65,21 @@ accepted-exactly s = (there, back)
     there : refusalOf s ≡ none → Accepted s
     there e =
         let stage : (n : ℕ) → getD (stages s) n [] ≡ [] = none-at (stages s) (answering-none (stages s) .0 e) in
-        let reading = three-none StrayRelease UnendedSegment BrokenTag (strayReleases s) (unendedSegment s) (brokenTags s) (stage 3) in
-        let control = three-none BadControl ReferenceDiffers CountWrong (badControls s) (differingReferences s) (wrongCounts s) (stage 7) in
+        let read = three-none StrayRelease UnendedSegment BrokenTag (strayReleases s) (unendedSegment s) (brokenTags s) (stage 3) in
+        let held = three-none BadControl ReferenceDiffers CountWrong (badControls s) (differingReferences s) (wrongCounts s) (stage 7) in
         record {
           short = met-none TooLong (tooLong s) .0 (stage 0);
           advice = met-none UnusableAdvice (unusableAdvice s) .0 (stage 1);
           opening = met-none NoOpening (noOpening s) .0 (stage 2);
-          releases = reading .0;
-          ending = reading .1;
-          tags = reading .2;
+          releases = read .0;
+          ending = read .1;
+          tags = read .2;
           level = met-none ForeignLevel (foreignLevel s) .0 (stage 4);
           bytes = met-none OutsideLevel (outsideLevel s) .0 (stage 5);
           order = met-none MisplacedSegment (misplacedSegments s) .0 (stage 6);
-          controls = control .0;
-          references = control .1;
-          counts = control .2;
+          controls = held .0;
+          references = held .1;
+          counts = held .2;
           normal = met-none NormalTooLong (normalTooLong s) .0 (stage 8);
         }
 
@@ -100,7 +101,7 @@ accepted-exactly s = (there, back)
           a .normal,
         )
 
--- ---- the reading of an accepted input
+-- ---- what single refusals say
 
 module _ (s : List ℕ) where
   -- neither 4 nor 5 is met exactly where the body passes
@@ -112,14 +113,18 @@ module _ (s : List ℕ) where
       (λ k. (faults .0 (k .0), inside .0 (k .1)), λ k. (faults .1 (k .0), inside .1 (k .1)))
     where
       stray : (t : Token) → (placeIf (isFault t) (placeOf t) ≡ []) ↔ (not (isFault t) ≡ true)
-      stray t = (λ e. ap not (place-none (isFault t) (placeOf t) .0 e), λ e. place-none (isFault t) (placeOf t) .1 (not-true (isFault t) e))
+      stray t =
+          let none = place-none (isFault t) (placeOf t) in
+          (λ e. ap not (none .0 e), λ e. none .1 (not-true (isFault t) e))
 
   -- 9 is met nowhere exactly where each segment is allowed where it stands, and UNZ comes before the end
-  pub order-accepted : (misplacedSegments s ≡ []) ↔ ((startsWhere misplaced [] (segmentsOf s) ≡ []) × (isComplete (kindsOf s) ≡ true))
+  pub order-accepted : (misplacedSegments s ≡ [])
+      ↔ ((startsWhere misplaced [] (segmentsOf s) ≡ []) × (isComplete (kindsOf s) ≡ true))
   unfolding misplacedSegments
   order-accepted =
-      let parts = append-eq-nil-iff {p = startsWhere misplaced [] (segmentsOf s)} {q = placeIf (not (isComplete (kindsOf s))) (length s)} in
-      let end = place-none-not (isComplete (kindsOf s)) (length s) in
+      let complete : Bool = isComplete (kindsOf s) in
+      let parts = append-eq-nil-iff {p = startsWhere misplaced [] (segmentsOf s)} {q = placeIf (not complete) (length s)} in
+      let end = place-none-not complete (length s) in
       (λ e. (parts .0 e .0, end .0 (parts .0 e .1)), λ k. parts .1 (k .0, end .1 (k .1)))
 
   -- the service characters of an input that 2 does not refuse are usable
@@ -129,6 +134,8 @@ module _ (s : List ℕ) where
     where
       step : (a b : Bool) → let c : Characters = if a then sixBytes (drop 3 s) else if b then plusCharacters else controlCharacters in
           (a && (ltb (length s) 9 || not (usable c))) ≡ false → usable c ≡ true
-      step true b h = not-false (usable (sixBytes (drop 3 s))) (or-none-right (ltb (length s) 9) (not (usable (sixBytes (drop 3 s)))) h)
+      step true b h =
+          let test : Bool = usable (sixBytes (drop 3 s)) in
+          not-false test (or-none-right (ltb (length s) 9) (not test) h)
       step false true h = refl
       step false false h = refl

@@ -1,8 +1,9 @@
--- "Normal form": the normal form of an accepted input is accepted. Assumes nothing.
+-- The normal form of an accepted input is accepted: its contents are the input's, and the stages from 6 on ask of contents, the
+-- tag rule's "no component separator may follow" being asked of what is left of the tag's element. Assumes nothing.
 use Prim.Native.Nat.{ℕ}
 use mathlib.Core.Path.{_≡_, refl, sym, ap, _∙_}
 use mathlib.Core.Bool.{Bool, true, false, not, false≢true}
-use mathlib.Core.List.{List, [], _∷_, _++_, map, reverse, append-eq-nil-iff, cons≢nil}
+use mathlib.Core.List.{List, [], _∷_, map, reverse, append-eq-nil-iff, cons≢nil}
 use mathlib.Core.Option.{Option, none, some}
 use lib.ListN.{length}
 use Rattle.lists.specs.Lists.{if_then_else_, isEmpty, text, same, begins, member, all, at, maybe, gather, behind, joined}
@@ -26,14 +27,14 @@ use Rattle.verdict.specs.Stages.{refusalOf}
 use Rattle.operations.specs.ValueList.{trimList}
 use Rattle.spelling.specs.Bodies.{listed, readList, Passes}
 use Rattle.grammar.specs.Grammar.{misplaced, badControl}
-use Rattle.forms.specs.Forms.{markOf, listOf}
+use Rattle.forms.specs.Forms.{markOf, formCharacters, listOf}
 use Rattle.forms.proofs.Tests.{all-map, place-none, place-none-not}
 use Rattle.forms.proofs.Trimmed.{allBytes, contents-read, trim-bytes}
 use Rattle.forms.proofs.Openings.{advice-characters, advice-body, advice-good}
 use Rattle.forms.proofs.Accepted.{Accepted, accepted-exactly, passes-accepted, order-accepted}
 use Rattle.forms.proofs.Normal.{accepted-passes, normal-usable, normal-passes, normal-read, normal-contents, normal-again}
 use Rattle.forms.proofs.Tags.{firstValue, isSingle, lone, tagStands, tag-trim, tag-first, tags-words, all-finished}
-use Rattle.forms.proofs.Alike.{Alike, first-alike, level-alike, kinds-alike, starts-alike, order-by-contents, controls-by-contents, references-by-contents, counts-by-contents}
+use Rattle.forms.proofs.Alike.{Alike, ByContents, first-alike, level-alike, kinds-alike, starts-alike, order-by-contents, controls-by-contents, references-by-contents, counts-by-contents}
 use Rattle.forms.proofs.LevelBytes.{level-bytes}
 
 -- ---- the level
@@ -44,7 +45,11 @@ module _ (s t : List ℕ) (alike : Alike (segmentsOf s) (segmentsOf t)) where
   unfolding level maybe
   same-level =
       let named : Option Segment → ℕ = maybe 0 (λ unb. maybe 0 (λ n. n) (levelOf unb)) in
-      first-alike (λ o q. named o ≡ named q) refl (λ g h e. ap (maybe 0 (λ n. n)) (level-alike g h e)) (segmentsOf s) (segmentsOf t) alike
+      first-alike (λ o q. named o ≡ named q) refl
+      (λ g h e. ap (maybe 0 (λ n. n)) (level-alike g h e))
+      (segmentsOf s)
+      (segmentsOf t)
+      alike
 
   same-named : foreignLevel s ≡ [] → foreignLevel t ≡ []
   unfolding foreignLevel maybe
@@ -71,7 +76,9 @@ unb-tag tag h =
     (same tag (text "UNE")) (same tag (text "UNZ")) h)
   where
     step : (b g h s t e z : Bool)
-        → is Unb (if b then Unb else if g then Ung else if h then Unh else if s then Uns else if t then Unt else if e then Une else if z then Unz else User) ≡ true
+        → is Unb (if b then Unb else if g then Ung else if h then Unh else if s then Uns else if t then Unt
+        else if e then Une else if z then Unz else User)
+        ≡ true
         → b ≡ true
     step true g h s t e z k = refl
     step false true h s t e z k = k
@@ -90,23 +97,27 @@ no-level g tag e = rw e
 -- UNB alone, and an element behind it: so begins a normal form's body
 module _ (mark : ℕ) (rest : SegmentList) where
   spelled-opening : (g : Segment) (k : List (List Bytes)) → contentsOf g ≡ k → firstValue k ≡ text "UNB" → lone k ≡ true
-      → maybe (start g ∷ []) (λ n. []) (levelOf g) ≡ [] → begins (text "UNB" ++ 43 ∷ []) (spell (normalCharacters mark) (k ∷ rest)) ≡ true
+      → maybe (start g ∷ []) (λ n. []) (levelOf g) ≡ []
+      → begins (text "UNB+") (spell (normalCharacters mark) (k ∷ rest)) ≡ true
   unfolding firstValue lone isSingle isEmpty maybe begins spell spellSegment spellElement spellValue spellByte gather joined behind isService serviceCharacters released member normalCharacters sixBytes
   spelled-opening g [] e v l n = absurd (false≢true l)
   spelled-opening g ([] ∷ es) e v l n = absurd (false≢true l)
   spelled-opening g ((x ∷ y ∷ ys) ∷ es) e v l n = absurd (false≢true l)
-  spelled-opening g ((x ∷ []) ∷ []) e v l n = absurd (cons≢nil (sym (ap (maybe (start g ∷ []) (λ (m : ℕ). [])) (no-level g (x ∷ []) e)) ∙ n))
+  spelled-opening g ((x ∷ []) ∷ []) e v l n =
+      absurd (cons≢nil (sym (ap (maybe (start g ∷ []) (λ (m : ℕ). [])) (no-level g (x ∷ []) e)) ∙ n))
   spelled-opening g ((x ∷ []) ∷ z ∷ zs) e v l n = rw v refl
 
+-- so it does where the first segment is allowed there, has a good tag, and names a level
 opening : (mark : ℕ) (gs : List Segment) → startsWhere misplaced [] gs ≡ []
     → isComplete (reverse (map kindOf gs)) ≡ true → all tagStands (map contentsOf gs) ≡ true
     → maybe [] (λ unb. maybe (start unb ∷ []) (λ n. []) (levelOf unb)) (at gs 0) ≡ []
-    → begins (text "UNB" ++ 43 ∷ []) (spell (normalCharacters mark) (map contentsOf gs)) ≡ true
+    → begins (text "UNB+") (spell (normalCharacters mark) (map contentsOf gs)) ≡ true
 unfolding startsWhere isComplete isOpen standing allowed allowedAt all at maybe tagStands begins isTag is kindNamed same upper digit between kindOf
 opening mark [] o c t n = absurd (false≢true c)
 opening mark (g ∷ gs) o c t n =
     let parts = append-eq-nil-iff {p = placeIf (not (is Unb (kindOf g))) (start g)} .0 o in
-    let unb : firstValue (contentsOf g) ≡ text "UNB" = sym (tag-first g) ∙ unb-tag (tagOf g) (place-none-not (is Unb (kindOf g)) (start g) .0 (parts .0)) in
+    let kind : is Unb (kindOf g) ≡ true = place-none-not (is Unb (kindOf g)) (start g) .0 (parts .0) in
+    let unb : firstValue (contentsOf g) ≡ text "UNB" = sym (tag-first g) ∙ unb-tag (tagOf g) kind in
     spelled-opening mark (map contentsOf gs) g (contentsOf g) refl unb
     (rw unb at (and-left (tagStands (contentsOf g)) (all tagStands (map contentsOf gs)) t))
     n
@@ -117,9 +128,15 @@ module _ (s : List ℕ) (accepted : refusalOf s ≡ none) where
   abbrev nowhere : Accepted s
   nowhere = accepted-exactly s .0 accepted
 
+  -- the segments of the two
   alike : Alike (segmentsOf s) (segmentsOf (normalForm s))
   unfolding contents
   alike = sym (normal-contents s accepted)
+
+  -- a test that goes by contents and refuses no segment of the input refuses none of the normal form
+  normal-starts : (fails : List Segment → Segment → Bool) → ByContents fails → startsWhere fails [] (segmentsOf s) ≡ []
+      → startsWhere fails [] (segmentsOf (normalForm s)) ≡ []
+  normal-starts fails by = starts-alike fails by [] [] (segmentsOf s) (segmentsOf (normalForm s)) refl alike
 
   -- the tags of the contents stand to the rule
   contents-tags : all tagStands (contents s) ≡ true
@@ -141,38 +158,43 @@ module _ (s : List ℕ) (accepted : refusalOf s ≡ none) where
   unfolding kindsOf
   normal-order =
       order-accepted (normalForm s) .1 (
-        starts-alike misplaced order-by-contents [] [] (segmentsOf s) (segmentsOf (normalForm s)) refl alike (order .0),
-        ap (λ (kinds : List Kind). isComplete (reverse kinds)) (sym (kinds-alike (segmentsOf s) (segmentsOf (normalForm s)) alike)) ∙ order .1,
+        normal-starts misplaced order-by-contents (order .0),
+        ap (λ (kinds : List Kind). isComplete (reverse kinds)) (sym (kinds-alike (segmentsOf s) (segmentsOf (normalForm s)) alike))
+            ∙ order .1,
       )
+
+  normal-advice : badAdvice (normalForm s) ≡ false
+  unfolding normalForm interchange
+  normal-advice = advice-good (formCharacters s) (spell (formCharacters s) (contents s)) (normal-usable s accepted)
 
   normal-opens : opens (normalForm s) ≡ true
   unfolding opens normalForm interchange kindsOf foreignLevel contents normalCharacters sixBytes
   normal-opens =
-      let c : Characters = normalCharacters (markOf s) in
+      let c : Characters = formCharacters s in
       rw (advice-characters c (spell c (contents s)), advice-body c (spell c (contents s)))
       (opening (markOf s) (segmentsOf s) (order .0) (order .1) contents-tags (nowhere .level))
 
+  -- what is met nowhere in the input is met nowhere in its normal form
   normal-nowhere : Accepted (normalForm s)
-  unfolding tooLong unusableAdvice noOpening brokenTags badControls differingReferences wrongCounts normalTooLong segmentsOf readList listed Passes bodyTokens normalForm interchange
+  unfolding tooLong unusableAdvice noOpening brokenTags badControls differingReferences wrongCounts normalTooLong segmentsOf readList listed Passes bodyTokens
   normal-nowhere =
       let n : List ℕ = normalForm s in
       let short : isOver n ≡ false = place-none (isOver n) (length n) .0 (nowhere .normal) in
-      let c : Characters = normalCharacters (markOf s) in
-      let good : badAdvice n ≡ false = advice-good c (spell c (contents s)) (normal-usable s accepted) in
       let reading = passes-accepted n .1 (normal-passes s accepted) in
+      let finished = all-finished (bodyTokens n) (normal-passes s accepted) in
       record {
         short = place-none (isOver n) 0 .1 short;
-        advice = place-none (badAdvice n) 0 .1 good;
+        advice = place-none (badAdvice n) 0 .1 normal-advice;
         opening = place-none-not (opens n) (bodyStart n) .1 normal-opens;
         releases = reading .0;
         ending = reading .1;
-        tags = tags-words [] (segmentsOf n) (all-finished (bodyTokens n) (normal-passes s accepted)) .1 (rw (normal-read s accepted) contents-tags);
+        tags = tags-words [] (segmentsOf n) finished .1 (rw (normal-read s accepted) contents-tags);
         level = same-named s n alike (nowhere .level);
         bytes = level-bytes n .1 (rw (normal-read s accepted, ← same-level s n alike) contents-level);
         order = normal-order;
-        controls = starts-alike badControl controls-by-contents [] [] (segmentsOf s) (segmentsOf n) refl alike (nowhere .controls);
-        references = starts-alike referenceDiffers references-by-contents [] [] (segmentsOf s) (segmentsOf n) refl alike (nowhere .references);
-        counts = starts-alike countWrong counts-by-contents [] [] (segmentsOf s) (segmentsOf n) refl alike (nowhere .counts);
+        controls = normal-starts badControl controls-by-contents (nowhere .controls);
+        references = normal-starts referenceDiffers references-by-contents (nowhere .references);
+        counts = normal-starts countWrong counts-by-contents (nowhere .counts);
         normal = place-none (isOver (normalForm n)) (length (normalForm n)) .1 (ap isOver (normal-again s accepted) ∙ short);
       }
 

@@ -1,5 +1,5 @@
--- Segments with equal contents: a test that goes by contents alone is met nowhere in one row of segments exactly where it is met
--- nowhere in the other. Assumes nothing.
+-- Two rows of segments with equal contents: what a test that goes by contents does not refuse in one row, it does not refuse in
+-- the other. Assumes nothing.
 use Prim.Native.Nat.{ℕ}
 use mathlib.Core.Path.{_≡_, refl, sym, ap, ap₂, fun-ext, _∙_}
 use mathlib.Core.Bool.{Bool, true, false, not}
@@ -43,7 +43,9 @@ module _ (g h : Segment) (e : contentsOf g ≡ contentsOf h) where
 
   pub control-alike : controlRule g ≡ controlRule h
   unfolding controlRule standsWell
-  control-alike = rw (kind-alike, element-alike (positionsOf (kindOf h) .count), element-alike (positionsOf (kindOf h) .reference))
+  control-alike =
+      let positions = positionsOf (kindOf h) in
+      rw (kind-alike, element-alike (positions .count), element-alike (positions .reference))
 
   reference-alike : referenceOf g ≡ referenceOf h
   unfolding referenceOf
@@ -64,7 +66,8 @@ kinds-alike gs hs e = by-contents gs ∙ ap (map (λ k. kindNamed (firstValue k)
 
 -- what is related for two segments with equal contents is related for the first of two such rows, if there is one
 pub first-alike : (R : Option Segment → Option Segment → Type 0) → R none none
-    → ((g h : Segment) → contentsOf g ≡ contentsOf h → R (some g) (some h)) → (gs hs : List Segment) → Alike gs hs → R (at gs 0) (at hs 0)
+    → ((g h : Segment) → contentsOf g ≡ contentsOf h → R (some g) (some h))
+    → (gs hs : List Segment) → Alike gs hs → R (at gs 0) (at hs 0)
 unfolding at
 first-alike R n r [] [] e = n
 first-alike R n r [] (h ∷ hs) e = absurd (nil≢cons e)
@@ -93,8 +96,10 @@ nearest-alike kind (g ∷ gs) (h ∷ hs) e =
 
 -- the test has the same answer for segments with equal contents behind segments with equal contents
 abbrev pub ByContents : (List Segment → Segment → Bool) → Type 0
-ByContents fails = (past past′ : List Segment) (g h : Segment) → Alike past past′ → contentsOf g ≡ contentsOf h → fails past g ≡ fails past′ h
+ByContents fails =
+    (past past′ : List Segment) (g h : Segment) → Alike past past′ → contentsOf g ≡ contentsOf h → fails past g ≡ fails past′ h
 
+-- such a test that refuses nothing in one row refuses nothing in the other
 pub starts-alike : (fails : List Segment → Segment → Bool) → ByContents fails → (past past′ gs hs : List Segment)
     → Alike past past′ → Alike gs hs → startsWhere fails past gs ≡ [] → startsWhere fails past′ hs ≡ []
 unfolding startsWhere
@@ -105,12 +110,14 @@ starts-alike fails by past past′ (g ∷ gs) (h ∷ hs) p e k =
     let same : contentsOf g ≡ contentsOf h = head-eq-of-cons-eq e in
     let parts = append-eq-nil-iff {p = placeIf (fails past g) (start g)} {q = startsWhere fails (g ∷ past) gs} .0 k in
     append-eq-nil-iff {p = placeIf (fails past′ h) (start h)} {q = startsWhere fails (h ∷ past′) hs} .1 (
-      place-none (fails past′ h) (start h) .1 (sym (by past past′ g h p same) ∙ place-none (fails past g) (start g) .0 (parts .0)),
+      place-none (fails past′ h) (start h) .1
+          (sym (by past past′ g h p same) ∙ place-none (fails past g) (start g) .0 (parts .0)),
       starts-alike fails by (g ∷ past) (h ∷ past′) gs hs (ap₂ _∷_ same p) (tail-eq-of-cons-eq e) (parts .1),
     )
 
 pub order-by-contents : ByContents misplaced
-order-by-contents past past′ g h p e = ap₂ (λ (ks : List Kind) (k : Kind). not (allowed ks k)) (kinds-alike past past′ p) (kind-alike g h e)
+order-by-contents past past′ g h p e =
+    ap₂ (λ (ks : List Kind) (k : Kind). not (allowed ks k)) (kinds-alike past past′ p) (kind-alike g h e)
 
 pub controls-by-contents : ByContents badControl
 controls-by-contents past past′ g h p e = ap not (control-alike g h e)
@@ -119,7 +126,8 @@ pub references-by-contents : ByContents referenceDiffers
 unfolding referenceDiffers
 references-by-contents past past′ g h p e =
     ap₂ (λ (f : Kind → Bool) (o : Option Kind). maybe false f o)
-    (fun-ext (λ header. ap₂ (λ (r q : Option (List ℕ)). not (sameValue r q)) (reference-alike g h e) (nearest-alike header past past′ p)))
+    (fun-ext (λ header.
+    ap₂ (λ (r q : Option (List ℕ)). not (sameValue r q)) (reference-alike g h e) (nearest-alike header past past′ p)))
     (ap headerOf (kind-alike g h e))
 
 pub counts-by-contents : ByContents countWrong

@@ -1,4 +1,4 @@
--- A file of normal forms end to end is cut apart again in only one way. Assumes nothing.
+-- Where a normal form ends that is followed by others, and how often a file is cut. Assumes nothing.
 use Prim.Native.Nat.{ℕ, zero, suc, _+_, _≤_}
 use mathlib.Core.Path.{_≡_, refl, sym, ap, ap₂, _∙_}
 use mathlib.Core.Bool.{Bool, true, false}
@@ -18,11 +18,11 @@ use Rattle.reading.specs.Tokens.{Token, byte, separator, fault, unreleased, rel
 use Rattle.reading.specs.Values.{endedBy, endsInside}
 use Rattle.reading.specs.Spelling.{Bytes, SegmentList, spell}
 use Rattle.segments.specs.Tags.{kindOf}
-use Rattle.verdict.specs.Contents.{bodyTokens, segmentsOf, contents, kindsOf, normalCharacters, interchange, normalForm}
+use Rattle.verdict.specs.Contents.{bodyTokens, segmentsOf, contents, kindsOf, interchange, normalForm}
 use Rattle.verdict.specs.Stages.{refusalOf}
 use Rattle.spelling.specs.Bodies.{Sound, Passes, Shaped, Releasable}
 use Rattle.spelling.proofs.Laws.{spelling-passes, tokens-append}
-use Rattle.forms.specs.Forms.{markOf, NormalForm, NormalForms, endToEnd, behindTrailer, formEnd, cutUpTo}
+use Rattle.forms.specs.Forms.{markOf, formCharacters, NormalForm, NormalForms, endToEnd, behindTrailer, formEnd, cutUpTo}
 use Rattle.forms.proofs.Openings.{advice-characters, advice-start, advice-body}
 use Rattle.forms.proofs.Accepted.{accepted-exactly, order-accepted}
 use Rattle.forms.proofs.Normal.{normal-releasable, contents-shaped, normal-usable}
@@ -37,7 +37,8 @@ unfolding segments cut onto endsInside endedBy lastOr isEmpty
 segments-append [] us h = refl
 segments-append (t ∷ []) us h = rw (not-false (ends 0 t) h) refl
 segments-append (t ∷ u ∷ ts) us h =
-    ap (onto (ends 0 t) t) (segments-append (u ∷ ts) us h) ∙ rw (cut-first (ends 0) u ts) (step (ends 0 t) (through (ends 0) (u ∷ ts)) (cut (ends 0) (beyond (ends 0) (u ∷ ts))))
+    ap (onto (ends 0 t) t) (segments-append (u ∷ ts) us h)
+    ∙ rw (cut-first (ends 0) u ts) (step (ends 0 t) (through (ends 0) (u ∷ ts)) (cut (ends 0) (beyond (ends 0) (u ∷ ts))))
   where
     step : (b : Bool) (piece : Segment) (pieces : List Segment)
         → onto b t (piece ∷ (pieces ++ segments us)) ≡ onto b t (piece ∷ pieces) ++ segments us
@@ -49,11 +50,12 @@ module _ (end : ℕ) where
   abbrev firstStart : List Token → ℕ
   firstStart ts = maybe end start (at (segments ts) 0)
 
+  -- it begins at the first token
   first-token : (t : Token) (ts : List Token) → firstStart (t ∷ ts) ≡ placeOf t
   unfolding maybe at segments start through
   first-token t ts = rw (cut-first (ends 0) t ts) refl
 
-  -- the first segment of bytes begins where they begin
+  -- which begins where the bytes do
   first-byte : (c : Characters) (place b : ℕ) (bs : Bytes) → firstStart (tokens c place (b ∷ bs)) ≡ place
   unfolding tokens tokensFrom unreleased releasing taken placeOf
   first-byte c place b bs = step (role c b) bs
@@ -91,26 +93,33 @@ segments-more c list more u s r =
 
 module _ (s : List ℕ) (accepted : refusalOf s ≡ none) (more : List ℕ) where
   -- behind the first UNZ stands what follows the normal form
-  behind-form : behindTrailer (segmentsOf (normalForm s ++ more)) ≡ segments (tokens (normalCharacters (markOf s)) (length (normalForm s)) more)
+  behind-form : behindTrailer (segmentsOf (normalForm s ++ more))
+      ≡ segments (tokens (formCharacters s) (length (normalForm s)) more)
   unfolding kindsOf normalForm
   behind-form =
       let n : List ℕ = normalForm s in
-      let c : Characters = normalCharacters (markOf s) in
+      let c : Characters = formCharacters s in
+      let list : SegmentList = contents s in
       let order = order-accepted n .0 (accepted-exactly n .0 (normal-accepted s accepted) .order) in
-      ap behindTrailer (segments-more c (contents s) more (normal-usable s accepted) (contents-shaped s accepted) (normal-releasable (markOf s) (contents s)))
-      ∙ trailer-last [] (segmentsOf n) (segments (tokens c (length n) more)) (order .0) (complete-any (map kindOf (segmentsOf n)) (order .1))
+      ap behindTrailer
+      (segments-more c list more (normal-usable s accepted) (contents-shaped s accepted) (normal-releasable (markOf s) list))
+      ∙ trailer-last [] (segmentsOf n) (segments (tokens c (length n) more)) (order .0)
+      (complete-any (map kindOf (segmentsOf n)) (order .1))
 
+  -- so the file is cut there
   form-end : formEnd (normalForm s ++ more) ≡ length (normalForm s)
   unfolding formEnd maybe at segments cut tokens tokensFrom
   form-end = ap (λ (gs : List Segment). maybe (length (normalForm s ++ more)) start (at gs 0)) behind-form ∙ step more
     where
       step : (more : List ℕ)
-          → firstStart (length (normalForm s ++ more)) (tokens (normalCharacters (markOf s)) (length (normalForm s)) more) ≡ length (normalForm s)
+          → firstStart (length (normalForm s ++ more)) (tokens (formCharacters s) (length (normalForm s)) more)
+          ≡ length (normalForm s)
       step [] = ap length (append-nil (normalForm s))
-      step (b ∷ bs) = first-byte (length (normalForm s ++ b ∷ bs)) (normalCharacters (markOf s)) (length (normalForm s)) b bs
+      step (b ∷ bs) = first-byte (length (normalForm s ++ b ∷ bs)) (formCharacters s) (length (normalForm s)) b bs
 
 -- ---- cutting
 
+-- the first of a file ends where it ends
 form-next : (form more : List ℕ) → NormalForm form → formEnd (form ++ more) ≡ length form
 form-next form more f = rw (← f .made) (form-end (f .input) (f .accepted) more)
 
@@ -142,5 +151,7 @@ cut-enough (suc n) ((b ∷ bs) ∷ forms) f h =
     let form : List ℕ = b ∷ bs in
     let file : List ℕ = form ++ endToEnd forms in
     ap (λ (k : ℕ). take k file ∷ cutUpTo n (drop k file)) (form-next form (endToEnd forms) (f form (List·Memᴰ·head refl)))
-    ∙ ap₂ (λ (first rest : List ℕ). first ∷ cutUpTo n rest) (take-append-seam form (endToEnd forms)) (drop-append-seam form (endToEnd forms))
+    ∙ ap₂ (λ (first rest : List ℕ). first ∷ cutUpTo n rest)
+    (take-append-seam form (endToEnd forms))
+    (drop-append-seam form (endToEnd forms))
     ∙ ap (λ (rest : List (List ℕ)). form ∷ rest) (cut-enough n forms (λ g m. f g (List·Memᴰ·tail m)) (omega arith))

@@ -8,6 +8,7 @@ use Rattle.lists.specs.Lists.{all, cut}
 use Rattle.lists.proofs.Texts.{and-left, and-both, all-append}
 use Rattle.reading.specs.Tokens.{Token, byte, separator, fault, ends, segments}
 use Rattle.reading.specs.Values.{byteOf}
+use Rattle.reading.specs.Spelling.{Bytes}
 use Rattle.levels.specs.Levels.{inLevel}
 use Rattle.verdict.specs.Contents.{bodyTokens}
 use Rattle.verdict.specs.Places.{level, placeOutside, outsideLevel}
@@ -31,15 +32,19 @@ all-pushed b f q a n h xs = step b xs
     step false [] = ap (λ (t : Bool). t && true) alone
     step false (x ∷ xs) = ap (λ (t : Bool). t && all q xs) (h x) ∙ and-assoc a (q x) (all q xs)
 
+-- the bytes of the list that tokens hold are those of the tokens
 pub all-listed : (p : ℕ → Bool) (ts : List Token) → allBytes p (listed ts) ≡ all (λ t. all p (byteOf t)) ts
 unfolding all listed segments cut push
 all-listed p [] = refl
 all-listed p (t ∷ ts) =
     let here : Bool = all p (byteOf t) in
+    let toValue : Bytes → Bytes = λ v. byteOf t ++ v in
+    let toElement : List Bytes → List Bytes = pushed (ends 2 t) toValue in
+    let toSegment : List (List Bytes) → List (List Bytes) = pushed (ends 1 t) toElement in
     ap (allBytes p) (listed-next t ts)
-    ∙ all-pushed (ends 0 t) (λ s. pushed (ends 1 t) (λ e. pushed (ends 2 t) (λ v. byteOf t ++ v) e) s) (all (all (all p))) here refl
-    (all-pushed (ends 1 t) (λ e. pushed (ends 2 t) (λ v. byteOf t ++ v) e) (all (all p)) here refl
-    (all-pushed (ends 2 t) (λ v. byteOf t ++ v) (all p) here refl (all-append p (byteOf t))))
+    ∙ all-pushed (ends 0 t) toSegment (all (all (all p))) here refl
+    (all-pushed (ends 1 t) toElement (all (all p)) here refl
+    (all-pushed (ends 2 t) toValue (all p) here refl (all-append p (byteOf t))))
     (listed ts)
     ∙ ap (λ (b : Bool). here && b) (all-listed p ts)
 
@@ -53,6 +58,7 @@ level-bytes s =
     token : (t : Token) → (placeOutside s t ≡ []) ↔ (all (inLevel (level s)) (byteOf t) ≡ true)
     token (byte b from place) =
         let inside : Bool = inLevel (level s) b in
-        (λ e. and-both inside true (place-none-not inside place .0 e) refl, λ e. place-none-not inside place .1 (and-left inside true e))
+        let none = place-none-not inside place in
+        (λ e. and-both inside true (none .0 e) refl, λ e. none .1 (and-left inside true e))
     token (separator kind place) = (λ e. refl, λ e. refl)
     token (fault place) = (λ e. refl, λ e. refl)

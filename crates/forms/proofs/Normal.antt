@@ -1,7 +1,7 @@
 -- An accepted input and its normal form: how they are read, the same contents and mark, and its own normal form. Assumes nothing.
 use Prim.Native.Nat.{ℕ, _-_}
 use mathlib.Core.Path.{_≡_, refl, ap, ap₂, _∙_}
-use mathlib.Core.Bool.{true, false, _&&_, _||_, true≢false, or-false}
+use mathlib.Core.Bool.{Bool, true, false, _&&_, _||_, true≢false, or-false}
 use mathlib.Core.List.{List, _∷_}
 use mathlib.Core.Option.{none}
 use mathlib.Core.Logic.{_⊎_, inl, inr}
@@ -18,7 +18,7 @@ use Rattle.operations.specs.ValueList.{trimList}
 use Rattle.spelling.specs.Bodies.{Shaped, Releasable}
 use Rattle.spelling.proofs.Laws.{read-shaped}
 use Rattle.trimming.proofs.Again.{trimList-shaped}
-use Rattle.forms.specs.Forms.{markOf, BodyPasses, listOf}
+use Rattle.forms.specs.Forms.{markOf, formCharacters, BodyPasses, listOf}
 use Rattle.forms.proofs.Trimmed.{contents-read, contents-trimmed}
 use Rattle.forms.proofs.Openings.{advice-characters, interchange-passes, interchange-read}
 use Rattle.forms.proofs.Accepted.{Accepted, accepted-exactly, passes-accepted, usable-accepted}
@@ -29,9 +29,11 @@ use Rattle.forms.proofs.Accepted.{Accepted, accepted-exactly, passes-ac
 pub usable-mark : (c : Characters) → usable c ≡ true → member (c .mark) (text ".,") ≡ true
 unfolding usable
 usable-mark c u =
-    and-right (eqb (c .reserved) space) (member (c .mark) (text ".,"))
-    (and-left (eqb (c .reserved) space && member (c .mark) (text ".,")) (all separates (serviceCharacters c))
-    (and-left (eqb (c .reserved) space && member (c .mark) (text ".,") && all separates (serviceCharacters c)) (allDiffer (c .mark ∷ serviceCharacters c)) u))
+    let reserved : Bool = eqb (c .reserved) space in
+    let marked : Bool = member (c .mark) (text ".,") in
+    let separate : Bool = all separates (serviceCharacters c) in
+    and-right reserved marked
+    (and-left (reserved && marked) separate (and-left (reserved && marked && separate) (allDiffer (c .mark ∷ serviceCharacters c)) u))
 
 -- with either of them the normal form's characters are usable
 marked-usable : (mark : ℕ) → member mark (text ".,") ≡ true → usable (normalCharacters mark) ≡ true
@@ -71,26 +73,28 @@ module _ (s : List ℕ) (accepted : refusalOf s ≡ none) where
   -- ---- its normal form
 
   -- its characters are usable; its body passes and is read as the contents
-  pub normal-usable : usable (normalCharacters (markOf s)) ≡ true
+  pub normal-usable : usable (formCharacters s) ≡ true
   normal-usable = marked-usable (markOf s) accepted-mark
 
   pub normal-passes : BodyPasses (normalForm s)
   unfolding normalForm
   normal-passes =
-      interchange-passes (normalCharacters (markOf s)) (contents s) normal-usable contents-shaped (normal-releasable (markOf s) (contents s))
+      let list : SegmentList = contents s in
+      interchange-passes (formCharacters s) list normal-usable contents-shaped (normal-releasable (markOf s) list)
 
   pub normal-read : listOf (normalForm s) ≡ contents s
   unfolding normalForm
   normal-read =
-      interchange-read (normalCharacters (markOf s)) (contents s) normal-usable contents-shaped (normal-releasable (markOf s) (contents s))
+      let list : SegmentList = contents s in
+      interchange-read (formCharacters s) list normal-usable contents-shaped (normal-releasable (markOf s) list)
 
   -- it has the same contents, under its own characters with the same mark
   pub normal-contents : contents (normalForm s) ≡ contents s
   normal-contents = contents-read (normalForm s) ∙ ap trimList normal-read ∙ contents-trimmed s
 
-  pub normal-characters : charactersOf (normalForm s) ≡ normalCharacters (markOf s)
+  pub normal-characters : charactersOf (normalForm s) ≡ formCharacters s
   unfolding normalForm interchange
-  normal-characters = advice-characters (normalCharacters (markOf s)) (spell (normalCharacters (markOf s)) (contents s))
+  normal-characters = advice-characters (formCharacters s) (spell (formCharacters s) (contents s))
 
   pub normal-mark : markOf (normalForm s) ≡ markOf s
   unfolding normalCharacters sixBytes

@@ -43,19 +43,18 @@ module _ (c : Characters) (more : Bytes) where
 
 -- a list that can be spelled, behind its advice
 module _ (c : Characters) (list : SegmentList) (u : usable c ≡ true) (shaped : Shaped list) (releasable : Releasable c list) where
-  abbrev written : Bytes
-  written = adviceOf c ++ spell c list
-
   -- its body passes and is read as the list
   pub interchange-passes : BodyPasses (interchange c list)
   unfolding interchange
   interchange-passes =
-      rw (advice-characters c (spell c list), advice-body c (spell c list)) (spelling-passes c u (bodyStart written) list shaped releasable)
+      let spelled : Bytes = spell c list in
+      rw (advice-characters c spelled, advice-start c spelled, advice-body c spelled) (spelling-passes c u 9 list shaped releasable)
 
   pub interchange-read : listOf (interchange c list) ≡ list
   unfolding interchange
   interchange-read =
-      rw (advice-characters c (spell c list), advice-body c (spell c list)) (read-spelling c u (bodyStart written) list shaped releasable)
+      let spelled : Bytes = spell c list in
+      rw (advice-characters c spelled, advice-start c spelled, advice-body c spelled) (read-spelling c u 9 list shaped releasable)
 
   -- its contents are the list, trimmed
   pub interchange-contents : contents (interchange c list) ≡ trimList list

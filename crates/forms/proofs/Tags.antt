@@ -1,7 +1,7 @@
--- The tag rule on values: which values stand where the tag stands, and when nothing but an element separator or the terminator
--- follows it. Assumes nothing.
+-- The tag rule as a rule of a segment's values: the first value is the tag, and no component separator follows it where the first
+-- element is that one value. Assumes nothing.
 use Prim.Native.Nat.{ℕ, _≤_}
-use mathlib.Core.Path.{_≡_, refl, sym, ap, ap₂, _∙_}
+use mathlib.Core.Path.{_≡_, refl, sym, ap, _∙_}
 use mathlib.Core.Bool.{Bool, true, false, not, _&&_, _||_, false≢true, true≢false}
 use mathlib.Core.List.{List, [], _∷_, map}
 use mathlib.Core.Logic.{_↔_}
@@ -31,6 +31,7 @@ firstValue [] = []
 firstValue ([] ∷ es) = []
 firstValue ((v ∷ vs) ∷ es) = v
 
+-- there is one in it
 unfoldable pub isSingle : {A : Type 0} → List A → Bool
 isSingle [] = false
 isSingle (x ∷ xs) = isEmpty xs
@@ -40,6 +41,7 @@ unfoldable pub lone : List (List Bytes) → Bool
 lone [] = false
 lone (e ∷ es) = isSingle e
 
+-- the rule: `tagRule` with the first value for the tag, and a lone first value for one that no component separator follows
 unfoldable pub tagStands : List (List Bytes) → Bool
 tagStands segment =
     isTag (firstValue segment)
@@ -74,7 +76,7 @@ tag-trim segment h =
 
 -- ---- the first value that was read is the tag
 
--- what ends more than another ends what the other ends
+-- a token that ends the greater ends the smaller
 ends-more : (k l : ℕ) → k ≤ l → (t : Token) → ends k t ≡ true → ends l t ≡ true
 unfolding ends
 ends-more k l h (byte b from place) e = e
@@ -94,7 +96,7 @@ through-within {A} t u h (x ∷ xs) = step (t x) refl (u x) refl (through-within
     step true e false k ih = absurd (true≢false (sym (h x e) ∙ k))
     step false e false k ih = ap (λ (l : List A). x ∷ l) ih
 
--- the first value and whether it is alone, by the first pieces
+-- the first of the values that were read
 first-words : (g : Segment) → firstValue (wordsOf g) ≡ tagOf g
 unfolding firstValue wordsOf elementsOf valuesOf valueOf tagOf tagPiece cut through bytesOf gather
 first-words [] = refl
@@ -103,6 +105,7 @@ first-words (t ∷ ts) =
     rw (cut-first (ends 1) t ts, cut-first (ends 2) t element)
     (ap bytesOf (through-within (ends 1) (ends 2) (ends-more 1 2 (omega arith)) (t ∷ ts)))
 
+-- the first of the contents
 pub tag-first : (g : Segment) → tagOf g ≡ firstValue (contentsOf g)
 tag-first g = sym (ap firstValue (contents-words g) ∙ first-trim (wordsOf g) ∙ first-words g)
 
@@ -139,6 +142,7 @@ alone (t ∷ u ∷ us) h = step (ends 1 t) refl (ends 2 t) refl (alone (u ∷ us
     step false e true k ih = e ∙ sym (pieces (ends 2 u) u (cut (ends 2) others) (t ∷ []))
     step false e false k ih = ih ∙ grown (ends 2 u) u (cut (ends 2) others)
 
+-- a map keeps how many there are
 single-map : {A B : Type 0} (f : A → B) (xs : List A) → isSingle (map f xs) ≡ isSingle xs
 unfolding isSingle isEmpty
 single-map f [] = refl
@@ -166,8 +170,7 @@ unfolding startsWhere all
 tags-words past [] f = (λ e. refl, λ e. refl)
 tags-words past (g ∷ gs) f =
     let first : finished g ≡ true = and-left (finished g) (all finished gs) f in
-    let here : (finished g && not (tagRule g)) ≡ not (tagStands (wordsOf g)) = ap₂ (λ (a b : Bool). a && not b) first (rule-words g first) in
-    rw here
+    rw (first, rule-words g first)
     (none-both
     (placeIf (not (tagStands (wordsOf g))) (start g))
     (startsWhere (λ past g. finished g && not (tagRule g)) (g ∷ past) gs)

@@ -27,6 +27,7 @@ open-any nearer farther (kind ∷ past) h = step (is nearer kind) (is farther ki
     step false true ih h = absurd (false≢true h)
     step false false ih h = ih h
 
+-- one of them passes, in whichever order
 any-reverse : {A : Type 0} (t : A → Bool) (xs ys : List A) → any t (reverseAux xs ys) ≡ (any t xs || any t ys)
 unfolding any
 any-reverse t [] ys = refl
@@ -41,14 +42,15 @@ any-reverse t (x ∷ xs) ys = any-reverse t xs (x ∷ ys) ∙ swap (any t xs) (t
 -- a whole interchange has its UNZ
 pub complete-any : (kinds : List Kind) → isComplete (reverse kinds) ≡ true → any (is Unz) kinds ≡ true
 unfolding isComplete any
-complete-any kinds h = sym (or-false (any (is Unz) kinds)) ∙ sym (any-reverse (is Unz) kinds []) ∙ open-any Unz Unb (reverse kinds) h
+complete-any kinds h =
+    sym (any-reverse (is Unz) kinds [] ∙ or-false (any (is Unz) kinds)) ∙ open-any Unz Unb (reverse kinds) h
 
 -- behind UNZ nothing is allowed
 none-behind : (trailer : Kind) (past : List Kind) (kind : Kind) → is Unz trailer ≡ true → allowed (trailer ∷ past) kind ≡ false
 unfolding allowed standing isOpen allowedAt
 none-behind trailer past kind h = rw h
 
--- so what follows the segments is what stands behind the first UNZ
+-- so what follows segments of which each is allowed and one is UNZ is what stands behind the first UNZ
 pub trailer-last : (past gs more : List Segment) → startsWhere misplaced past gs ≡ []
     → any (is Unz) (map kindOf gs) ≡ true → behindTrailer (gs ++ more) ≡ more
 unfolding startsWhere any behindTrailer

@@ -58,6 +58,7 @@ contents-trimmed s = ap trimList (contents-read s) ∙ trimList-again (listOf s)
 
 -- ---- what holds of every byte
 
+-- what all pass, all that are left pass
 all-trimEnd : {A : Type 0} (p t : A → Bool) (xs : List A) → all p xs ≡ true → all p (trimEnd t xs) ≡ true
 unfolding all trimEnd
 all-trimEnd p t [] h = refl
@@ -66,9 +67,11 @@ all-trimEnd p t (x ∷ xs) h =
     let s = dropEnd-shortened t xs in
     and-both (p x) (all p left)
     (and-left (p x) (all p xs) h)
-    (and-left (all p left) (all p (s .gone)) (sym (all-append p left (s .gone)) ∙ sym (ap (all p) (s .parts)) ∙ and-right (p x) (all p xs) h))
+    (and-left (all p left) (all p (s .gone))
+    (sym (ap (all p) (s .parts) ∙ all-append p left (s .gone)) ∙ and-right (p x) (all p xs) h))
 
-trim-segment : (p : Bytes → Bool) (segment : List (List Bytes)) → all (all p) segment ≡ true → all (all p) (trimSegment isEmpty segment) ≡ true
+trim-segment : (p : Bytes → Bool) (segment : List (List Bytes)) → all (all p) segment ≡ true
+    → all (all p) (trimSegment isEmpty segment) ≡ true
 unfolding trimSegment trimElement
 trim-segment p segment h =
     all-trimEnd (all p) (isIdle isEmpty) (map (trimElement isEmpty) segment)

@@ -5,20 +5,26 @@ use mathlib.Core.List.{List, [], _∷_, List·Memᴰ}
 use mathlib.Core.Option.{none}
 use lib.ListN.{length, take, drop}
 use Rattle.lists.specs.Lists.{if_then_else_, gather, at, maybe}
+use Rattle.characters.specs.declared.Characters.{Characters}
 use Rattle.characters.specs.Characters.{charactersOf, bodyStart, body}
 use Rattle.reading.specs.Tokens.{Segment, start}
 use Rattle.reading.specs.Spelling.{SegmentList}
 use Rattle.segments.specs.declared.Kind.the-variants.{Unz}
 use Rattle.segments.specs.Kinds.{is}
 use Rattle.segments.specs.Tags.{kindOf}
-use Rattle.verdict.specs.Contents.{segmentsOf, contents, normalForm}
+use Rattle.verdict.specs.Contents.{segmentsOf, contents, normalCharacters, normalForm}
 use Rattle.verdict.specs.Stages.{refusalOf}
 use Rattle.spelling.specs.Bodies.{readList, Passes}
 
 -- ---- an input
 
+-- its decimal mark
 abbrev pub markOf : List ℕ → ℕ
 markOf s = charactersOf s .mark
+
+-- the characters of its normal form
+abbrev pub formCharacters : List ℕ → Characters
+formCharacters s = normalCharacters (markOf s)
 
 -- its body passes refusals 4 and 5
 abbrev pub BodyPasses : List ℕ → Type 0
@@ -28,11 +34,12 @@ BodyPasses s = Passes (charactersOf s) (bodyStart s) (body s)
 abbrev pub listOf : List ℕ → SegmentList
 listOf s = readList (charactersOf s) (bodyStart s) (body s)
 
--- what the normal form of an input is to the input
+-- What the normal form of an input is to the input: accepted, with the contents of the input, under the normal form's characters
+-- with the input's mark, and its own normal form.
 pub record Normalised (s form : List ℕ) : Type 0 where
   pub accepted : refusalOf form ≡ none
   pub same-contents : contents form ≡ contents s
-  pub same-mark : markOf form ≡ markOf s
+  pub characters : charactersOf form ≡ formCharacters s
   pub own-form : normalForm form ≡ form
   -- "For n input bytes it has at most 2n + 9."
   pub bounded : length form ≤ 2 * length s + 9
