@@ -8,7 +8,7 @@ ghost use Rattle.refusals.specs.Refusals.{outcome};
 ghost use Rattle.reading.proofs.Steps.{tokensAt};
 ghost use Rattle.machines.specs.Walks.{controlled};
 ghost use Rattle.walking.specs.Walking.{Within};
-ghost use Rattle.controlling.specs.Controlling.{failedAt, headerKept, headersBehind, groupsOrMessages, countDue, controlledBy};
+ghost use Rattle.controlling.specs.Controlling.{failedAt, headerKept, headersBehind, groupsOrMessages, countDue, trailerBy, controlledBy};
 use characters::Characters;
 use control::Positions;
 use control::positions_of;
@@ -111,7 +111,24 @@ fn failed(fault: Fault, place: usize) -> Outcome
     Outcome::Failed(Refusal { fault, place })
 }
 
-// One segment, whose reference begins at `reference`; its header's begins at `header`.
+// A trailer, whose reference is one. Its count begins at `counted`, its header's reference at `header`.
+fn trailer_control(s: &[u8], c: Characters, at: usize, reference: usize, counted: usize, header: usize, count: u32) -> Outcome
+    ensures { λ r. ⌜ r ≡ trailerBy at (tokensAt c (now (s .entry)) reference) (tokensAt c (now (s .entry)) counted) (tokensAt c (now (s .entry)) header) count ⌝ }
+{
+    let field = field_at(s, c, counted);
+    if !is_count(field) {
+        return failed(Fault::BadControl, at);
+    }
+    if !same_value(s, c, reference, header) {
+        return failed(Fault::ReferenceDiffers, at);
+    }
+    if field.number != count {
+        return failed(Fault::CountWrong, at);
+    }
+    Outcome::Passed
+}
+
+// One segment. A segment that has a count is a trailer.
 fn segment_control(s: &[u8], c: Characters, at: usize, p: Positions, reference: usize, header: usize, count: u32) -> Outcome
     ensures { λ r. ⌜ r ≡ controlledBy c (now (s .entry)) at p reference header count ⌝ }
 {
@@ -124,17 +141,8 @@ fn segment_control(s: &[u8], c: Characters, at: usize, p: Positions, reference: 
     if p.count == 0 {
         return Outcome::Passed;
     }
-    let counted = field_at(s, c, element_at(s, c, at, p.count));
-    if !is_count(counted) {
-        return failed(Fault::BadControl, at);
-    }
-    if !same_value(s, c, reference, header) {
-        return failed(Fault::ReferenceDiffers, at);
-    }
-    if counted.number != count {
-        return failed(Fault::CountWrong, at);
-    }
-    Outcome::Passed
+    let counted = element_at(s, c, at, p.count);
+    trailer_control(s, c, at, reference, counted, header, count)
 }
 
 pub fn controlling(s: &[u8], c: Characters, start: usize) -> Outcome

@@ -19,71 +19,71 @@ Inv-loop s c start walk₀ headers₀ at₀ walk headers at = ?
 abbrev μ-loop : tie.MeasureT-loop
 μ-loop s c start walk₀ headers₀ at₀ walk headers at = ?
 
--- src/lib.rt:144:9
+-- src/lib.rt:152:9
 beginning-requires : tie.Need-beginning-requires Inv-loop μ-loop
 beginning-requires c κs = ?
 
--- src/lib.rt:151:5
+-- src/lib.rt:159:5
 loop-holds : tie.Need-loop-holds Inv-loop μ-loop
 loop-holds c = ?
 
--- src/lib.rt:152:13
+-- src/lib.rt:160:13
 kind-at-requires : tie.Need-kind-at-requires Inv-loop μ-loop
 kind-at-requires c κs = ?
 
--- src/lib.rt:153:13
+-- src/lib.rt:161:13
 positions-of-requires : tie.Need-positions-of-requires Inv-loop μ-loop
 positions-of-requires c κs = ?
 
--- src/lib.rt:154:13
+-- src/lib.rt:162:13
 element-at-requires : tie.Need-element-at-requires Inv-loop μ-loop
 element-at-requires c κs = ?
 
--- src/lib.rt:155:13
+-- src/lib.rt:163:13
 header-of-requires : tie.Need-header-of-requires Inv-loop μ-loop
 header-of-requires c κs = ?
 
--- src/lib.rt:156:63
+-- src/lib.rt:164:63
 true-count-requires : tie.Need-true-count-requires Inv-loop μ-loop
 true-count-requires c κs = ?
 
--- src/lib.rt:156:15
+-- src/lib.rt:164:15
 segment-control-requires : tie.Need-segment-control-requires Inv-loop μ-loop
 segment-control-requires c κs = ?
 
--- src/lib.rt:157:29
+-- src/lib.rt:165:29
 enum-known-r : tie.Need-enum-known-r Inv-loop μ-loop
 enum-known-r c = ?
 
--- src/lib.rt:158:17
+-- src/lib.rt:166:17
 returns : tie.Need-returns Inv-loop μ-loop
 returns c = ?
 
--- src/lib.rt:161:17
+-- src/lib.rt:169:17
 enum-told : tie.Need-enum-told Inv-loop μ-loop
 enum-told c = ?
 
--- src/lib.rt:161:17
+-- src/lib.rt:169:17
 stepped-requires : tie.Need-stepped-requires Inv-loop μ-loop
 stepped-requires c κs = ?
 
--- src/lib.rt:162:17
+-- src/lib.rt:170:17
 passed-header-requires : tie.Need-passed-header-requires Inv-loop μ-loop
 passed-header-requires c κs = ?
 
--- src/lib.rt:163:17
+-- src/lib.rt:171:17
 segment-end-requires : tie.Need-segment-end-requires Inv-loop μ-loop
 segment-end-requires c κs = ?
 
--- src/lib.rt:151:5
+-- src/lib.rt:159:5
 loop-less : tie.Need-loop-less Inv-loop μ-loop
 loop-less c = ?
 
--- src/lib.rt:151:5
+-- src/lib.rt:159:5
 loop-again : tie.Need-loop-again Inv-loop μ-loop
 loop-again c = ?
 
--- src/lib.rt:140:1
+-- src/lib.rt:148:1
 returns-2 : tie.Need-returns-2 Inv-loop μ-loop
 returns-2 c = ?
 

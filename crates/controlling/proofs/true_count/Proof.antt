@@ -1,79 +1,61 @@
+-- `controlling::true_count` meets its contract: in each arm the kind is known. Assumes nothing.
+use mathlib.Core.Path.{sym, ap, _∙_}
+use Rattle.controlling.specs.Controlling.{countDue}
 use borrow.Author.Needs.{needs}
 use Rattle.controlling.proofs.true_count.Statement.{statement}
 use Rattle.controlling.proofs.true_count.Tie as tie
-use Rattle.controlling.proofs.true_count.Reads as reads
-use Rattle.controlling.proofs.true_count.Lts as lts
-use Rattle.controlling.proofs.groups_or_messages.Reads as groups-or-messages-reads
 
--- src/lib.rt:97:22
 enum-told : tie.Need-enum-told
 enum-told c = search needs
 
--- src/lib.rt:97:22
 add-result : tie.Need-add-result
 add-result c = search needs
 
--- src/lib.rt:98:22
 enum-told-2 : tie.Need-enum-told-2
 enum-told-2 c = search needs
 
--- src/lib.rt:99:22
 enum-told-3 : tie.Need-enum-told-3
 enum-told-3 c = search needs
 
--- src/lib.rt:99:22
 groups-or-messages-requires : tie.Need-groups-or-messages-requires
 groups-or-messages-requires c κs = search needs
 
--- src/lib.rt:100:22
 enum-told-4 : tie.Need-enum-told-4
 enum-told-4 c = search needs
 
--- src/lib.rt:101:22
 enum-told-5 : tie.Need-enum-told-5
 enum-told-5 c = search needs
 
--- src/lib.rt:102:22
 enum-told-6 : tie.Need-enum-told-6
 enum-told-6 c = search needs
 
--- src/lib.rt:103:22
 enum-told-7 : tie.Need-enum-told-7
 enum-told-7 c = search needs
 
--- src/lib.rt:104:23
 enum-told-8 : tie.Need-enum-told-8
 enum-told-8 c = search needs
 
--- src/lib.rt:92:1
 returns : tie.Need-returns
-returns c = ?
+returns c = rw (c .before .enum-told .given .1)
 
--- src/lib.rt:92:1
 returns-2 : tie.Need-returns-2
 returns-2 c = search needs
 
--- src/lib.rt:92:1
 returns-3 : tie.Need-returns-3
-returns-3 c = ?
+returns-3 c = c .groups-or-messages .ensures ∙ ap (countDue (c .before .before .before .args .w)) (sym (c .before .enum-told3 .given .1))
 
--- src/lib.rt:92:1
 returns-4 : tie.Need-returns-4
 returns-4 c = search needs
 
--- src/lib.rt:92:1
 returns-5 : tie.Need-returns-5
 returns-5 c = search needs
 
--- src/lib.rt:92:1
 returns-6 : tie.Need-returns-6
 returns-6 c = search needs
 
--- src/lib.rt:92:1
 returns-7 : tie.Need-returns-7
 returns-7 c = search needs
 
--- src/lib.rt:92:1
 returns-8 : tie.Need-returns-8
 returns-8 c = search needs
 
