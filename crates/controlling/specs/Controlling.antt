@@ -14,6 +14,7 @@ use Rattle.reading.proofs.Steps.{tokensAt}
 use Rattle.segments.specs.declared.Kind.{Kind}
 use Rattle.segments.specs.declared.Kind.the-variants.{Unb, Ung, Unh, Uns, Unt, Une, Unz, User}
 use Rattle.segments.specs.declared.Walk.{Walk}
+use Rattle.segments.specs.Kinds.{is}
 use Rattle.control.specs.declared.Positions.{Positions}
 use Rattle.elements.specs.Elements.{elementFrom}
 use Rattle.fields.specs.Fields.{valueIn, fieldOf, spellsReference, spellsCount}
@@ -36,15 +37,13 @@ headerKept h Unz = h .unb
 headerKept h User = 0
 
 -- what is kept behind a segment whose reference is spelled at this place
-abbrev pub headersBehind : Headers → Kind → ℕ → Headers
-headersBehind h Unb place = record { unb = place; ung = h .ung; unh = h .unh }
-headersBehind h Ung place = record { unb = h .unb; ung = place; unh = h .unh }
-headersBehind h Unh place = record { unb = h .unb; ung = h .ung; unh = place }
-headersBehind h Uns place = h
-headersBehind h Unt place = h
-headersBehind h Une place = h
-headersBehind h Unz place = h
-headersBehind h User place = h
+unfoldable pub headersBehind : Headers → Kind → ℕ → Headers
+headersBehind h kind place =
+    record {
+      unb = if is Unb kind then place else h .unb;
+      ung = if is Ung kind then place else h .ung;
+      unh = if is Unh kind then place else h .unh;
+    }
 
 -- ---- the count
 

@@ -160,6 +160,7 @@ pub fn controlling(s: &[u8], c: Characters, start: usize) -> Outcome
         let kind = kind_at(s, c, at);
         let p = positions_of(kind);
         let reference = element_at(s, c, at, p.reference);
+        let next = segment_end(s, c, at);
         let header = header_of(headers, kind);
         match segment_control(s, c, at, p, reference, header, true_count(walk, kind)) {
             Outcome::Failed(r) => {
@@ -168,7 +169,7 @@ pub fn controlling(s: &[u8], c: Characters, start: usize) -> Outcome
             Outcome::Passed => {
                 walk = stepped(walk, kind);
                 headers = passed_header(headers, kind, reference);
-                at = segment_end(s, c, at);
+                at = next;
             }
         }
     }

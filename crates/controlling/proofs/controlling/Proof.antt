@@ -40,40 +40,40 @@ element-at-requires : tie.Need-element-at-requires Inv-loop μ-loop
 element-at-requires c κs = ?
 
 -- src/lib.rt:163:13
+segment-end-requires : tie.Need-segment-end-requires Inv-loop μ-loop
+segment-end-requires c κs = ?
+
+-- src/lib.rt:164:13
 header-of-requires : tie.Need-header-of-requires Inv-loop μ-loop
 header-of-requires c κs = ?
 
--- src/lib.rt:164:63
+-- src/lib.rt:165:63
 true-count-requires : tie.Need-true-count-requires Inv-loop μ-loop
 true-count-requires c κs = ?
 
--- src/lib.rt:164:15
+-- src/lib.rt:165:15
 segment-control-requires : tie.Need-segment-control-requires Inv-loop μ-loop
 segment-control-requires c κs = ?
 
--- src/lib.rt:165:29
+-- src/lib.rt:166:29
 enum-known-r : tie.Need-enum-known-r Inv-loop μ-loop
 enum-known-r c = ?
 
--- src/lib.rt:166:17
+-- src/lib.rt:167:17
 returns : tie.Need-returns Inv-loop μ-loop
 returns c = ?
 
--- src/lib.rt:169:17
+-- src/lib.rt:170:17
 enum-told : tie.Need-enum-told Inv-loop μ-loop
 enum-told c = ?
 
--- src/lib.rt:169:17
+-- src/lib.rt:170:17
 stepped-requires : tie.Need-stepped-requires Inv-loop μ-loop
 stepped-requires c κs = ?
 
--- src/lib.rt:170:17
+-- src/lib.rt:171:17
 passed-header-requires : tie.Need-passed-header-requires Inv-loop μ-loop
 passed-header-requires c κs = ?
-
--- src/lib.rt:171:17
-segment-end-requires : tie.Need-segment-end-requires Inv-loop μ-loop
-segment-end-requires c κs = ?
 
 -- src/lib.rt:159:5
 loop-less : tie.Need-loop-less Inv-loop μ-loop
@@ -98,6 +98,7 @@ controlling-spec =
     kind-at-requires
     positions-of-requires
     element-at-requires
+    segment-end-requires
     header-of-requires
     true-count-requires
     segment-control-requires
@@ -106,7 +107,6 @@ controlling-spec =
     enum-told
     stepped-requires
     passed-header-requires
-    segment-end-requires
     loop-less
     loop-again
     returns-2)
