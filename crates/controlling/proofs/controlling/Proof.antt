@@ -1,91 +1,85 @@
+-- `controlling::controlling` meets its contract. The loop's invariant: some segments passed, of which the walk and the headers keep what
+-- the next one is judged by, and the stage comes to what it comes to from `at` on. What is left of the input falls. Assumes nothing.
+use Prim.Native.Nat.{_-_}
+use mathlib.Core.Path.{sym}
+use native.Mathlib.Omega.{arith}
+use lib.ListN.{length}
+use borrow.Author.Needs.{needs}
+use Rattle.controlling.proofs.Stage.{falls, Passing, passing-begun, passing-within, passing-end, passing-failed, passing-next}
 use Rattle.controlling.proofs.controlling.Statement.{statement}
 use Rattle.controlling.proofs.controlling.Tie as tie
-use Rattle.controlling.proofs.controlling.Reads as reads
-use Rattle.controlling.proofs.controlling.Lts as lts
-use Rattle.control.proofs.positions_of.Reads as positions-of-reads
-use Rattle.controlling.proofs.header_of.Reads as header-of-reads
-use Rattle.controlling.proofs.passed_header.Reads as passed-header-reads
-use Rattle.controlling.proofs.segment_control.Reads as segment-control-reads
-use Rattle.controlling.proofs.true_count.Reads as true-count-reads
-use Rattle.elements.proofs.element_at.Reads as element-at-reads
-use Rattle.scanner.proofs.segment_end.Reads as segment-end-reads
-use Rattle.tagging.proofs.kind_at.Reads as kind-at-reads
-use Rattle.walking.proofs.beginning.Reads as beginning-reads
-use Rattle.walking.proofs.stepped.Reads as stepped-reads
 
 abbrev Inv-loop : tie.InvT-loop
-Inv-loop s c start walk₀ headers₀ at₀ walk headers at = ?
+Inv-loop s c start walk₀ headers₀ at₀ walk headers at = Passing c s start walk headers at
 
 abbrev μ-loop : tie.MeasureT-loop
-μ-loop s c start walk₀ headers₀ at₀ walk headers at = ?
+μ-loop s c start walk₀ headers₀ at₀ walk headers at = length s - at
 
--- src/lib.rt:152:9
 beginning-requires : tie.Need-beginning-requires Inv-loop μ-loop
-beginning-requires c κs = ?
+beginning-requires c κs = search needs
 
--- src/lib.rt:159:5
 loop-holds : tie.Need-loop-holds Inv-loop μ-loop
-loop-holds c = ?
+loop-holds c = passing-begun (c .before .before .args .c) (c .before .before .args .s .now) (c .before .before .args .start) (c .beginning .ensures)
 
--- src/lib.rt:160:13
 kind-at-requires : tie.Need-kind-at-requires Inv-loop μ-loop
-kind-at-requires c κs = ?
+kind-at-requires c κs = search needs
 
--- src/lib.rt:161:13
 positions-of-requires : tie.Need-positions-of-requires Inv-loop μ-loop
-positions-of-requires c κs = ?
+positions-of-requires c κs = search needs
 
--- src/lib.rt:162:13
 element-at-requires : tie.Need-element-at-requires Inv-loop μ-loop
-element-at-requires c κs = ?
+element-at-requires c κs = search needs
 
--- src/lib.rt:163:13
 segment-end-requires : tie.Need-segment-end-requires Inv-loop μ-loop
-segment-end-requires c κs = ?
+segment-end-requires c κs = search needs
 
--- src/lib.rt:164:13
 header-of-requires : tie.Need-header-of-requires Inv-loop μ-loop
-header-of-requires c κs = ?
+header-of-requires c κs = search needs
 
--- src/lib.rt:165:63
 true-count-requires : tie.Need-true-count-requires Inv-loop μ-loop
-true-count-requires c κs = ?
+true-count-requires c κs = let state = c .before .before .before .before .before .before .loop in passing-within _ _ (state .inv) (omega arith)
 
--- src/lib.rt:165:15
 segment-control-requires : tie.Need-segment-control-requires Inv-loop μ-loop
-segment-control-requires c κs = ?
+segment-control-requires c κs = search needs
 
--- src/lib.rt:166:29
 enum-known-r : tie.Need-enum-known-r Inv-loop μ-loop
-enum-known-r c = ?
+enum-known-r c = search needs
 
--- src/lib.rt:167:17
 returns : tie.Need-returns Inv-loop μ-loop
-returns c = ?
+returns c =
+    let found = c .before .before .before in
+    let reference = found .before .before .before .before in
+    let inside = reference .before .before .before in
+    sym (passing-failed _ _ (inside .before .loop .inv) (inside .loop-test .taken) (reference .before .before .kind-at .ensures)
+    (reference .before .positions-of .ensures) (reference .element-at .ensures) (found .before .before .before .segment-end .ensures)
+    (found .before .before .header-of .ensures) (found .before .true-count .ensures) (found .segment-control .ensures)
+    (c .before .r .given .1))
 
--- src/lib.rt:170:17
 enum-told : tie.Need-enum-told Inv-loop μ-loop
-enum-told c = ?
+enum-told c = search needs
 
--- src/lib.rt:170:17
 stepped-requires : tie.Need-stepped-requires Inv-loop μ-loop
-stepped-requires c κs = ?
+stepped-requires c κs = let state = c .before .before .before .before .before .before .before .before .before .before .loop in passing-within _ _ (state .inv) (omega arith)
 
--- src/lib.rt:171:17
 passed-header-requires : tie.Need-passed-header-requires Inv-loop μ-loop
-passed-header-requires c κs = ?
+passed-header-requires c κs = search needs
 
--- src/lib.rt:159:5
 loop-less : tie.Need-loop-less Inv-loop μ-loop
-loop-less c = ?
+loop-less c =
+    let inside = c .before .before .before .before .before .before .before .before .before .before .before .loop-test .taken in falls _ _ _ inside (c .before .before .before .before .before .before .before .segment-end .ensures .2 inside)
 
--- src/lib.rt:159:5
 loop-again : tie.Need-loop-again Inv-loop μ-loop
-loop-again c = ?
+loop-again c =
+    let found = c .before .before .before .before in
+    let reference = found .before .before .before .before in
+    let inside = reference .before .before .before in
+    passing-next _ _ (inside .before .loop .inv) (inside .loop-test .taken) (reference .before .before .kind-at .ensures)
+    (reference .before .positions-of .ensures) (reference .element-at .ensures) (found .before .before .before .segment-end .ensures)
+    (found .before .before .header-of .ensures) (found .before .true-count .ensures) (found .segment-control .ensures)
+    (c .before .before .enum-told .given .1) (c .before .stepped .ensures) (c .passed-header .ensures)
 
--- src/lib.rt:148:1
 returns-2 : tie.Need-returns-2 Inv-loop μ-loop
-returns-2 c = ?
+returns-2 c = sym (passing-end _ _ (c .before .loop .inv) (c .loop-test .left))
 
 pub controlling-spec : {M : Type 1} → statement M
 controlling-spec =
