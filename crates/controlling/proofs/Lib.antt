@@ -1,0 +1,3 @@
+pub mod Kept
+pub mod Segment
+pub mod Stage
