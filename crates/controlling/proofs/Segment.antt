@@ -129,8 +129,8 @@ module _ (c : Characters) (s : List ℕ) (past : List Segment) (walk : Walk) (he
         closes = refl;
         spelled = k .unb;
         due =
-          ap₂ (λ (groups messages : ℕ). some (if eqb groups 0 then messages else groups))
-          (sym (k .counts .groups-are)) (sym (k .counts .messages-are));
+            ap₂ (λ (groups messages : ℕ). some (if eqb groups 0 then messages else groups))
+            (sym (k .counts .groups-are)) (sym (k .counts .messages-are));
       })
 
 -- ---- the segment at a place

@@ -135,9 +135,9 @@ module _ (c : Characters) (s : List ℕ) where
           record {
             past = g ∷ i .past;
             kept =
-              subst₂ (Kept c s (g ∷ i .past)) (sym (w ∙ ap (steppedBy walk) k)) (sym (u ∙ ap (λ (kind : Kind). headersBehind headers kind reference) k))
-              (kept-more c s (i .past) at (subst (λ (r : Positions). ElementAt c s at (r .reference) reference) (q ∙ ap positionsOf k) e)
-              (rule-kept (i .past) g (sym answer-is ∙ f)) (i .kept));
+                subst₂ (Kept c s (g ∷ i .past)) (sym (w ∙ ap (steppedBy walk) k)) (sym (u ∙ ap (λ (kind : Kind). headersBehind headers kind reference) k))
+                (kept-more c s (i .past) at (subst (λ (r : Positions). ElementAt c s at (r .reference) reference) (q ∙ ap positionsOf k) e)
+                (rule-kept (i .past) g (sym answer-is ∙ f)) (i .kept));
             fewer = omega (arith, i .fewer, n .2 inside);
             same-answer = goes-on ∙ ap (λ (o : Outcome). orNext o (comesTo (g ∷ i .past) next)) f;
           }

@@ -112,7 +112,15 @@ fn failed(fault: Fault, place: usize) -> Outcome
 }
 
 // A trailer, whose reference is one. Its count begins at `counted`, its header's reference at `header`.
-fn trailer_control(s: &[u8], c: Characters, at: usize, reference: usize, counted: usize, header: usize, count: u32) -> Outcome
+fn trailer_control(
+    s: &[u8],
+    c: Characters,
+    at: usize,
+    reference: usize,
+    counted: usize,
+    header: usize,
+    count: u32,
+) -> Outcome
     ensures { λ r. ⌜ r ≡ trailerBy at (tokensAt c (now (s .entry)) reference) (tokensAt c (now (s .entry)) counted) (tokensAt c (now (s .entry)) header) count ⌝ }
 {
     let field = field_at(s, c, counted);
@@ -129,7 +137,15 @@ fn trailer_control(s: &[u8], c: Characters, at: usize, reference: usize, counted
 }
 
 // One segment. A segment that has a count is a trailer.
-fn segment_control(s: &[u8], c: Characters, at: usize, p: Positions, reference: usize, header: usize, count: u32) -> Outcome
+fn segment_control(
+    s: &[u8],
+    c: Characters,
+    at: usize,
+    p: Positions,
+    reference: usize,
+    header: usize,
+    count: u32,
+) -> Outcome
     ensures { λ r. ⌜ r ≡ controlledBy c (now (s .entry)) at p reference header count ⌝ }
 {
     if p.reference == 0 {

@@ -5,6 +5,7 @@ ghost use mathlib.Core.Option.{none};
 ghost use lib.ListN.{length};
 ghost use Rattle.segments.specs.Order.{walkOver};
 ghost use Rattle.verdict.specs.Contents.{bodyTokens, kindsOf};
+ghost use Rattle.verdict.specs.Places.{level as levelIn};
 ghost use Rattle.opening.proofs.Openings.{Opening};
 ghost use Rattle.machines.specs.Walks.{worded};
 ghost use Rattle.answers.specs.Answers.{toldJudged};
@@ -42,4 +43,74 @@ fn judge_length(s: &[u8], c: Characters, start: usize, walk: Walk) -> Judged
         groups,
         length,
     })
+}
+
+// Stage (10 11 12), and what follows it.
+fn judge_control(s: &[u8], c: Characters, start: usize, walk: Walk) -> Judged
+    requires { ⌜ Opening (now s) c start × (worded (length (now s)) (bodyTokens (now s)) ≡ none) × (walk ≡ walkOver (kindsOf (now s))) ⌝ }
+    ensures { λ r. ⌜ r ≡ judged (now (s .entry)) (fromControl (now (s .entry))) ⌝ }
+{
+    match controlling::controlling(s, c, start) {
+        Outcome::Failed(r) => Judged::Refused(r),
+        Outcome::Passed => judge_length(s, c, start, walk),
+    }
+}
+
+// Stage 9, and what follows it.
+fn judge_order(s: &[u8], c: Characters, start: usize) -> Judged
+    requires { ⌜ Opening (now s) c start × (worded (length (now s)) (bodyTokens (now s)) ≡ none) ⌝ }
+    ensures { λ r. ⌜ r ≡ judged (now (s .entry)) (fromOrder (now (s .entry))) ⌝ }
+{
+    match ordering::ordering(s, c, start) {
+        Ordered::Failed(r) => Judged::Refused(r),
+        Ordered::Whole(walk) => judge_control(s, c, start, walk),
+    }
+}
+
+// Stage 8, and what follows it.
+fn judge_bytes(s: &[u8], c: Characters, start: usize, level: u8) -> Judged
+    requires { ⌜ Opening (now s) c start × (worded (length (now s)) (bodyTokens (now s)) ≡ none) × (level ≡ levelIn (now s)) ⌝ }
+    ensures { λ r. ⌜ r ≡ judged (now (s .entry)) (fromBytes (now (s .entry))) ⌝ }
+{
+    let classes = levels::classes();
+    match leveling::in_level(s, c, &classes, level, start) {
+        Outcome::Failed(r) => Judged::Refused(r),
+        Outcome::Passed => judge_order(s, c, start),
+    }
+}
+
+// Stage 7, and what follows it.
+fn judge_level(s: &[u8], c: Characters, start: usize) -> Judged
+    requires { ⌜ Opening (now s) c start × (worded (length (now s)) (bodyTokens (now s)) ≡ none) ⌝ }
+    ensures { λ r. ⌜ r ≡ judged (now (s .entry)) (fromLevel (now (s .entry))) ⌝ }
+{
+    let level = heading::level_of(s, c, start);
+    if level == 0 {
+        return Judged::Refused(Refusal {
+            fault: Fault::ForeignLevel,
+            place: start,
+        });
+    }
+    judge_bytes(s, c, start, level)
+}
+
+// Stage (4 5 6), and what follows it.
+fn judge_words(s: &[u8], c: Characters, start: usize) -> Judged
+    requires { ⌜ Opening (now s) c start ⌝ }
+    ensures { λ r. ⌜ r ≡ judged (now (s .entry)) (fromWords (now (s .entry))) ⌝ }
+{
+    match wording::wording(s, c, start) {
+        Outcome::Failed(r) => Judged::Refused(r),
+        Outcome::Passed => judge_level(s, c, start),
+    }
+}
+
+// Judges one interchange: any bytes, any length.
+pub fn judge(s: &[u8]) -> Judged
+    ensures { λ r. ⌜ toldJudged r ≡ judgeOf (now (s .entry)) ⌝ }
+{
+    match opening::opening_of(s) {
+        Opened::Refused(r) => Judged::Refused(r),
+        Opened::Body { characters, start } => judge_words(s, characters, start),
+    }
 }
