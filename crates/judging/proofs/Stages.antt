@@ -25,8 +25,8 @@ use Rattle.scanner.specs.Scan.{segmentAt}
 use Rattle.scanner.proofs.Segments.{stands, segment-start}
 use Rattle.verdict.specs.Contents.{bodyTokens, segmentsOf, kindsOf}
 use Rattle.verdict.specs.Places.{foreignLevel, level}
-use Rattle.machines.specs.Walks.{refuse, ordered}
-use Rattle.opening.proofs.Openings.{Opening}
+use Rattle.machines.specs.Walks.{refuse, worded, ordered}
+use Rattle.opening.proofs.Openings.{Opening, opening-says}
 use Rattle.ordering.specs.declared.Ordered.{Ordered}
 use Rattle.ordering.specs.declared.Ordered.the-variants as ordered-as
 use Rattle.ordering.specs.Ordering.{orderedBy, orderedAs}
@@ -35,7 +35,9 @@ use Rattle.answers.specs.declared.Judged.the-variants.{Accepted, Refused}
 use Rattle.answers.specs.Answers.{toldJudged, accepted, refused}
 use Rattle.verdict.specs.Stages.{refusalOf}
 use Rattle.machines.proofs.Stages.{bodyRefusal, stage-by-stage}
-use Rattle.opening.specs.Opening.{openingStages}
+use Rattle.characters.specs.Characters.{charactersOf, bodyStart}
+use Rattle.opening.specs.declared.Opened.the-variants.{Body, Refused as Refused′}
+use Rattle.opening.specs.Opening.{openingStages, openingOf}
 use Rattle.operations.specs.Judge.{interchangeOf, judge}
 use Rattle.judging.specs.Judging.{verdictOf, judged, fromLength, fromControl, fromOrder, fromBytes, fromLevel, fromWords}
 use Rattle.judging.proofs.Judging.{body-tokens}
@@ -186,3 +188,18 @@ module _ (s : List ℕ) where
   -- none of them does
   pub body-answers : {r : Judged} → openingRefusal ≡ none → r ≡ judged s (fromWords s) → toldJudged r ≡ judge s
   body-answers {r} e d = told s r (d ∙ left-to s (fromWords s) e ∙ ap (judged s) (sym whole))
+
+  -- an input that is not refused has an opening, and passes (4 5 6)
+  neither : (a b : Option Refusal) → orElse a b ≡ none → (a ≡ none) × (b ≡ none)
+  unfolding orElse
+  neither none b e = (refl, e)
+  neither (some r) b e = (e, cc)
+
+  pub accepted-opening : refusalOf s ≡ none → Opening s (charactersOf s) (bodyStart s)
+  unfolding openingOf maybe
+  accepted-opening e =
+      opening-says s (ap (maybe (Body (charactersOf s) (bodyStart s)) Refused′) (neither openingRefusal (fromWords s) (sym whole ∙ e) .0))
+
+  pub accepted-worded : refusalOf s ≡ none → worded (length s) (bodyTokens s) ≡ none
+  unfolding fromWords
+  accepted-worded e = neither (worded (length s) (bodyTokens s)) (fromLevel s) (neither openingRefusal (fromWords s) (sym whole ∙ e) .1) .0

@@ -131,7 +131,7 @@ fn characters_of(s: &[u8]) -> Characters
     }
 }
 
-fn body_start(s: &[u8]) -> usize
+pub fn body_start(s: &[u8]) -> usize
     ensures { λ r. ⌜ r ≡ bodyStart (now (s .entry)) ⌝ }
 {
     if is_advised(s) {

@@ -1,0 +1,41 @@
+// Normalise (paper 01, "Operations"): the normal form of an accepted interchange in a lent buffer.
+// It promises, for any bytes, the answer that `operations` gives and every byte of the buffer at
+// exit: bytes beyond the normal form, and all of them where something is refused, keep their values.
+ghost use mathlib.Core.Path.{_≡_};
+ghost use mathlib.Core.Option.{none};
+ghost use Rattle.verdict.specs.Stages.{refusalOf};
+ghost use Rattle.answers.specs.Answers.{toldStored};
+ghost use Rattle.operations.specs.Judge.{interchangeOf, normalise as normaliseOf, normaliseBuffer};
+use answers::Interchange;
+use answers::Judged;
+use answers::Stored;
+use refusals::Fault;
+use refusals::Refusal;
+
+// Stores the normal form of an interchange that was accepted.
+fn store_form(buffer: &mut [u8], s: &[u8], i: Interchange) -> Stored
+    requires { ⌜ (refusalOf (now s) ≡ none) × (i ≡ interchangeOf (now s)) ⌝ }
+    ensures { λ r. ⌜ (toldStored r ≡ normaliseOf (now (buffer .entry)) (now (s .entry))) × (now (buffer .exit) ≡ normaliseBuffer (now (buffer .entry)) (now (s .entry))) ⌝ }
+{
+    let length = i.length;
+    if buffer.len() < length {
+        return Stored::Refused(Refusal {
+            fault: Fault::BufferShort,
+            place: length,
+        });
+    }
+    let c = i.characters;
+    let mark = c.mark;
+    storing::put_advice(buffer, emitting::normal_characters(mark));
+    emitting::put_contents(buffer, 9, mark, s, c, opening::body_start(s));
+    Stored::Length(length)
+}
+
+pub fn normalise(buffer: &mut [u8], s: &[u8]) -> Stored
+    ensures { λ r. ⌜ (toldStored r ≡ normaliseOf (now (buffer .entry)) (now (s .entry))) × (now (buffer .exit) ≡ normaliseBuffer (now (buffer .entry)) (now (s .entry))) ⌝ }
+{
+    match judging::judge(s) {
+        Judged::Refused(r) => Stored::Refused(r),
+        Judged::Accepted(i) => store_form(buffer, s, i),
+    }
+}
