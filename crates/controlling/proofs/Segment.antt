@@ -1,8 +1,8 @@
 -- What one segment comes to, from what is kept, is what it comes to behind all that passed. Assumes nothing.
-use Prim.Native.Nat.{ℕ, _+_, _<_}
+use Prim.Native.Nat.{ℕ, _<_}
 use mathlib.Core.Path.{_≡_, refl, sym, ap, ap₂, subst, _∙_}
 use mathlib.Core.Bool.{Bool, true, false, not, _&&_, _||_}
-use mathlib.Core.List.{List, [], _∷_, map}
+use mathlib.Core.List.{List, map}
 use mathlib.Core.Option.{Option, none, some}
 use mathlib.Core.Logic.{_⊎_, inl, inr, ⊎-elim}
 use native.Mathlib.Omega.{arith}
@@ -14,7 +14,7 @@ use Rattle.refusals.specs.declared.Fault.the-variants.{BadControl, ReferenceDif
 use Rattle.refusals.specs.declared.Outcome.{Outcome}
 use Rattle.refusals.specs.declared.Outcome.the-variants.{Passed}
 use Rattle.refusals.specs.Refusals.{outcome}
-use Rattle.reading.specs.Tokens.{Token, Segment, start}
+use Rattle.reading.specs.Tokens.{Token, Segment}
 use Rattle.reading.proofs.Steps.{tokensAt}
 use Rattle.scanner.specs.Scan.{segmentAt}
 use Rattle.scanner.proofs.Segments.{segment-start}

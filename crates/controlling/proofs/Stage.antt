@@ -129,13 +129,14 @@ module _ (c : Characters) (s : List ℕ) where
       passing-failed f = goes-on ∙ ap (λ (o : Outcome). orNext o (comesTo (g ∷ i .past) next)) f
 
       -- a segment that passes is one more of those that passed
-      pub passing-next : {behind : Walk} {kept : Headers} → answer ≡ Passed → behind ≡ steppedBy walk kind → kept ≡ headersBehind headers kind reference
-          → Passing from behind kept next
+      pub passing-next : {behind : Walk} {kept : Headers} → answer ≡ Passed → behind ≡ steppedBy walk kind
+          → kept ≡ headersBehind headers kind reference → Passing from behind kept next
       passing-next {behind} {kept} f w u =
           record {
             past = g ∷ i .past;
             kept =
-                subst₂ (Kept c s (g ∷ i .past)) (sym (w ∙ ap (steppedBy walk) k)) (sym (u ∙ ap (λ (kind : Kind). headersBehind headers kind reference) k))
+                subst₂ (Kept c s (g ∷ i .past))
+                (sym (w ∙ ap (steppedBy walk) k)) (sym (u ∙ ap (λ (kind : Kind). headersBehind headers kind reference) k))
                 (kept-more c s (i .past) at (subst (λ (r : Positions). ElementAt c s at (r .reference) reference) (q ∙ ap positionsOf k) e)
                 (rule-kept (i .past) g (sym answer-is ∙ f)) (i .kept));
             fewer = omega (arith, i .fewer, n .2 inside);

@@ -73,6 +73,11 @@ trailerBy at reference counted header count =
     else failedAt ReferenceDiffers at)
     else failedAt BadControl at
 
+-- the same, from the places at which they are spelled
+abbrev pub trailerAt : Characters → List ℕ → ℕ → ℕ → ℕ → ℕ → ℕ → Outcome
+trailerAt c s at reference counted header count =
+    trailerBy at (tokensAt c s reference) (tokensAt c s counted) (tokensAt c s header) count
+
 -- the segment at a place, whose reference is spelled at `reference`
 unfoldable pub controlledBy : Characters → List ℕ → ℕ → Positions → ℕ → ℕ → ℕ → Outcome
 controlledBy c s at p reference header count =

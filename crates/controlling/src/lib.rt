@@ -8,7 +8,7 @@ ghost use Rattle.refusals.specs.Refusals.{outcome};
 ghost use Rattle.reading.proofs.Steps.{tokensAt};
 ghost use Rattle.machines.specs.Walks.{controlled};
 ghost use Rattle.walking.specs.Walking.{Within};
-ghost use Rattle.controlling.specs.Controlling.{failedAt, headerKept, headersBehind, groupsOrMessages, countDue, trailerBy, controlledBy};
+ghost use Rattle.controlling.specs.Controlling.{failedAt, headerKept, headersBehind, groupsOrMessages, countDue, trailerAt, controlledBy};
 use characters::Characters;
 use control::Positions;
 use control::positions_of;
@@ -121,7 +121,7 @@ fn trailer_control(
     header: usize,
     count: u32,
 ) -> Outcome
-    ensures { λ r. ⌜ r ≡ trailerBy at (tokensAt c (now (s .entry)) reference) (tokensAt c (now (s .entry)) counted) (tokensAt c (now (s .entry)) header) count ⌝ }
+    ensures { λ r. ⌜ r ≡ trailerAt c (now (s .entry)) at reference counted header count ⌝ }
 {
     let field = field_at(s, c, counted);
     if !is_count(field) {

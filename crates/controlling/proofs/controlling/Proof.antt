@@ -37,7 +37,8 @@ header-of-requires : tie.Need-header-of-requires Inv-loop μ-loop
 header-of-requires c κs = search needs
 
 true-count-requires : tie.Need-true-count-requires Inv-loop μ-loop
-true-count-requires c κs = let state = c .before .before .before .before .before .before .loop in passing-within _ _ (state .inv) (omega arith)
+true-count-requires c κs =
+    let inside = c .before .before .before .before .before in passing-within _ _ (inside .before .loop .inv) (omega arith)
 
 segment-control-requires : tie.Need-segment-control-requires Inv-loop μ-loop
 segment-control-requires c κs = search needs
@@ -59,14 +60,18 @@ enum-told : tie.Need-enum-told Inv-loop μ-loop
 enum-told c = search needs
 
 stepped-requires : tie.Need-stepped-requires Inv-loop μ-loop
-stepped-requires c κs = let state = c .before .before .before .before .before .before .before .before .before .before .loop in passing-within _ _ (state .inv) (omega arith)
+stepped-requires c κs =
+    let inside = c .before .before .before .before .before .before .before .before .before in
+    passing-within _ _ (inside .before .loop .inv) (omega arith)
 
 passed-header-requires : tie.Need-passed-header-requires Inv-loop μ-loop
 passed-header-requires c κs = search needs
 
 loop-less : tie.Need-loop-less Inv-loop μ-loop
 loop-less c =
-    let inside = c .before .before .before .before .before .before .before .before .before .before .before .loop-test .taken in falls _ _ _ inside (c .before .before .before .before .before .before .before .segment-end .ensures .2 inside)
+    let ended = c .before .before .before .before .before .before .before in
+    let inside = ended .before .before .before .before .loop-test .taken in
+    falls _ _ _ inside (ended .segment-end .ensures .2 inside)
 
 loop-again : tie.Need-loop-again Inv-loop μ-loop
 loop-again c =

@@ -1,4 +1,5 @@
--- `controlling::segment_control` meets its contract: it asks the tests one behind the other, and leaves a trailer's to `trailer_control`. Assumes nothing.
+-- `controlling::segment_control` meets its contract: it asks whether there is a reference, whether it is one,
+-- and whether there is a count; what a trailer says is left to `trailer_control`. Assumes nothing.
 use mathlib.Core.Path.{sym, _∙_}
 use borrow.Author.Tests.{not-true, not-false, eq-eqb, ne-eqb}
 use Rattle.controlling.specs.Controlling.{controlledBy}
@@ -22,13 +23,24 @@ failed-requires c κs = search needs
 returns-2 : tie.Need-returns-2
 unfolding controlledBy
 returns-2 c =
-    rw (ne-eqb _ 0 (c .before .before .before .before .if1 .left), sym (c .before .before .before .field-at .ensures), sym (c .before .before .is-reference .ensures) ∙ not-true _ (c .before .if2 .taken))
+    let tested = c .before in
+    rw (
+      ne-eqb _ 0 (tested .before .before .before .if1 .left),
+      sym (tested .before .before .field-at .ensures),
+      sym (tested .before .is-reference .ensures) ∙ not-true _ (tested .if2 .taken),
+    )
     (c .failed .ensures)
 
 returns-3 : tie.Need-returns-3
 unfolding controlledBy
 returns-3 c =
-    rw (ne-eqb _ 0 (c .before .before .before .before .before .if1 .left), sym (c .before .before .before .before .field-at .ensures), sym (c .before .before .before .is-reference .ensures) ∙ not-false _ (c .before .before .if2 .left), eq-eqb _ 0 (c .if3 .taken))
+    let tested = c .before .before in
+    rw (
+      ne-eqb _ 0 (tested .before .before .before .if1 .left),
+      sym (tested .before .before .field-at .ensures),
+      sym (tested .before .is-reference .ensures) ∙ not-false _ (tested .if2 .left),
+      eq-eqb _ 0 (c .if3 .taken),
+    )
 
 element-at-requires : tie.Need-element-at-requires
 element-at-requires c κs = search needs
@@ -39,7 +51,15 @@ trailer-control-requires c κs = search needs
 returns-4 : tie.Need-returns-4
 unfolding controlledBy
 returns-4 c =
-    rw (ne-eqb _ 0 (c .before .before .before .before .before .before .before .if1 .left), sym (c .before .before .before .before .before .before .field-at .ensures), sym (c .before .before .before .before .before .is-reference .ensures) ∙ not-false _ (c .before .before .before .before .if2 .left), ne-eqb _ 0 (c .before .before .if3 .left), sym (c .before .element-at .ensures .0))
+    let counted = c .before .before in
+    let tested = counted .before .before in
+    rw (
+      ne-eqb _ 0 (tested .before .before .before .if1 .left),
+      sym (tested .before .before .field-at .ensures),
+      sym (tested .before .is-reference .ensures) ∙ not-false _ (tested .if2 .left),
+      ne-eqb _ 0 (counted .if3 .left),
+      sym (c .before .element-at .ensures .0),
+    )
     (c .trailer-control .ensures)
 
 pub segment-control-spec : {M : Type 1} → statement M

@@ -17,7 +17,10 @@ failed-requires c κs = search needs
 
 returns : tie.Need-returns
 unfolding trailerBy
-returns c = rw (sym (c .before .before .before .field-at .ensures), sym (c .before .before .is-count .ensures) ∙ not-true _ (c .before .if1 .taken)) (c .failed .ensures)
+returns c =
+    let tested = c .before in
+    rw (sym (tested .before .before .field-at .ensures), sym (tested .before .is-count .ensures) ∙ not-true _ (tested .if1 .taken))
+    (c .failed .ensures)
 
 same-value-requires : tie.Need-same-value-requires
 same-value-requires c κs = search needs
@@ -28,7 +31,13 @@ failed-requires-2 c κs = search needs
 returns-2 : tie.Need-returns-2
 unfolding trailerBy
 returns-2 c =
-    rw (sym (c .before .before .before .before .before .field-at .ensures), sym (c .before .before .before .before .is-count .ensures) ∙ not-false _ (c .before .before .before .if1 .left), sym (c .before .before .same-value .ensures) ∙ not-true _ (c .before .if2 .taken))
+    let compared = c .before in
+    let tested = compared .before .before in
+    rw (
+      sym (tested .before .before .field-at .ensures),
+      sym (tested .before .is-count .ensures) ∙ not-false _ (tested .if1 .left),
+      sym (compared .before .same-value .ensures) ∙ not-true _ (compared .if2 .taken),
+    )
     (c .failed2 .ensures)
 
 failed-requires-3 : tie.Need-failed-requires-3
@@ -37,13 +46,27 @@ failed-requires-3 c κs = search needs
 returns-3 : tie.Need-returns-3
 unfolding trailerBy
 returns-3 c =
-    rw (sym (c .before .before .before .before .before .before .before .field-at .ensures), sym (c .before .before .before .before .before .before .is-count .ensures) ∙ not-false _ (c .before .before .before .before .before .if1 .left), sym (c .before .before .before .before .same-value .ensures) ∙ not-false _ (c .before .before .before .if2 .left), ne-eqb _ _ (c .before .if3 .taken))
+    let compared = c .before .before .before in
+    let tested = compared .before .before in
+    rw (
+      sym (tested .before .before .field-at .ensures),
+      sym (tested .before .is-count .ensures) ∙ not-false _ (tested .if1 .left),
+      sym (compared .before .same-value .ensures) ∙ not-false _ (compared .if2 .left),
+      ne-eqb _ _ (c .before .if3 .taken),
+    )
     (c .failed3 .ensures)
 
 returns-4 : tie.Need-returns-4
 unfolding trailerBy
 returns-4 c =
-    rw (sym (c .before .before .before .before .before .before .field-at .ensures), sym (c .before .before .before .before .before .is-count .ensures) ∙ not-false _ (c .before .before .before .before .if1 .left), sym (c .before .before .before .same-value .ensures) ∙ not-false _ (c .before .before .if2 .left), eq-eqb _ _ (c .if3 .left))
+    let compared = c .before .before in
+    let tested = compared .before .before in
+    rw (
+      sym (tested .before .before .field-at .ensures),
+      sym (tested .before .is-count .ensures) ∙ not-false _ (tested .if1 .left),
+      sym (compared .before .same-value .ensures) ∙ not-false _ (compared .if2 .left),
+      eq-eqb _ _ (c .if3 .left),
+    )
 
 pub trailer-control-spec : {M : Type 1} → statement M
 trailer-control-spec =
