@@ -1,0 +1,105 @@
+-- The opening: refusals 2 and 3 are not met exactly where the input begins as an interchange does. Assumes nothing.
+use Prim.Native.Nat.{ℕ, _≤_}
+use mathlib.Core.Path.{_≡_, refl, sym, ap, ap₂, _∙_}
+use mathlib.Core.Logic.{_↔_}
+use mathlib.Core.Bool.{Bool, true, false, not, _&&_, _||_, false≢true}
+use mathlib.Core.List.{List, [], _∷_, _++_}
+use native.Mathlib.Omega.{arith}
+use lib.ListN.{length, drop, length-drop}
+use lib.Seq.{drop-drop}
+use lib.Dec.{eqb, ltb}
+use borrow.Author.Tests.{eqb-true, eq-eqb, ltb-false, le-ltb, not-false}
+use Rattle.lists.specs.Lists.{if_then_else_, text, begins, member, all, allDiffer}
+use Rattle.lists.proofs.Texts.{if-true, and-left, and-right, and-both, or-none-left, or-none-right}
+use Rattle.characters.specs.declared.Characters.{Characters}
+use Rattle.characters.specs.Characters.{between, upper, lower, digit, separates, released, serviceCharacters, usable, sixBytes, spelledOut, advised, adviceOf, plusCharacters, controlCharacters, charactersOf, bodyStart, body, badAdvice, opens}
+use Rattle.acceptance.specs.Allowed.{Opening, advice, plus, control}
+
+-- what begins with a text is the text and the rest
+begins-split : (ps xs : List ℕ) → begins ps xs ≡ true → xs ≡ ps ++ drop (length ps) xs
+unfolding begins
+begins-split [] xs h = refl
+begins-split (p ∷ ps) [] h = absurd (false≢true h)
+begins-split (p ∷ ps) (x ∷ xs) h =
+    ap (λ (y : ℕ). y ∷ xs) (sym (eqb-true p x (and-left (eqb p x) (begins ps xs) h)))
+    ∙ ap (λ (l : List ℕ). p ∷ l) (begins-split ps xs (and-right (eqb p x) (begins ps xs) h))
+
+begins-own : (ps rest : List ℕ) → begins ps (ps ++ rest) ≡ true
+unfolding begins
+begins-own [] rest = refl
+begins-own (p ∷ ps) rest = and-both (eqb p p) (begins ps (ps ++ rest)) (eq-eqb p p refl) (begins-own ps rest)
+
+-- six bytes and more are the six and the rest
+six-split : (xs : List ℕ) → 6 ≤ length xs → xs ≡ spelledOut (sixBytes xs) ++ drop 6 xs
+unfolding spelledOut sixBytes
+six-split [] h = absurd (omega arith)
+six-split (a ∷ []) h = absurd (omega arith)
+six-split (a ∷ b ∷ []) h = absurd (omega arith)
+six-split (a ∷ b ∷ c ∷ []) h = absurd (omega arith)
+six-split (a ∷ b ∷ c ∷ d ∷ []) h = absurd (omega arith)
+six-split (a ∷ b ∷ c ∷ d ∷ e ∷ []) h = absurd (omega arith)
+six-split (a ∷ b ∷ c ∷ d ∷ e ∷ f ∷ xs) h = refl
+
+module _ (s : List ℕ) where
+  -- ---- where neither refusal is met
+
+  body-opens : opens s ≡ true → body s ≡ text "UNB" ++ charactersOf s .element ∷ drop 4 (body s)
+  unfolding opens
+  body-opens = begins-split (text "UNB" ++ charactersOf s .element ∷ []) (body s)
+
+  opening-advice : advised s ≡ true → badAdvice s ≡ false → opens s ≡ true → Opening s
+  unfolding advised badAdvice charactersOf body bodyStart adviceOf
+  opening-advice e bad o =
+      let fit : (ltb (length s) 9 || not (usable (charactersOf s))) ≡ false = sym (ap (λ (t : Bool). t && (ltb (length s) 9 || not (usable (charactersOf s)))) e) ∙ bad in
+      let c : charactersOf s ≡ sixBytes (drop 3 s) = if-true (advised s) (sixBytes (drop 3 s)) (if begins (text "UNB+") s then plusCharacters else controlCharacters) e in
+      let long : 9 ≤ length s = ltb-false (length s) 9 (or-none-left (ltb (length s) 9) (not (usable (charactersOf s))) fit) in
+      let follows : body s ≡ drop 9 s = ap (λ (t : Bool). drop (if t then 9 else 0) s) e in
+      advice (charactersOf s) (drop 4 (body s))
+      (not-false (usable (charactersOf s)) (or-none-right (ltb (length s) 9) (not (usable (charactersOf s))) fit))
+      (begins-split (text "UNA") s e
+      ∙ ap (λ (l : List ℕ). text "UNA" ++ l) (six-split (drop 3 s) (omega (arith, length-drop 3 s)) ∙ ap (λ (d : Characters). spelledOut d ++ drop 6 (drop 3 s)) (sym c))
+      ∙ ap (λ (l : List ℕ). adviceOf (charactersOf s) ++ l) (drop-drop 6 3 s ∙ sym follows ∙ body-opens o))
+
+  opening-none : advised s ≡ false → opens s ≡ true → Opening s
+  unfolding charactersOf body bodyStart plusCharacters controlCharacters sixBytes
+  opening-none e o = step (begins (text "UNB+") s) refl
+    where
+      whole : body s ≡ s
+      whole = ap (λ (t : Bool). drop (if t then 9 else 0) s) e
+
+      step : (t : Bool) → begins (text "UNB+") s ≡ t → Opening s
+      step true b = plus (drop 4 s) (begins-split (text "UNB+") s b)
+      step false b =
+          let c : charactersOf s ≡ controlCharacters = ap (λ (t : Bool). if t then sixBytes (drop 3 s) else if begins (text "UNB+") s then plusCharacters else controlCharacters) e ∙ ap (λ (t : Bool). if t then plusCharacters else controlCharacters) b in
+          control (drop 4 (body s)) (sym whole ∙ body-opens o ∙ ap (λ (d : Characters). text "UNB" ++ d .element ∷ drop 4 (body s)) c)
+
+-- ---- where the input begins so
+
+-- its service characters are usable
+pub usable-opening : {s : List ℕ} → Opening s → usable (charactersOf s) ≡ true
+unfolding charactersOf advised adviceOf begins sixBytes spelledOut usable plusCharacters controlCharacters serviceCharacters released member all allDiffer separates between upper lower digit
+usable-opening (advice c rest u e) = ap (λ (s : List ℕ). usable (charactersOf s)) e ∙ u
+usable-opening (plus rest e) = ap (λ (s : List ℕ). usable (charactersOf s)) e
+usable-opening (control rest e) = ap (λ (s : List ℕ). usable (charactersOf s)) e
+
+good-advice : {s : List ℕ} → Opening s → badAdvice s ≡ false
+unfolding badAdvice advised begins adviceOf charactersOf sixBytes spelledOut
+good-advice (advice c rest u e) =
+    ap badAdvice e
+    ∙ ap₂ (λ (short fit : Bool). short || not fit) (le-ltb (length (adviceOf c ++ (text "UNB" ++ c .element ∷ rest))) 9 (omega arith)) u
+good-advice (plus rest e) = ap badAdvice e
+good-advice (control rest e) = ap badAdvice e
+
+opens-opening : {s : List ℕ} → Opening s → opens s ≡ true
+unfolding opens advised begins adviceOf charactersOf sixBytes spelledOut body bodyStart plusCharacters controlCharacters
+opens-opening (advice c rest u e) = ap opens e ∙ begins-own (text "UNB" ++ c .element ∷ []) rest
+opens-opening (plus rest e) = ap opens e
+opens-opening (control rest e) = ap opens e
+
+-- neither refusal 2 nor refusal 3 is met exactly where the input begins so
+pub opening-clear : (s : List ℕ) → (badAdvice s ≡ false) × (opens s ≡ true) ↔ Opening s
+opening-clear s = (λ h. step (advised s) refl h, λ o. (good-advice o, opens-opening o))
+  where
+    step : (t : Bool) → advised s ≡ t → (badAdvice s ≡ false) × (opens s ≡ true) → Opening s
+    step true e h = opening-advice s e (h .0) (h .1)
+    step false e h = opening-none s e (h .1)

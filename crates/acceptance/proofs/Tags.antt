@@ -1,0 +1,248 @@
+-- The rule for tags: a finished segment passes the test of refusal 6 exactly where its values are tagged. Assumes nothing.
+use Prim.Native.Nat.{ℕ, _≤_}
+use mathlib.Core.Path.{_≡_, refl, sym, ap, ap₂, subst, _∙_}
+use mathlib.Core.Logic.{_↔_, ⊎-elim}
+use mathlib.Core.Bool.{Bool, true, false, not, _&&_, _||_, or-true, and-false, false≢true}
+use mathlib.Core.List.{List, [], _∷_, _++_, map, List·Memᴰ, Memᴰ·map, Memᴰ·of-map}
+use native.Mathlib.Omega.{arith}
+use lib.ListN.{length}
+use lib.Dec.{eqb, leb, lit≤}
+use borrow.Author.Tests.{eqb-true, leb-true, le-leb, not-false}
+use Rattle.lists.specs.Lists.{if_then_else_, text, same, begins, member, isEmpty, all, through, lastOr, cut}
+use Rattle.lists.proofs.Texts.{and-left, and-right, and-both, or-cases}
+use Rattle.lists.proofs.Pieces.{beyond, cut-first}
+use Rattle.characters.specs.Characters.{between, upper, digit}
+use Rattle.reading.specs.Tokens.{Token, byte, separator, fault, ends, Segment, segments}
+use Rattle.reading.specs.Values.{bytesOf, valueOf, valuesOf, elementsOf, isFault, endedBy, finished}
+use Rattle.reading.specs.Spelling.{Bytes}
+use Rattle.segments.specs.declared.Kind.the-variants.{Unb, Ung, Unh, Uns, Unt, Une, Unz, User}
+use Rattle.segments.specs.Kinds.{is, kindNamed}
+use Rattle.segments.specs.Tags.{tagPiece, tagOf, kindOf, isTag, tagRule}
+use Rattle.verdict.specs.Contents.{bodyTokens, segmentsOf}
+use Rattle.verdict.specs.Places.{brokenTags}
+use Rattle.spelling.specs.Bodies.{wordsOf, listed, Sound}
+use Rattle.acceptance.specs.Allowed.{TagByte, letter, figure, Tagged}
+use Rattle.acceptance.proofs.Clear.{starts-none}
+use Rattle.acceptance.proofs.Pieces.{sound-finished}
+
+-- ---- the first value of a segment is its tag
+
+-- what ends a segment ends an element, what ends an element ends a value
+ends-more : (kind other : ℕ) → kind ≤ other → (t : Token) → ends kind t ≡ true → ends other t ≡ true
+unfolding ends
+ends-more kind other k (byte b from place) h = absurd (false≢true h)
+ends-more kind other k (separator j place) h = le-leb j other (omega (arith, leb-true j kind h))
+ends-more kind other k (fault place) h = absurd (false≢true h)
+
+-- The first value of the first element is the first value of the segment; nothing follows it in its element exactly where what
+-- ends it ends the element.
+first-value : (g : Segment) → endedBy 0 g ≡ true
+    → (through (ends 2) (through (ends 1) g) ≡ through (ends 2) g)
+    × (isEmpty (beyond (ends 2) (through (ends 1) g)) ≡ endedBy 1 (through (ends 2) g))
+unfolding through beyond endedBy lastOr isEmpty
+first-value [] h = absurd (false≢true h)
+first-value (t ∷ []) h = (simp (ends-more 0 2 (lit≤ tt) t h), simp (ends-more 0 1 (lit≤ tt) t h, ends-more 0 2 (lit≤ tt) t h))
+first-value (t ∷ u ∷ us) h = step (ends 1 t) refl (ends 2 t) (ends-more 1 2 (lit≤ tt) t) (first-value (u ∷ us) h)
+  where
+    rest : ℕ → List Token
+    rest kind = through (ends kind) (u ∷ us)
+
+    step : (a : Bool) → ends 1 t ≡ a → (b : Bool) → (a ≡ true → b ≡ true)
+        → (through (ends 2) (rest 1) ≡ rest 2) × (isEmpty (beyond (ends 2) (rest 1)) ≡ endedBy 1 (rest 2))
+        → (t ∷ (if b then [] else through (ends 2) (if a then [] else rest 1)) ≡ t ∷ (if b then [] else rest 2))
+        × (isEmpty (if b then (if a then [] else rest 1) else beyond (ends 2) (if a then [] else rest 1))
+        ≡ endedBy 1 (t ∷ (if b then [] else rest 2)))
+    step true e true k ih = (refl, sym e)
+    step false e true k ih = (refl, sym e)
+    step true e false k ih = absurd (false≢true (k refl))
+    step false e false k ih = (ap (λ (l : List Token). t ∷ l) (ih .0), ih .1)
+
+-- the values behind the first in the first element
+abbrev repetitionOf : Segment → List Bytes
+repetitionOf g = map (λ v. v .bytes) (valuesOf (beyond (ends 2) (through (ends 1) g)))
+
+words-first : (g : Segment) → endedBy 0 g ≡ true → wordsOf g ≡ (tagOf g ∷ repetitionOf g) ∷ wordsOf (beyond (ends 1) g)
+unfolding wordsOf elementsOf valuesOf valueOf tagOf tagPiece through endedBy
+words-first [] h = absurd (false≢true h)
+words-first (t ∷ ts) h =
+    let first : List Token = through (ends 1) (t ∷ ts) in
+    let others : List (List Bytes) = wordsOf (beyond (ends 1) (t ∷ ts)) in
+    ap (λ (l : List (List Token)). map (map (λ v. v .bytes)) (map valuesOf l)) (cut-first (ends 1) t ts)
+    ∙ ap (λ (l : List (List Token)). map (λ v. v .bytes) (map valueOf l) ∷ others)
+    (cut-first (ends 2) t (if ends 1 t then [] else through (ends 1) ts))
+    ∙ ap (λ (l : List Token). (bytesOf l ∷ repetitionOf (t ∷ ts)) ∷ others) (first-value (t ∷ ts) h .0)
+
+-- nothing is there exactly where nothing is made of it, cut or whole
+empty-map : {A B : Type 0} (f : A → B) (xs : List A) → isEmpty (map f xs) ≡ isEmpty xs
+unfolding isEmpty
+empty-map f [] = refl
+empty-map f (x ∷ xs) = refl
+
+empty-cut : {A : Type 0} (t : A → Bool) (xs : List A) → isEmpty (cut t xs) ≡ isEmpty xs
+unfolding cut isEmpty
+empty-cut t [] = refl
+empty-cut t (x ∷ xs) = ap isEmpty (cut-first t x xs)
+
+empty-nil : {A : Type 0} (xs : List A) → (isEmpty xs ≡ true) ↔ (xs ≡ [])
+unfolding isEmpty
+empty-nil [] = (λ h. refl, λ e. refl)
+empty-nil (x ∷ xs) = (λ h. absurd (false≢true h), ap isEmpty)
+
+-- nothing follows the tag in its element exactly where what ends it ends the element
+repetition-none : (g : Segment) → endedBy 0 g ≡ true → isEmpty (repetitionOf g) ≡ endedBy 1 (tagPiece g)
+unfolding valuesOf tagPiece
+repetition-none g h =
+    let behind : List Token = beyond (ends 2) (through (ends 1) g) in
+    empty-map (λ v. v .bytes) (valuesOf behind)
+    ∙ empty-map valueOf (cut (ends 2) behind)
+    ∙ empty-cut (ends 2) behind
+    ∙ first-value g h .1
+
+-- ---- the bytes of a tag
+
+third-byte : (c : ℕ) → not (is User (kindNamed (text "UN" ++ c ∷ []))) ≡ member c (text "BGHSTEZ")
+unfolding is kindNamed same member
+third-byte c = step (eqb c 66) (eqb c 71) (eqb c 72) (eqb c 83) (eqb c 84) (eqb c 69) (eqb c 90)
+  where
+    step : (b g h s t e z : Bool)
+        → not (is User (if b && true then Unb else if g && true then Ung else if h && true then Unh else if s && true then Uns else if t && true then Unt else if e && true then Une else if z && true then Unz else User))
+        ≡ (b || (g || (h || (s || (t || (e || (z || false)))))))
+    step true g h s t e z = refl
+    step false true h s t e z = refl
+    step false false true s t e z = refl
+    step false false false true t e z = refl
+    step false false false false true e z = refl
+    step false false false false false true z = refl
+    step false false false false false false true = refl
+    step false false false false false false false = refl
+
+tag-byte : (b : ℕ) → ((upper b || digit b) ≡ true) ↔ TagByte b
+unfolding upper digit between
+tag-byte b = (
+  λ h.
+      ⊎-elim (λ e. letter (leb-true 65 b (and-left (leb 65 b) (leb b 90) e)) (leb-true b 90 (and-right (leb 65 b) (leb b 90) e)))
+      (λ e. figure (leb-true 48 b (and-left (leb 48 b) (leb b 57) e)) (leb-true b 57 (and-right (leb 48 b) (leb b 57) e)))
+      (or-cases (upper b) (digit b) h),
+  back,
+)
+  where
+    back : TagByte b → (upper b || digit b) ≡ true
+    back (letter l h) = ap (λ (t : Bool). t || digit b) (and-both (leb 65 b) (leb b 90) (le-leb 65 b l) (le-leb b 90 h))
+    back (figure l h) =
+        ap (λ (t : Bool). upper b || t) (and-both (leb 48 b) (leb b 57) (le-leb 48 b l) (le-leb b 57 h)) ∙ or-true (upper b)
+
+-- ---- the rule
+
+-- the test of refusal 6, of a tag behind which its element ends or does not
+abbrev keeps : Bytes → Bool → Bool
+keeps tag alone = isTag tag && (not (begins (text "UN") tag) || (not (is User (kindNamed tag)) && alone))
+
+-- what is asked of the three bytes of a tag
+abbrev Kept : ℕ → ℕ → ℕ → Bool → Type 0
+Kept a b c alone =
+    (TagByte a × TagByte b × TagByte c) × (a ∷ b ∷ [] ≡ text "UN" → (member c (text "BGHSTEZ") ≡ true) × (alone ≡ true))
+
+module _ (a b c : ℕ) (alone : Bool) where
+  abbrev tag : Bytes
+  tag = a ∷ b ∷ c ∷ []
+
+  abbrev isByte : ℕ → Bool
+  isByte x = upper x || digit x
+
+  abbrev service : Bool
+  service = not (is User (kindNamed tag))
+
+  -- behind `UN`, the test asks for the third byte
+  service-third : a ∷ b ∷ [] ≡ text "UN" → service ≡ member c (text "BGHSTEZ")
+  service-third e = ap (λ (l : Bytes). not (is User (kindNamed (l ++ c ∷ [])))) e ∙ third-byte c
+
+  begins-un : a ∷ b ∷ [] ≡ text "UN" → begins (text "UN") tag ≡ true
+  unfolding begins
+  begins-un e = ap (λ (l : Bytes). begins (text "UN") (l ++ c ∷ [])) e
+
+  un-begins : begins (text "UN") tag ≡ true → a ∷ b ∷ [] ≡ text "UN"
+  unfolding begins
+  un-begins h =
+      ap₂ (λ (x y : ℕ). x ∷ y ∷ []) (sym (eqb-true 85 a (and-left (eqb 85 a) (eqb 78 b && true) h)))
+      (sym (eqb-true 78 b (and-left (eqb 78 b) true (and-right (eqb 85 a) (eqb 78 b && true) h))))
+
+  kept : (keeps tag alone ≡ true) ↔ Kept a b c alone
+  unfolding isTag all
+  kept = (
+    λ h.
+        let bytes : (isByte a && (isByte b && (isByte c && true))) ≡ true = and-left (isTag tag) (not (begins (text "UN") tag) || (service && alone)) h in
+        let rest : (isByte b && (isByte c && true)) ≡ true = and-right (isByte a) (isByte b && (isByte c && true)) bytes in
+        (
+          (
+            tag-byte a .0 (and-left (isByte a) (isByte b && (isByte c && true)) bytes),
+            tag-byte b .0 (and-left (isByte b) (isByte c && true) rest),
+            tag-byte c .0 (and-left (isByte c) true (and-right (isByte b) (isByte c && true) rest)),
+          ),
+          λ e.
+              let asked : (service && alone) ≡ true = sym (ap (λ (t : Bool). not t || (service && alone)) (begins-un e)) ∙ and-right (isTag tag) (not (begins (text "UN") tag) || (service && alone)) h in
+              (sym (service-third e) ∙ and-left service alone asked, and-right service alone asked),
+        ),
+    λ k.
+        and-both (isTag tag) (not (begins (text "UN") tag) || (service && alone))
+        (and-both (isByte a) (isByte b && (isByte c && true)) (tag-byte a .1 (k .0 .0))
+        (and-both (isByte b) (isByte c && true) (tag-byte b .1 (k .0 .1)) (and-both (isByte c) true (tag-byte c .1 (k .0 .2)) refl)))
+        (step (begins (text "UN") tag) refl (k .1)),
+  )
+    where
+      step : (t : Bool) → begins (text "UN") tag ≡ t
+          → (a ∷ b ∷ [] ≡ text "UN" → (member c (text "BGHSTEZ") ≡ true) × (alone ≡ true)) → (not t || (service && alone)) ≡ true
+      step true e k = let u = un-begins e in and-both service alone (service-third u ∙ k u .0) (k u .1)
+      step false e k = refl
+
+three : (tag : Bytes) → length tag ≡ 3 → (a : ℕ) × (b : ℕ) × (c : ℕ) × (tag ≡ a ∷ b ∷ c ∷ [])
+three [] h = absurd (omega arith)
+three (a ∷ []) h = absurd (omega arith)
+three (a ∷ b ∷ []) h = absurd (omega arith)
+three (a ∷ b ∷ c ∷ []) h = (a, b, c, refl)
+three (a ∷ b ∷ c ∷ d ∷ tag) h = absurd (omega arith)
+
+-- a finished segment passes the test exactly where its values are tagged
+pub tag-rule : (g : Segment) → endedBy 0 g ≡ true → (tagRule g ≡ true) ↔ Tagged (wordsOf g)
+unfolding tagRule kindOf isTag
+tag-rule g ended = (
+  λ h.
+      let (a, b, c, e) = three (tagOf g) (eqb-true (length (tagOf g)) 3 (and-left (eqb (length (tagOf g)) 3) (all (λ x. upper x || digit x) (tagOf g)) (and-left (isTag (tagOf g)) (not (begins (text "UN") (tagOf g)) || (not (is User (kindOf g)) && alone)) h))) in
+      let k = kept a b c alone .0 (subst (λ (l : Bytes). keeps l alone ≡ true) e h) in
+      record {
+        first = a;
+        second = b;
+        third = c;
+        repetition = repetitionOf g;
+        elements = wordsOf (beyond (ends 1) g);
+        shape = words-first g ended ∙ ap (λ (l : Bytes). (l ∷ repetitionOf g) ∷ wordsOf (beyond (ends 1) g)) e;
+        bytes = k .0;
+        service = λ u. (k .1 u .0, empty-nil (repetitionOf g) .0 (repetition-none g ended ∙ k .1 u .1));
+      },
+  λ d.
+      let same : (tagOf g ∷ repetitionOf g) ∷ wordsOf (beyond (ends 1) g) ≡ ((d .first ∷ d .second ∷ d .third ∷ []) ∷ d .repetition) ∷ d .elements = sym (words-first g ended) ∙ d .shape in
+      let e : tagOf g ≡ d .first ∷ d .second ∷ d .third ∷ [] = cc same in
+      let r : repetitionOf g ≡ d .repetition = cc same in
+      subst (λ (l : Bytes). keeps l alone ≡ true) (sym e)
+      (kept (d .first) (d .second) (d .third) alone .1 (d .bytes, λ u. (d .service u .0, sym (repetition-none g ended) ∙ empty-nil (repetitionOf g) .1 (r ∙ d .service u .1)))),
+)
+  where
+    alone : Bool
+    alone = endedBy 1 (tagPiece g)
+
+-- where neither 4 nor 5 is met, 6 is not met exactly where every segment is tagged
+pub tags-clear : (s : List ℕ) → Sound (bodyTokens s)
+    → (brokenTags s ≡ []) ↔ ((segment : List (List Bytes)) → List·Memᴰ segment (listed (bodyTokens s)) → Tagged segment)
+unfolding brokenTags segmentsOf listed finished
+tags-clear s sound = (
+  λ h segment m.
+      let (g, k, e) = Memᴰ·of-map wordsOf (segments (bodyTokens s)) m in
+      subst Tagged e (tag-rule g (ended g k) .0 (not-false (tagRule g) (sym (ap (λ (t : Bool). t && not (tagRule g)) (sound-finished (bodyTokens s) sound g k)) ∙ none .0 h g k))),
+  λ tagged.
+      none .1 (λ g k. ap (λ (t : Bool). finished g && not t) (tag-rule g (ended g k) .1 (tagged (wordsOf g) (Memᴰ·map wordsOf k))) ∙ and-false (finished g)),
+)
+  where
+    none : (brokenTags s ≡ []) ↔ ((g : Segment) → List·Memᴰ g (segmentsOf s) → (finished g && not (tagRule g)) ≡ false)
+    none = starts-none (λ g. finished g && not (tagRule g)) [] (segmentsOf s)
+
+    ended : (g : Segment) → List·Memᴰ g (segments (bodyTokens s)) → endedBy 0 g ≡ true
+    ended g k = and-left (endedBy 0 g) (all (λ t. not (isFault t)) g) (sound-finished (bodyTokens s) sound g k)
