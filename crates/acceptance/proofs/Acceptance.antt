@@ -79,7 +79,7 @@ module _ (s : List ℕ) where
     spelled-exactly = passes-exactly (charactersOf s) u (bodyStart s) (body s)
 
     -- by no other
-    list-is : (d : Spelled (charactersOf s) (body s)) → d .list ≡ listed (bodyTokens s)
+    pub list-is : (d : Spelled (charactersOf s) (body s)) → d .list ≡ listed (bodyTokens s)
     unfolding bodyTokens readList
     list-is d =
         sym (read-spelling (charactersOf s) u (bodyStart s) (d .list) (d .shaped) (d .releasable))

@@ -5,3 +5,5 @@ pub mod Tags
 pub mod Levels
 pub mod Stages
 pub mod Acceptance
+pub mod Counts
+pub mod Judged
