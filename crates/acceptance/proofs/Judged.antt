@@ -54,7 +54,7 @@ number-above BufferShort = refl
 number-above BadList = refl
 number-above NeedsRelease = refl
 
-number-not-zero : (f : Fault) → number f ≡ 0 → ⊥
+pub number-not-zero : (f : Fault) → number f ≡ 0 → ⊥
 number-not-zero f e = omega (arith, ltb-true 0 (number f) (number-above f))
 
 length-map : {A B : Type 0} (f : A → B) (xs : List A) → length (map f xs) ≡ length xs

@@ -7,3 +7,4 @@ pub mod Stages
 pub mod Acceptance
 pub mod Counts
 pub mod Judged
+pub mod Same
