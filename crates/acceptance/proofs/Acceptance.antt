@@ -15,14 +15,13 @@ use Rattle.refusals.specs.declared.Fault.the-variants.{TooLong, UnusableAdvice,
 use Rattle.refusals.specs.Refusals.{placeIf}
 use Rattle.reading.specs.Tokens.{Token, placeOf}
 use Rattle.reading.specs.Values.{isFault, endsInside}
-use Rattle.reading.specs.Spelling.{Bytes, SegmentList}
 use Rattle.verdict.specs.Contents.{bodyTokens, normalForm}
 use Rattle.verdict.specs.Places.{isOver, tooLong, unusableAdvice, noOpening, strayReleases, unendedSegment, foreignLevel, level, normalTooLong}
 use Rattle.verdict.specs.Stages.{refusalOf}
 use Rattle.spelling.specs.Bodies.{listed, readList, Sound, Passes, Spelled}
 use Rattle.spelling.proofs.Laws.{passes-exactly, read-spelling}
 use Rattle.grammar.proofs.Theorem.{input-interchange}
-use Rattle.acceptance.specs.Allowed.{Opening, Tagged, holds, Allowed}
+use Rattle.acceptance.specs.Allowed.{Opening, holds, Allowed}
 use Rattle.acceptance.specs.Refused.{placesOf}
 use Rattle.acceptance.proofs.Clear.{place-none, gather-none}
 use Rattle.acceptance.proofs.Opening.{usable-opening, opening-clear}
@@ -132,7 +131,8 @@ module _ (s : List ℕ) where
       at UnendedSegment = sound .1 ended .1
       at BrokenTag = tags-clear s ended .1 (λ segment m. a .tags segment (subst (List·Memᴰ segment) (sym same-list) m))
       at ForeignLevel = levels .0
-      at OutsideLevel = inside-clear s (a .level) (levels .1) .1 (ap (all (all (all (all (holds (a .level)))))) (sym same-list) ∙ a .inside)
+      at OutsideLevel =
+          inside-clear s (a .level) (levels .1) .1 (ap (all (all (all (all (holds (a .level)))))) (sym same-list) ∙ a .inside)
       at MisplacedSegment = input-interchange s .1 (a .order) .0
       at BadControl = input-interchange s .1 (a .order) .1
       at ReferenceDiffers = input-interchange s .1 (a .order) .2

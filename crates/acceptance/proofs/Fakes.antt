@@ -2,23 +2,23 @@
 -- Assumes nothing.
 use Prim.Native.Nat.{ℕ}
 use mathlib.Core.Path.{_≡_, refl, sym, ap, _∙_}
-use mathlib.Core.Bool.{Bool, true, false, _&&_}
+use mathlib.Core.Bool.{Bool, true, false}
 use mathlib.Core.List.{List, [], _∷_, _++_, List·Memᴰ·head, List·Memᴰ·tail}
 use native.Mathlib.Omega.{arith}
 use lib.ListN.{length, getD, drop}
 use lib.Dec.{T, eqb}
 use borrow.Author.Tests.{eqb-true}
-use Rattle.lists.specs.Lists.{text, same, all}
+use Rattle.lists.specs.Lists.{same, all}
 use Rattle.lists.proofs.Texts.{and-left}
 use Rattle.characters.specs.declared.Characters.{Characters}
-use Rattle.characters.specs.Characters.{spelledOut, adviceOf, charactersOf}
+use Rattle.characters.specs.Characters.{spelledOut, adviceOf}
 use Rattle.verdict.specs.Contents.{normalForm}
 use Rattle.answers.specs.Answers.{Answer, given}
 use Rattle.operations.specs.Judge.{judge}
 use Rattle.cases.specs.Cases.{Case, accepted, x, cases, says, meets, holds}
 use Rattle.cases.specs.Theorem.{all-cases-hold}
 use Rattle.acceptance.specs.Allowed.{Opening, advice, plus, control, Allowed}
-use Rattle.acceptance.specs.Counts.{messages, groups}
+use Rattle.acceptance.specs.Counts.{messages, groups, told}
 use Rattle.acceptance.proofs.Clear.{all-each}
 use Rattle.acceptance.proofs.Judged.{judged-accepted, judged-number}
 
@@ -31,8 +31,13 @@ pub x-allowed : Allowed x
 unfolding cases holds meets says
 x-allowed =
     let case : Case = record { input = x; expected = accepted 5 1 0 93 } in
-    let h : says (judge x) 6 0 (5 ∷ 1 ∷ 0 ∷ 93 ∷ []) ≡ true = all-each holds cases .0 (passed (all holds cases) all-cases-hold) case (List·Memᴰ·tail (List·Memᴰ·head refl)) in
-    judged-number x .0 (eqb-true (judge x .number) 0 (and-left (eqb (judge x .number) 0) (same (drop 6 (judge x .values)) (5 ∷ 1 ∷ 0 ∷ 93 ∷ [])) h))
+    let all-hold : all holds cases ≡ true = passed (all holds cases) all-cases-hold in
+    let h : says (judge x) 6 0 counts ≡ true = all-each holds cases .0 all-hold case (List·Memᴰ·tail (List·Memᴰ·head refl)) in
+    judged-number x .0
+    (eqb-true (judge x .number) 0 (and-left (eqb (judge x .number) 0) (same (drop 6 (judge x .values)) counts) h))
+  where
+    counts : List ℕ
+    counts = 5 ∷ 1 ∷ 0 ∷ 93 ∷ []
 
 -- no bytes at all are not
 pub empty-not-allowed : Allowed [] → ⊥
@@ -57,8 +62,5 @@ module _ (answer : List ℕ → Answer) (as-judge : (s : List ℕ) → answer s 
   unfolding given spelledOut
   no-count-invented s a c n m g size e = (at 6, at 7, at 8, at 9)
     where
-      told : List ℕ
-      told = spelledOut (charactersOf s) ++ length (a .spelled .list) ∷ messages (a .order) ∷ groups (a .order) ∷ length (normalForm s) ∷ []
-
-      at : (i : ℕ) → getD (spelledOut c ++ n ∷ m ∷ g ∷ size ∷ []) i 0 ≡ getD told i 0
+      at : (i : ℕ) → getD (spelledOut c ++ n ∷ m ∷ g ∷ size ∷ []) i 0 ≡ getD (told s a) i 0
       at i = ap (λ (x : Answer). getD (x .values) i 0) (sym e ∙ as-judge s ∙ judged-accepted s a)

@@ -17,18 +17,17 @@ use Rattle.refusals.specs.declared.Fault.the-variants.{TooLong, UnusableAdvice,
 use Rattle.refusals.specs.declared.Refusal.{Refusal}
 use Rattle.refusals.specs.Refusals.{number}
 use Rattle.refusals.proofs.Order.{number-tells}
-use Rattle.reading.specs.Tokens.{segments}
 use Rattle.segments.specs.declared.Kind.the-variants.{Ung, Unh}
 use Rattle.segments.specs.Tags.{kindOf}
 use Rattle.segments.specs.Order.{segmentsIn, messagesIn, groupsIn}
-use Rattle.verdict.specs.Contents.{bodyTokens, segmentsOf, kindsOf, normalForm}
+use Rattle.verdict.specs.Contents.{segmentsOf, kindsOf, normalForm}
 use Rattle.verdict.specs.Stages.{refusalOf}
 use Rattle.answers.specs.Answers.{Answer, given, refused, accepted}
 use Rattle.operations.specs.Judge.{interchangeOf, judge}
 use Rattle.spelling.specs.Bodies.{wordsOf, listed}
 use Rattle.acceptance.specs.Allowed.{Allowed}
 use Rattle.acceptance.specs.Refused.{Refused}
-use Rattle.acceptance.specs.Counts.{messages, groups}
+use Rattle.acceptance.specs.Counts.{messages, groups, told}
 use Rattle.acceptance.proofs.Acceptance.{list-is, accepted-exactly}
 use Rattle.acceptance.proofs.Stages.{refused-exactly}
 use Rattle.acceptance.proofs.Opening.{usable-opening}
@@ -56,6 +55,9 @@ number-above NeedsRelease = refl
 
 pub number-not-zero : (f : Fault) → number f ≡ 0 → ⊥
 number-not-zero f e = omega (arith, ltb-true 0 (number f) (number-above f))
+
+abbrev at : Fault → ℕ → Refusal
+at f p = record { fault = f; place = p }
 
 length-map : {A B : Type 0} (f : A → B) (xs : List A) → length (map f xs) ≡ length xs
 length-map f [] = refl
@@ -90,32 +92,31 @@ module _ (s : List ℕ) where
     unfolding groupsIn kindsOf
     counted-groups = number-back Ung (segmentsOf s) ∙ sym (group-headers (a .order))
 
-    -- "service characters, counts of segments, messages and groups, length of the normal form": those of the contents
-    pub judged-accepted : judge s
-        ≡ given (spelledOut (charactersOf s) ++ length (a .spelled .list) ∷ messages (a .order) ∷ groups (a .order) ∷ length (normalForm s) ∷ [])
+    -- the counts are those of the contents
+    pub judged-accepted : judge s ≡ given (told s a)
     unfolding accepted interchangeOf
     judged-accepted =
         judge-none (accepted-exactly s .1 a)
-        ∙ ap (λ (n : ℕ). given (spelledOut (charactersOf s) ++ n ∷ messagesIn (kindsOf s) ∷ groupsIn (kindsOf s) ∷ length (normalForm s) ∷ [])) counted-segments
-        ∙ ap₂ (λ (m g : ℕ). given (spelledOut (charactersOf s) ++ length (a .spelled .list) ∷ m ∷ g ∷ length (normalForm s) ∷ [])) counted-messages counted-groups
+        ∙ ap (λ (n : ℕ). told-as n (messagesIn (kindsOf s)) (groupsIn (kindsOf s))) counted-segments
+        ∙ ap₂ (told-as (length (a .spelled .list))) counted-messages counted-groups
+      where
+        told-as : ℕ → ℕ → ℕ → Answer
+        told-as n m g = given (spelledOut (charactersOf s) ++ n ∷ m ∷ g ∷ length (normalForm s) ∷ [])
 
   -- ---- refused
 
   -- the number and the place are those that the paper names
   pub judged-refused : (f : Fault) (p : ℕ) → (judge s ≡ record { number = number f; values = p ∷ [] }) ↔ Refused s f p
   unfolding accepted given refused
-  judged-refused f p = (λ e. refused-exactly s f p .0 (step (refusalOf s) refl e), λ d. judge-some r (refused-exactly s f p .1 d))
+  judged-refused f p = (λ e. refused-exactly s f p .0 (step (refusalOf s) refl e), λ d. judge-some (at f p) (refused-exactly s f p .1 d))
     where
-      r : Refusal
-      r = record { fault = f; place = p }
-
-      step : (o : Option Refusal) → refusalOf s ≡ o → judge s ≡ refused r → refusalOf s ≡ some r
+      step : (o : Option Refusal) → refusalOf s ≡ o → judge s ≡ refused (at f p) → refusalOf s ≡ some (at f p)
       step none e h = absurd (number-not-zero f (ap (λ (x : Answer). x .number) (sym h ∙ judge-none e)))
       step (some q) e h =
-          let k : refused q ≡ refused r = sym (judge-some q e) ∙ h in
+          let k : refused q ≡ refused (at f p) = sym (judge-some q e) ∙ h in
           let n : number (q .fault) ≡ number f = ap (λ (x : Answer). x .number) k in
           let place : q .place ≡ p = ap (λ (x : Answer). getD (x .values) 0 0) k in
-          e ∙ ap₂ (λ (g : Fault) (m : ℕ). some (record { fault = g; place = m })) (number-tells (q .fault) f n) place
+          e ∙ ap₂ (λ (g : Fault) (m : ℕ). some (at g m)) (number-tells (q .fault) f n) place
 
   -- ---- one of the two
 
@@ -128,19 +129,25 @@ module _ (s : List ℕ) where
 
   -- never both
   pub not-both : {f : Fault} {p : ℕ} → Allowed s → Refused s f p → ⊥
-  not-both {f} {p} a d =
-      Option·none-ne-some (record { fault = f; place = p }) (sym (accepted-exactly s .1 a) ∙ refused-exactly s f p .1 d)
+  not-both {f} {p} a d = Option·none-ne-some (at f p) (sym (accepted-exactly s .1 a) ∙ refused-exactly s f p .1 d)
 
   -- and only one refusal
   pub one-refusal : {f g : Fault} {p q : ℕ} → Refused s f p → Refused s g q → (f ≡ g) × (p ≡ q)
   one-refusal {f} {g} {p} {q} d e =
-      let k = Option·some-injective (record { fault = f; place = p }) (record { fault = g; place = q }) (sym (refused-exactly s f p .1 d) ∙ refused-exactly s g q .1 e) in
-      (ap (λ (r : Refusal). r .fault) k, ap (λ (r : Refusal). r .place) k)
+      (ap (λ (r : Refusal). r .fault) only, ap (λ (r : Refusal). r .place) only)
+    where
+      only : at f p ≡ at g q
+      only = Option·some-injective (at f p) (at g q) (sym (refused-exactly s f p .1 d) ∙ refused-exactly s g q .1 e)
 
   -- the answer's number says which
   pub judged-number : (judge s .number ≡ 0) ↔ Allowed s
   unfolding accepted given refused
   judged-number = (
-    λ e. ⊎-elim (λ a. a) (λ d. absurd (number-not-zero (d .0) (ap (λ (x : Answer). x .number) (sym (judged-refused (d .0) (d .1) .1 (d .2))) ∙ e))) judged,
+    λ e.
+        ⊎-elim (λ a. a)
+        (λ d.
+        let is = judged-refused (d .0) (d .1) .1 (d .2) in
+        absurd (number-not-zero (d .0) (ap (λ (x : Answer). x .number) (sym is) ∙ e)))
+        judged,
     λ a. ap (λ (x : Answer). x .number) (judge-none (accepted-exactly s .1 a)),
   )

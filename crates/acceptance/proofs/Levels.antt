@@ -3,12 +3,12 @@
 use Prim.Native.Nat.{ℕ}
 use mathlib.Core.Path.{_≡_, refl, sym, ap, ap₂, _∙_}
 use mathlib.Core.Logic.{_↔_, _⊎_, inl, inr, ⊎-elim}
-use mathlib.Core.Bool.{Bool, true, false, not, _&&_, _||_, and-true, false≢true}
+use mathlib.Core.Bool.{Bool, true, false, not, _||_, and-true, false≢true}
 use mathlib.Core.List.{List, [], _∷_, cons-ne-nil}
 use mathlib.Core.Option.{Option, none, some, Option·none-ne-some, Option·some-injective}
 use lib.Dec.{leb}
 use borrow.Author.Tests.{not-false}
-use Rattle.lists.specs.Lists.{if_then_else_, text, same, all, at, gather, maybe}
+use Rattle.lists.specs.Lists.{if_then_else_, text, same, all, at, maybe}
 use Rattle.lists.proofs.Texts.{same-eq, or-cases}
 use Rattle.characters.specs.Characters.{lower}
 use Rattle.reading.specs.Tokens.{Token, byte, separator, fault, Segment, start}
@@ -125,7 +125,7 @@ module _ (s : List ℕ) (unb : Segment) (rest : List Segment) (shape : segmentsO
 pub inside-clear : (s : List ℕ) (l : Level) → level s ≡ class l
     → (outsideLevel s ≡ []) ↔ (all (all (all (all (holds l)))) (listed (bodyTokens s)) ≡ true)
 unfolding outsideLevel placeOutside byteOf all
-inside-clear s l e = (λ h. listed-all (holds l) (bodyTokens s) ∙ none .0 h, λ h. none .1 (sym (listed-all (holds l) (bodyTokens s)) ∙ h))
+inside-clear s l e = (λ h. listed-is ∙ clear .0 h, λ h. clear .1 (sym listed-is ∙ h))
   where
     in-is : (b : ℕ) → inLevel (level s) b ≡ holds l b
     in-is b = ap (λ (n : ℕ). inLevel n b) e ∙ class-holds l b
@@ -138,5 +138,8 @@ inside-clear s l e = (λ h. listed-all (holds l) (bodyTokens s) ∙ none .0 h, �
     one (separator kind place) = (λ h. refl, λ h. refl)
     one (fault place) = (λ h. refl, λ h. refl)
 
-    none : (outsideLevel s ≡ []) ↔ (all (passesByte (holds l)) (bodyTokens s) ≡ true)
-    none = gather-none (placeOutside s) (passesByte (holds l)) one (bodyTokens s)
+    listed-is : all (all (all (all (holds l)))) (listed (bodyTokens s)) ≡ all (passesByte (holds l)) (bodyTokens s)
+    listed-is = listed-all (holds l) (bodyTokens s)
+
+    clear : (outsideLevel s ≡ []) ↔ (all (passesByte (holds l)) (bodyTokens s) ≡ true)
+    clear = gather-none (placeOutside s) (passesByte (holds l)) one (bodyTokens s)

@@ -9,8 +9,8 @@ use lib.ListN.{length, drop, length-drop}
 use lib.Seq.{drop-drop}
 use lib.Dec.{eqb, ltb}
 use borrow.Author.Tests.{eqb-true, eq-eqb, ltb-false, le-ltb, not-false}
-use Rattle.lists.specs.Lists.{if_then_else_, text, begins, member, all, allDiffer}
-use Rattle.lists.proofs.Texts.{if-true, and-left, and-right, and-both, or-none-left, or-none-right}
+use Rattle.lists.specs.Lists.{text, begins, member, all, allDiffer}
+use Rattle.lists.proofs.Texts.{and-left, and-right, and-both, or-none-left, or-none-right}
 use Rattle.characters.specs.declared.Characters.{Characters}
 use Rattle.characters.specs.Characters.{between, upper, lower, digit, separates, released, serviceCharacters, usable, sixBytes, spelledOut, advised, adviceOf, plusCharacters, controlCharacters, charactersOf, bodyStart, body, badAdvice, opens}
 use Rattle.acceptance.specs.Allowed.{Opening, advice, plus, control}
@@ -50,28 +50,36 @@ module _ (s : List ℕ) where
   opening-advice : advised s ≡ true → badAdvice s ≡ false → opens s ≡ true → Opening s
   unfolding advised badAdvice charactersOf body bodyStart adviceOf
   opening-advice e bad o =
-      let fit : (ltb (length s) 9 || not (usable (charactersOf s))) ≡ false = sym (ap (λ (t : Bool). t && (ltb (length s) 9 || not (usable (charactersOf s)))) e) ∙ bad in
-      let c : charactersOf s ≡ sixBytes (drop 3 s) = if-true (advised s) (sixBytes (drop 3 s)) (if begins (text "UNB+") s then plusCharacters else controlCharacters) e in
-      let long : 9 ≤ length s = ltb-false (length s) 9 (or-none-left (ltb (length s) 9) (not (usable (charactersOf s))) fit) in
-      let follows : body s ≡ drop 9 s = ap (λ (t : Bool). drop (if t then 9 else 0) s) e in
+      let fit : (short || unusable) ≡ false = sym (ap (λ (t : Bool). t && (short || unusable)) e) ∙ bad in
+      let long : 9 ≤ length s = ltb-false (length s) 9 (or-none-left short unusable fit) in
+      let six : charactersOf s ≡ sixBytes (drop 3 s) = simp e in
+      let follows : body s ≡ drop 9 s = simp e in
       advice (charactersOf s) (drop 4 (body s))
-      (not-false (usable (charactersOf s)) (or-none-right (ltb (length s) 9) (not (usable (charactersOf s))) fit))
+      (not-false (usable (charactersOf s)) (or-none-right short unusable fit))
       (begins-split (text "UNA") s e
-      ∙ ap (λ (l : List ℕ). text "UNA" ++ l) (six-split (drop 3 s) (omega (arith, length-drop 3 s)) ∙ ap (λ (d : Characters). spelledOut d ++ drop 6 (drop 3 s)) (sym c))
+      ∙ ap (λ (l : List ℕ). text "UNA" ++ l) (six-split (drop 3 s) (omega (arith, length-drop 3 s)))
+      ∙ ap (λ (c : Characters). adviceOf c ++ drop 6 (drop 3 s)) (sym six)
       ∙ ap (λ (l : List ℕ). adviceOf (charactersOf s) ++ l) (drop-drop 6 3 s ∙ sym follows ∙ body-opens o))
+    where
+      short : Bool
+      short = ltb (length s) 9
+
+      unusable : Bool
+      unusable = not (usable (charactersOf s))
 
   opening-none : advised s ≡ false → opens s ≡ true → Opening s
-  unfolding charactersOf body bodyStart plusCharacters controlCharacters sixBytes
+  unfolding charactersOf body bodyStart controlCharacters sixBytes
   opening-none e o = step (begins (text "UNB+") s) refl
     where
       whole : body s ≡ s
-      whole = ap (λ (t : Bool). drop (if t then 9 else 0) s) e
+      whole = simp e
 
       step : (t : Bool) → begins (text "UNB+") s ≡ t → Opening s
       step true b = plus (drop 4 s) (begins-split (text "UNB+") s b)
       step false b =
-          let c : charactersOf s ≡ controlCharacters = ap (λ (t : Bool). if t then sixBytes (drop 3 s) else if begins (text "UNB+") s then plusCharacters else controlCharacters) e ∙ ap (λ (t : Bool). if t then plusCharacters else controlCharacters) b in
-          control (drop 4 (body s)) (sym whole ∙ body-opens o ∙ ap (λ (d : Characters). text "UNB" ++ d .element ∷ drop 4 (body s)) c)
+          let c : charactersOf s ≡ controlCharacters = simp (e, b) in
+          control (drop 4 (body s))
+          (sym whole ∙ body-opens o ∙ ap (λ (d : Characters). text "UNB" ++ d .element ∷ drop 4 (body s)) c)
 
 -- ---- where the input begins so
 
@@ -86,7 +94,8 @@ good-advice : {s : List ℕ} → Opening s → badAdvice s ≡ false
 unfolding badAdvice advised begins adviceOf charactersOf sixBytes spelledOut
 good-advice (advice c rest u e) =
     ap badAdvice e
-    ∙ ap₂ (λ (short fit : Bool). short || not fit) (le-ltb (length (adviceOf c ++ (text "UNB" ++ c .element ∷ rest))) 9 (omega arith)) u
+    ∙ ap₂ (λ (short fit : Bool). short || not fit)
+    (le-ltb (length (adviceOf c ++ (text "UNB" ++ c .element ∷ rest))) 9 (omega arith)) u
 good-advice (plus rest e) = ap badAdvice e
 good-advice (control rest e) = ap badAdvice e
 

@@ -1,9 +1,8 @@
 -- What holds of all tokens holds of all pieces into which they are cut, and the reverse. Assumes nothing.
 use Prim.Native.Nat.{ℕ}
-use mathlib.Core.Path.{_≡_, refl, sym, ap, ap₂, _∙_}
-use mathlib.Core.Bool.{Bool, true, false, not, _&&_, and-assoc, and-true, false≢true}
-use mathlib.Core.List.{List, [], _∷_, _++_, map, map-map, map-id, List·Memᴰ}
-use borrow.Author.Tests.{not-false}
+use mathlib.Core.Path.{_≡_, refl, sym, ap, _∙_}
+use mathlib.Core.Bool.{Bool, true, false, not, _&&_, and-assoc, and-true}
+use mathlib.Core.List.{List, [], _∷_, map, map-map, map-id, List·Memᴰ}
 use Rattle.lists.specs.Lists.{if_then_else_, all, isEmpty, lastOr, onto, cut, through, gather}
 use Rattle.lists.proofs.Texts.{and-both, all-append}
 use Rattle.lists.proofs.Pieces.{beyond, cut-first}

@@ -53,17 +53,20 @@ module _ (a b : List ℕ) where
   unfolding areSame
   same-test = (
     λ h.
-        let both : (isAccepted a && isAccepted b) ≡ true = and-left (isAccepted a && isAccepted b) (same (normalForm a) (normalForm b)) h in
+        let both = and-left (isAccepted a && isAccepted b) equal h in
         record {
           first = accepted-test a .0 (and-left (isAccepted a) (isAccepted b) both);
           second = accepted-test b .0 (and-right (isAccepted a) (isAccepted b) both);
-          normal = same-eq (normalForm a) (normalForm b) (and-right (isAccepted a && isAccepted b) (same (normalForm a) (normalForm b)) h);
+          normal = same-eq (normalForm a) (normalForm b) (and-right (isAccepted a && isAccepted b) equal h);
         },
     λ h.
-        and-both (isAccepted a && isAccepted b) (same (normalForm a) (normalForm b))
+        and-both (isAccepted a && isAccepted b) equal
         (and-both (isAccepted a) (isAccepted b) (accepted-test a .1 (h .first)) (accepted-test b .1 (h .second)))
         (ap (same (normalForm a)) (sym (h .normal)) ∙ same-refl (normalForm a)),
   )
+    where
+      equal : Bool
+      equal = same (normalForm a) (normalForm b)
 
   not-same : (Same a b → ⊥) → areSame a b ≡ false
   not-same h = step (areSame a b) refl
@@ -123,24 +126,26 @@ module _ (a b : List ℕ) where
 
   -- ---- Keep
 
-  -- the first where equally long, whole; the second where it is shorter, whole
-  pub keep-same : Same a b
-      → ((keep a b ≡ ofFirst 0 (length a)) × (length a ≤ length b)) ⊎ ((keep a b ≡ ofSecond 0 (length b)) × (length b < length a))
-  unfolding keep
-  keep-same h = step (ltb (length b) (length a)) refl (if-true (areSame a b) shorter (ofFirst 0 0) (same-test .1 h))
-    where
-      shorter : Part
-      shorter = if ltb (length b) (length a) then ofSecond 0 (length b) else ofFirst 0 (length a)
+  abbrev shorter : Bool → Part
+  shorter t = if t then ofSecond 0 (length b) else ofFirst 0 (length a)
 
-      step : (t : Bool) → ltb (length b) (length a) ≡ t → keep a b ≡ (if t then ofSecond 0 (length b) else ofFirst 0 (length a))
-          → ((keep a b ≡ ofFirst 0 (length a)) × (length a ≤ length b)) ⊎ ((keep a b ≡ ofSecond 0 (length b)) × (length b < length a))
+  -- the first where it is not the longer, whole; else the second, whole
+  abbrev Shorter : Part → Type 0
+  Shorter k = ((k ≡ ofFirst 0 (length a)) × (length a ≤ length b)) ⊎ ((k ≡ ofSecond 0 (length b)) × (length b < length a))
+
+  pub keep-same : Same a b → Shorter (keep a b)
+  unfolding keep
+  keep-same h =
+      step (ltb (length b) (length a)) refl (if-true (areSame a b) (shorter (ltb (length b) (length a))) (ofFirst 0 0) (same-test .1 h))
+    where
+      step : (t : Bool) → ltb (length b) (length a) ≡ t → keep a b ≡ shorter t → Shorter (keep a b)
       step true e k = inr (k, ltb-true (length b) (length a) e)
       step false e k = inl (k, ltb-false (length b) (length a) e)
 
   -- "otherwise the first zero bytes of the first"
   pub keep-other : (Same a b → ⊥) → keep a b ≡ ofFirst 0 0
   unfolding keep
-  keep-other h = if-false (areSame a b) (if ltb (length b) (length a) then ofSecond 0 (length b) else ofFirst 0 (length a)) (ofFirst 0 0) (not-same h)
+  keep-other h = if-false (areSame a b) (shorter (ltb (length b) (length a))) (ofFirst 0 0) (not-same h)
 
   -- the whole of the one that is not the longer
   pub kept : Same a b

@@ -4,7 +4,7 @@ use mathlib.Core.Path.{_≡_, refl, sym, ap, ap₂, subst, _∙_}
 use mathlib.Core.Logic.{_↔_, ⊎-elim, _⊎_, inl, inr}
 use mathlib.Core.Bool.{Bool, true, false}
 use mathlib.Core.List.{List, [], _∷_, _++_, map, map-append, append-nil, append-assoc, cons-ne-nil, List·Memᴰ, List·Memᴰ·head, List·Memᴰ·tail, List·Memᴰ·not-nil, List·Memᴰ·cases-cons, List·Memᴰ·append-cases, Memᴰ·append-left, Memᴰ·append-right, Memᴰ·map, Memᴰ·of-map}
-use mathlib.Core.Option.{Option, none, some, Option·none-ne-some, Option·some-injective}
+use mathlib.Core.Option.{none, some, Option·none-ne-some, Option·some-injective}
 use native.Mathlib.Omega.{arith}
 use lib.Dec.{ltb}
 use borrow.Author.Tests.{ltb-true, ltb-false}
@@ -14,7 +14,7 @@ use Rattle.refusals.specs.declared.Fault.the-variants.{TooLong, UnusableAdvice,
 use Rattle.refusals.specs.declared.Refusal.{Refusal}
 use Rattle.refusals.specs.Refusals.{Stage, number, met, isLower, lowest, orElse, answering}
 use Rattle.refusals.proofs.Order.{number-below, key, not-lower, key-least}
-use Rattle.refusals.proofs.Lowest.{lowest-is, lowest-answers}
+use Rattle.refusals.proofs.Lowest.{LowestOf, lowest-is, lowest-answers}
 use Rattle.refusals.proofs.Stages.{NoneMet, met-none, met-member, answering-append, answering-first, answering-some, answering-none}
 use Rattle.verdict.specs.Stages.{laterStages, stages, refusalOf}
 use Rattle.acceptance.specs.Refused.{placesOf, brackets, Refused}
@@ -29,20 +29,31 @@ at-member (y ∷ ys) zero {x} e = List·Memᴰ·head (sym (Option·some-injectiv
 at-member (y ∷ ys) (suc n) e = List·Memᴰ·tail (at-member ys n e)
 
 -- where a mapped list is split, the list is
+record Split {A B : Type 0} (f : A → B) (xs : List A) (ys : List B) (z : B) : Type 0 where
+  before : List A
+  one : A
+  after : List A
+  parts : xs ≡ before ++ one ∷ after
+  front : map f before ≡ ys
+  here : f one ≡ z
+
+split-next : {A B : Type 0} (f : A → B) (x : A) {xs : List A} {y : B} {ys : List B} {z : B} → f x ≡ y → Split f xs ys z
+    → Split f (x ∷ xs) (y ∷ ys) z
+split-next f x e rest = record {
+  before = x ∷ rest .before;
+  one = rest .one;
+  after = rest .after;
+  parts = ap (λ (l : List _). x ∷ l) (rest .parts);
+  front = ap₂ _∷_ e (rest .front);
+  here = rest .here;
+}
+
 map-split : {A B : Type 0} (f : A → B) (xs : List A) (ys : List B) (z : B) (zs : List B) → map f xs ≡ ys ++ z ∷ zs
-    → (before : List A) × (x : A) × (after : List A) × (xs ≡ before ++ x ∷ after) × (map f before ≡ ys) × (f x ≡ z)
+    → Split f xs ys z
 map-split f [] [] z zs e = absurd (cons-ne-nil z zs (sym e))
 map-split f [] (y ∷ ys) z zs e = absurd (cons-ne-nil y (ys ++ z ∷ zs) (sym e))
-map-split f (x ∷ xs) [] z zs e = ([], x, xs, refl, refl, cc)
-map-split f (x ∷ xs) (y ∷ ys) z zs e =
-    let here : f x ≡ y = cc in
-    let there : map f xs ≡ ys ++ z ∷ zs = cc in
-    next here (map-split f xs ys z zs there)
-  where
-    next : f x ≡ y
-        → (before : List _) × (w : _) × (after : List _) × (xs ≡ before ++ w ∷ after) × (map f before ≡ ys) × (f w ≡ z)
-        → (before : List _) × (w : _) × (after : List _) × (x ∷ xs ≡ before ++ w ∷ after) × (map f before ≡ y ∷ ys) × (f w ≡ z)
-    next e (before, w, after, p, q, r) = (x ∷ before, w, after, ap (λ (l : List _). x ∷ l) p, ap₂ _∷_ e q, r)
+map-split f (x ∷ xs) [] z zs e = record { before = []; one = x; after = xs; parts = refl; front = refl; here = cc }
+map-split f (x ∷ xs) (y ∷ ys) z zs e = split-next f x (cc) (map-split f xs ys z zs (cc))
 
 -- ---- "the lowest place, then the lowest number"
 
@@ -80,15 +91,18 @@ module _ (s : List ℕ) where
       let rest = bracketed-member r faults in (
         λ m.
             ⊎-elim
-            (λ k. let (e, p) = met-member f r (placesOf f s) .0 k in (List·Memᴰ·head e, subst (λ (g : Fault). List·Memᴰ (r .place) (placesOf g s)) (sym e) p))
+            (λ k. let (e, p) = met-member f r (placesOf f s) .0 k in (List·Memᴰ·head e, subst MetBy (sym e) p))
             (λ k. let (e, p) = rest .0 k in (List·Memᴰ·tail e, p))
             (List·Memᴰ·append-cases (met f (placesOf f s)) m),
         λ m.
             ⊎-elim
-            (λ e. Memᴰ·append-left (bracketed faults) (met-member f r (placesOf f s) .1 (e, subst (λ (g : Fault). List·Memᴰ (r .place) (placesOf g s)) e (m .1))))
+            (λ e. Memᴰ·append-left (bracketed faults) (met-member f r (placesOf f s) .1 (e, subst MetBy e (m .1))))
             (λ k. Memᴰ·append-right (met f (placesOf f s)) (rest .1 (k, m .1)))
             (List·Memᴰ·cases-cons (m .0)),
       )
+    where
+      MetBy : Fault → Type 0
+      MetBy g = List·Memᴰ (r .place) (placesOf g s)
 
   -- nothing is met in a stage exactly where none of its faults has a place
   bracketed-none : (faults : List Fault) → (bracketed faults ≡ []) ↔ ((f : Fault) → List·Memᴰ f faults → placesOf f s ≡ [])
@@ -105,7 +119,8 @@ module _ (s : List ℕ) where
 
   -- nothing is met in stages exactly where none of their faults has a place
   none-met : (bs : List (List Fault))
-      → NoneMet (map bracketed bs) ↔ ((faults : List Fault) → List·Memᴰ faults bs → (f : Fault) → List·Memᴰ f faults → placesOf f s ≡ [])
+      → NoneMet (map bracketed bs)
+      ↔ ((faults : List Fault) → List·Memᴰ faults bs → (f : Fault) → List·Memᴰ f faults → placesOf f s ≡ [])
   none-met bs = (
     λ h faults m. bracketed-none faults .0 (h (bracketed faults) (Memᴰ·map bracketed m)),
     λ h stage m. let (faults, k, e) = Memᴰ·of-map bracketed bs m in sym e ∙ bracketed-none faults .1 (h faults k),
@@ -160,30 +175,33 @@ module _ (s : List ℕ) where
       there : answering (stages s) ≡ some r → Refused s f p
       there e =
           let (before, stage, after, split, earlier, low) = answering-some (stages s) r e in
-          let (ahead, faults, behind, parts, ahead-is, stage-is) = map-split bracketed brackets before stage after (sym stages-are ∙ split) in
-          let is = lowest-is (bracketed faults) r (ap lowest stage-is ∙ low) in
-          let here = bracketed-member r faults .0 (is .met) in
+          let d = map-split bracketed brackets before stage after (sym stages-are ∙ split) in
+          let is = lowest-is (bracketed (d .one)) r (ap lowest (d .here) ∙ low) in
+          let own = bracketed-member r (d .one) .0 (is .met) in
           record {
-            before = ahead;
-            stage = faults;
-            after = behind;
-            split = parts;
-            own = here .0;
-            met = here .1;
-            earlier = none-met ahead .0 (subst NoneMet (sym ahead-is) earlier);
+            before = d .before;
+            stage = d .one;
+            after = d .after;
+            split = d .parts;
+            own = own .0;
+            met = own .1;
+            earlier = none-met (d .before) .0 (subst NoneMet (sym (d .front)) earlier);
             lowest = λ g m q k.
                 let other : Refusal = record { fault = g; place = q } in
-                not-below r other .0 (is .least other (bracketed-member other faults .1 (m, k)));
+                not-below r other .0 (is .least other (bracketed-member other (d .one) .1 (m, k)));
           }
+
+      least : (d : Refused s f p) → LowestOf (bracketed (d .stage)) r
+      least d = record {
+        met = bracketed-member r (d .stage) .1 (d .own, d .met);
+        least = λ q m.
+            let k = bracketed-member q (d .stage) .0 m in not-below r q .1 (d .lowest (q .fault) (k .0) (q .place) (k .1));
+      }
 
       back : Refused s f p → answering (stages s) ≡ some r
       back d =
-          let is : lowest (bracketed (d .stage)) ≡ some r =
-              lowest-answers (bracketed (d .stage)) r (record {
-                met = bracketed-member r (d .stage) .1 (d .own, d .met);
-                least = λ q m. let k = bracketed-member q (d .stage) .0 m in not-below r q .1 (d .lowest (q .fault) (k .0) (q .place) (k .1));
-              }) in
           ap answering (stages-are ∙ ap (map bracketed) (d .split) ∙ map-append bracketed (d .before) (d .stage ∷ d .after))
           ∙ answering-append (map bracketed (d .before)) (bracketed (d .stage) ∷ map bracketed (d .after))
           ∙ ap₂ orElse (answering-none (map bracketed (d .before)) .1 (none-met (d .before) .1 (d .earlier)))
-          (answering-first (bracketed (d .stage)) (map bracketed (d .after)) (some r) is)
+          (answering-first (bracketed (d .stage)) (map bracketed (d .after)) (some r)
+          (lowest-answers (bracketed (d .stage)) r (least d)))

@@ -2,7 +2,7 @@
 use Prim.Native.Nat.{ℕ, _≤_}
 use mathlib.Core.Path.{_≡_, refl, sym, ap, ap₂, subst, _∙_}
 use mathlib.Core.Logic.{_↔_, ⊎-elim}
-use mathlib.Core.Bool.{Bool, true, false, not, _&&_, _||_, or-true, and-false, false≢true}
+use mathlib.Core.Bool.{Bool, true, false, not, _&&_, _||_, or-true, false≢true}
 use mathlib.Core.List.{List, [], _∷_, _++_, map, List·Memᴰ, Memᴰ·map, Memᴰ·of-map}
 use native.Mathlib.Omega.{arith}
 use lib.ListN.{length}
@@ -65,7 +65,6 @@ words-first : (g : Segment) → endedBy 0 g ≡ true → wordsOf g ≡ (tagOf g 
 unfolding wordsOf elementsOf valuesOf valueOf tagOf tagPiece through endedBy
 words-first [] h = absurd (false≢true h)
 words-first (t ∷ ts) h =
-    let first : List Token = through (ends 1) (t ∷ ts) in
     let others : List (List Bytes) = wordsOf (beyond (ends 1) (t ∷ ts)) in
     ap (λ (l : List (List Token)). map (map (λ v. v .bytes)) (map valuesOf l)) (cut-first (ends 1) t ts)
     ∙ ap (λ (l : List (List Token)). map (λ v. v .bytes) (map valueOf l) ∷ others)
@@ -105,7 +104,8 @@ unfolding is kindNamed same member
 third-byte c = step (eqb c 66) (eqb c 71) (eqb c 72) (eqb c 83) (eqb c 84) (eqb c 69) (eqb c 90)
   where
     step : (b g h s t e z : Bool)
-        → not (is User (if b && true then Unb else if g && true then Ung else if h && true then Unh else if s && true then Uns else if t && true then Unt else if e && true then Une else if z && true then Unz else User))
+        → not (is User (if b && true then Unb else if g && true then Ung else if h && true then Unh else if s && true then Uns
+        else if t && true then Unt else if e && true then Une else if z && true then Unz else User))
         ≡ (b || (g || (h || (s || (t || (e || (z || false)))))))
     step true g h s t e z = refl
     step false true h s t e z = refl
@@ -133,101 +133,109 @@ tag-byte b = (
 
 -- ---- the rule
 
--- the test of refusal 6, of a tag behind which its element ends or does not
+abbrev isByte : ℕ → Bool
+isByte b = upper b || digit b
+
+-- the test of refusal 6 for a tag that begins `UN`, behind which its element ends or does not
+abbrev served : Bytes → Bool → Bool
+served tag alone = not (begins (text "UN") tag) || (not (is User (kindNamed tag)) && alone)
+
 abbrev keeps : Bytes → Bool → Bool
-keeps tag alone = isTag tag && (not (begins (text "UN") tag) || (not (is User (kindNamed tag)) && alone))
+keeps tag alone = isTag tag && served tag alone
 
--- what is asked of the three bytes of a tag
-abbrev Kept : ℕ → ℕ → ℕ → Bool → Type 0
-Kept a b c alone =
-    (TagByte a × TagByte b × TagByte c) × (a ∷ b ∷ [] ≡ text "UN" → (member c (text "BGHSTEZ") ≡ true) × (alone ≡ true))
-
-module _ (a b c : ℕ) (alone : Bool) where
+module _ (a b c : ℕ) where
   abbrev tag : Bytes
   tag = a ∷ b ∷ c ∷ []
 
-  abbrev isByte : ℕ → Bool
-  isByte x = upper x || digit x
-
-  abbrev service : Bool
-  service = not (is User (kindNamed tag))
-
-  -- behind `UN`, the test asks for the third byte
-  service-third : a ∷ b ∷ [] ≡ text "UN" → service ≡ member c (text "BGHSTEZ")
-  service-third e = ap (λ (l : Bytes). not (is User (kindNamed (l ++ c ∷ [])))) e ∙ third-byte c
-
-  begins-un : a ∷ b ∷ [] ≡ text "UN" → begins (text "UN") tag ≡ true
-  unfolding begins
-  begins-un e = ap (λ (l : Bytes). begins (text "UN") (l ++ c ∷ [])) e
-
-  un-begins : begins (text "UN") tag ≡ true → a ∷ b ∷ [] ≡ text "UN"
-  unfolding begins
-  un-begins h =
-      ap₂ (λ (x y : ℕ). x ∷ y ∷ []) (sym (eqb-true 85 a (and-left (eqb 85 a) (eqb 78 b && true) h)))
-      (sym (eqb-true 78 b (and-left (eqb 78 b) true (and-right (eqb 85 a) (eqb 78 b && true) h))))
-
-  kept : (keeps tag alone ≡ true) ↔ Kept a b c alone
+  bytes-kept : (isTag tag ≡ true) ↔ (TagByte a × TagByte b × TagByte c)
   unfolding isTag all
-  kept = (
+  bytes-kept = (
     λ h.
-        let bytes : (isByte a && (isByte b && (isByte c && true))) ≡ true = and-left (isTag tag) (not (begins (text "UN") tag) || (service && alone)) h in
-        let rest : (isByte b && (isByte c && true)) ≡ true = and-right (isByte a) (isByte b && (isByte c && true)) bytes in
-        (
-          (
-            tag-byte a .0 (and-left (isByte a) (isByte b && (isByte c && true)) bytes),
-            tag-byte b .0 (and-left (isByte b) (isByte c && true) rest),
-            tag-byte c .0 (and-left (isByte c) true (and-right (isByte b) (isByte c && true) rest)),
-          ),
-          λ e.
-              let asked : (service && alone) ≡ true = sym (ap (λ (t : Bool). not t || (service && alone)) (begins-un e)) ∙ and-right (isTag tag) (not (begins (text "UN") tag) || (service && alone)) h in
-              (sym (service-third e) ∙ and-left service alone asked, and-right service alone asked),
+        let rest : (isByte b && (isByte c && true)) ≡ true = and-right (isByte a) (isByte b && (isByte c && true)) h in (
+          tag-byte a .0 (and-left (isByte a) (isByte b && (isByte c && true)) h),
+          tag-byte b .0 (and-left (isByte b) (isByte c && true) rest),
+          tag-byte c .0 (and-left (isByte c) true (and-right (isByte b) (isByte c && true) rest)),
         ),
     λ k.
-        and-both (isTag tag) (not (begins (text "UN") tag) || (service && alone))
-        (and-both (isByte a) (isByte b && (isByte c && true)) (tag-byte a .1 (k .0 .0))
-        (and-both (isByte b) (isByte c && true) (tag-byte b .1 (k .0 .1)) (and-both (isByte c) true (tag-byte c .1 (k .0 .2)) refl)))
-        (step (begins (text "UN") tag) refl (k .1)),
+        and-both (isByte a) (isByte b && (isByte c && true)) (tag-byte a .1 (k .0))
+        (and-both (isByte b) (isByte c && true) (tag-byte b .1 (k .1)) (and-both (isByte c) true (tag-byte c .1 (k .2)) refl)),
+  )
+
+  -- behind `UN`, the test asks for the third byte
+  third-kept : a ∷ b ∷ [] ≡ text "UN" → not (is User (kindNamed tag)) ≡ member c (text "BGHSTEZ")
+  third-kept e = ap (λ (l : Bytes). not (is User (kindNamed (l ++ c ∷ [])))) e ∙ third-byte c
+
+  begins-un : (begins (text "UN") tag ≡ true) ↔ (a ∷ b ∷ [] ≡ text "UN")
+  unfolding begins
+  begins-un = (
+    λ h.
+        ap₂ (λ (x y : ℕ). x ∷ y ∷ []) (sym (eqb-true 85 a (and-left (eqb 85 a) (eqb 78 b && true) h)))
+        (sym (eqb-true 78 b (and-left (eqb 78 b) true (and-right (eqb 85 a) (eqb 78 b && true) h)))),
+    λ e. ap (λ (l : Bytes). begins (text "UN") (l ++ c ∷ [])) e,
+  )
+
+  service-kept : (alone : Bool)
+      → (served tag alone ≡ true) ↔ (a ∷ b ∷ [] ≡ text "UN" → (member c (text "BGHSTEZ") ≡ true) × (alone ≡ true))
+  service-kept alone = (
+    λ h e.
+        let asked : (service && alone) ≡ true = sym (ap (λ (t : Bool). not t || (service && alone)) (begins-un .1 e)) ∙ h in
+        (sym (third-kept e) ∙ and-left service alone asked, and-right service alone asked),
+    λ k. step (begins (text "UN") tag) refl k,
   )
     where
+      service : Bool
+      service = not (is User (kindNamed tag))
+
       step : (t : Bool) → begins (text "UN") tag ≡ t
           → (a ∷ b ∷ [] ≡ text "UN" → (member c (text "BGHSTEZ") ≡ true) × (alone ≡ true)) → (not t || (service && alone)) ≡ true
-      step true e k = let u = un-begins e in and-both service alone (service-third u ∙ k u .0) (k u .1)
-      step false e k = refl
+      step true h k = let e = begins-un .0 h in and-both service alone (third-kept e ∙ k e .0) (k e .1)
+      step false h k = refl
 
-three : (tag : Bytes) → length tag ≡ 3 → (a : ℕ) × (b : ℕ) × (c : ℕ) × (tag ≡ a ∷ b ∷ c ∷ [])
-three [] h = absurd (omega arith)
-three (a ∷ []) h = absurd (omega arith)
-three (a ∷ b ∷ []) h = absurd (omega arith)
-three (a ∷ b ∷ c ∷ []) h = (a, b, c, refl)
-three (a ∷ b ∷ c ∷ d ∷ tag) h = absurd (omega arith)
+three : (tag : Bytes) → isTag tag ≡ true → (a : ℕ) × (b : ℕ) × (c : ℕ) × (tag ≡ a ∷ b ∷ c ∷ [])
+unfolding isTag
+three tag h = split tag (eqb-true (length tag) 3 (and-left (eqb (length tag) 3) (all isByte tag) h))
+  where
+    split : (l : Bytes) → length l ≡ 3 → (a : ℕ) × (b : ℕ) × (c : ℕ) × (l ≡ a ∷ b ∷ c ∷ [])
+    split [] e = absurd (omega arith)
+    split (a ∷ []) e = absurd (omega arith)
+    split (a ∷ b ∷ []) e = absurd (omega arith)
+    split (a ∷ b ∷ c ∷ []) e = (a, b, c, refl)
+    split (a ∷ b ∷ c ∷ d ∷ l) e = absurd (omega arith)
 
 -- a finished segment passes the test exactly where its values are tagged
-pub tag-rule : (g : Segment) → endedBy 0 g ≡ true → (tagRule g ≡ true) ↔ Tagged (wordsOf g)
-unfolding tagRule kindOf isTag
+tag-rule : (g : Segment) → endedBy 0 g ≡ true → (tagRule g ≡ true) ↔ Tagged (wordsOf g)
+unfolding tagRule kindOf
 tag-rule g ended = (
   λ h.
-      let (a, b, c, e) = three (tagOf g) (eqb-true (length (tagOf g)) 3 (and-left (eqb (length (tagOf g)) 3) (all (λ x. upper x || digit x) (tagOf g)) (and-left (isTag (tagOf g)) (not (begins (text "UN") (tagOf g)) || (not (is User (kindOf g)) && alone)) h))) in
-      let k = kept a b c alone .0 (subst (λ (l : Bytes). keeps l alone ≡ true) e h) in
+      let (a, b, c, e) = three (tagOf g) (and-left (isTag (tagOf g)) (served (tagOf g) alone) h) in
+      let k : keeps (a ∷ b ∷ c ∷ []) alone ≡ true = subst (λ (l : Bytes). keeps l alone ≡ true) e h in
+      let asked = service-kept a b c alone .0 (and-right (isTag (a ∷ b ∷ c ∷ [])) (served (a ∷ b ∷ c ∷ []) alone) k) in
       record {
         first = a;
         second = b;
         third = c;
         repetition = repetitionOf g;
-        elements = wordsOf (beyond (ends 1) g);
-        shape = words-first g ended ∙ ap (λ (l : Bytes). (l ∷ repetitionOf g) ∷ wordsOf (beyond (ends 1) g)) e;
-        bytes = k .0;
-        service = λ u. (k .1 u .0, empty-nil (repetitionOf g) .0 (repetition-none g ended ∙ k .1 u .1));
+        elements = others;
+        shape = words-first g ended ∙ ap (λ (l : Bytes). (l ∷ repetitionOf g) ∷ others) e;
+        bytes = bytes-kept a b c .0 (and-left (isTag (a ∷ b ∷ c ∷ [])) (served (a ∷ b ∷ c ∷ []) alone) k);
+        service = λ u. (asked u .0, empty-nil (repetitionOf g) .0 (repetition-none g ended ∙ asked u .1));
       },
   λ d.
-      let same : (tagOf g ∷ repetitionOf g) ∷ wordsOf (beyond (ends 1) g) ≡ ((d .first ∷ d .second ∷ d .third ∷ []) ∷ d .repetition) ∷ d .elements = sym (words-first g ended) ∙ d .shape in
-      let e : tagOf g ≡ d .first ∷ d .second ∷ d .third ∷ [] = cc same in
+      let named : Bytes = d .first ∷ d .second ∷ d .third ∷ [] in
+      let same : (tagOf g ∷ repetitionOf g) ∷ others ≡ (named ∷ d .repetition) ∷ d .elements = sym (words-first g ended) ∙ d .shape in
+      let e : tagOf g ≡ named = cc same in
       let r : repetitionOf g ≡ d .repetition = cc same in
       subst (λ (l : Bytes). keeps l alone ≡ true) (sym e)
-      (kept (d .first) (d .second) (d .third) alone .1 (d .bytes, λ u. (d .service u .0, sym (repetition-none g ended) ∙ empty-nil (repetitionOf g) .1 (r ∙ d .service u .1)))),
+      (and-both (isTag named) (served named alone) (bytes-kept (d .first) (d .second) (d .third) .1 (d .bytes))
+      (service-kept (d .first) (d .second) (d .third) alone .1
+      (λ u. (d .service u .0, sym (repetition-none g ended) ∙ empty-nil (repetitionOf g) .1 (r ∙ d .service u .1))))),
 )
   where
     alone : Bool
     alone = endedBy 1 (tagPiece g)
+
+    others : List (List Bytes)
+    others = wordsOf (beyond (ends 1) g)
 
 -- where neither 4 nor 5 is met, 6 is not met exactly where every segment is tagged
 pub tags-clear : (s : List ℕ) → Sound (bodyTokens s)
@@ -236,13 +244,17 @@ unfolding brokenTags segmentsOf listed finished
 tags-clear s sound = (
   λ h segment m.
       let (g, k, e) = Memᴰ·of-map wordsOf (segments (bodyTokens s)) m in
-      subst Tagged e (tag-rule g (ended g k) .0 (not-false (tagRule g) (sym (ap (λ (t : Bool). t && not (tagRule g)) (sound-finished (bodyTokens s) sound g k)) ∙ none .0 h g k))),
+      subst Tagged e (tag-rule g (ended g k) .0 (not-false (tagRule g) (sym (done g k (not (tagRule g))) ∙ clear .0 h g k))),
   λ tagged.
-      none .1 (λ g k. ap (λ (t : Bool). finished g && not t) (tag-rule g (ended g k) .1 (tagged (wordsOf g) (Memᴰ·map wordsOf k))) ∙ and-false (finished g)),
+      clear .1 (λ g k. done g k (not (tagRule g)) ∙ ap not (tag-rule g (ended g k) .1 (tagged (wordsOf g) (Memᴰ·map wordsOf k)))),
 )
   where
-    none : (brokenTags s ≡ []) ↔ ((g : Segment) → List·Memᴰ g (segmentsOf s) → (finished g && not (tagRule g)) ≡ false)
-    none = starts-none (λ g. finished g && not (tagRule g)) [] (segmentsOf s)
+    clear : (brokenTags s ≡ []) ↔ ((g : Segment) → List·Memᴰ g (segmentsOf s) → (finished g && not (tagRule g)) ≡ false)
+    clear = starts-none (λ g. finished g && not (tagRule g)) [] (segmentsOf s)
+
+    -- each segment is finished, so that the rule alone is asked
+    done : (g : Segment) → List·Memᴰ g (segments (bodyTokens s)) → (t : Bool) → (finished g && t) ≡ t
+    done g k t = ap (λ (b : Bool). b && t) (sound-finished (bodyTokens s) sound g k)
 
     ended : (g : Segment) → List·Memᴰ g (segments (bodyTokens s)) → endedBy 0 g ≡ true
     ended g k = and-left (endedBy 0 g) (all (λ t. not (isFault t)) g) (sound-finished (bodyTokens s) sound g k)

@@ -21,7 +21,8 @@ use Rattle.grammar.specs.Grammar.{Interchange}
 
 -- An advice of six usable bytes, and behind it `UNB` and the element separator; or, without advice, one of the two beginnings.
 pub data Opening (s : List ℕ) : Type 0 where
-  advice : (c : Characters) (rest : List ℕ) → usable c ≡ true → s ≡ adviceOf c ++ (text "UNB" ++ c .element ∷ rest) → Opening s
+  advice : (c : Characters) (rest : List ℕ) → usable c ≡ true → s ≡ adviceOf c ++ (text "UNB" ++ c .element ∷ rest)
+      → Opening s
   plus : (rest : List ℕ) → s ≡ text "UNB+" ++ rest → Opening s
   control : (rest : List ℕ) → s ≡ text "UNB" ++ 29 ∷ rest → Opening s
 
@@ -63,24 +64,24 @@ pub record Named (unb : Segment) (level : Level) : Type 0 where
   pub name : valueAt (contentsOf unb) 1 0 ≡ some (nameOf level)
   pub version : (valueAt (contentsOf unb) 1 1 ≡ some (text "1")) ⊎ (valueAt (contentsOf unb) 1 1 ≡ some (text "2"))
 
--- ---- all of them
+-- ---- all of them, each beside the refusals that it leaves unmet
 
 pub record Allowed (s : List ℕ) : Type 0 where
-  -- the input has at most 32,000 bytes
+  -- 1: the input has at most 32,000 bytes
   pub size : length s ≤ 32000
-  -- it begins as an interchange does, with usable service characters
+  -- 2, 3: it begins as an interchange does, with usable service characters
   pub opening : Opening s
-  -- the body is the spelling of a list of segments, "each service character inside a value being released and nothing else"
+  -- 4, 5: the body is the spelling of a list of segments, "each service character inside a value being released and nothing else"
   pub spelled : Spelled (charactersOf s) (body s)
-  -- every segment keeps the rule for tags
+  -- 6: every segment keeps the rule for tags
   pub tags : (segment : List (List Bytes)) → List·Memᴰ segment (spelled .list) → Tagged segment
-  -- "UNB; then one or more groups, or one or more messages, not both; then UNZ", each trailer with the reference of its header and
-  -- the true count
+  -- 9 to 12: the same segments, as they stand in the input, are an interchange of the grammar: "UNB; then one or more groups, or one or
+  -- more messages, not both; then UNZ", each trailer with the reference of its header and the true count.
   pub order : Interchange (segmentsOf s)
-  -- UNB names a level and a version that are ours
+  -- 7: UNB names a level and a version that are ours
   pub level : Level
   pub named : Named (order .head) level
-  -- "Every value byte, released ones too, must be in the level."
+  -- 8: "Every value byte, released ones too, must be in the level."
   pub inside : all (all (all (all (holds level)))) (spelled .list) ≡ true
-  -- the normal form has at most 32,000 bytes
+  -- 13: the normal form has at most 32,000 bytes
   pub normal-size : length (normalForm s) ≤ 32000

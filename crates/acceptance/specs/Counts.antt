@@ -1,9 +1,14 @@
--- How many messages and groups an interchange of the grammar has, counted piece by piece. Assumes nothing.
+-- What Judge tells of an allowed input: its messages and groups are counted piece by piece, as the grammar has them.
+-- Assumes nothing.
 use Prim.Native.Nat.{ℕ, _+_}
 use mathlib.Core.Logic.{⊎-elim}
-use mathlib.Core.List.{List}
+use mathlib.Core.List.{List, [], _∷_, _++_}
+use lib.ListN.{length}
+use Rattle.characters.specs.Characters.{spelledOut, charactersOf}
 use Rattle.reading.specs.Tokens.{Segment}
+use Rattle.verdict.specs.Contents.{normalForm}
 use Rattle.grammar.specs.Grammar.{OneOrMore, one, more, size, Group, Agrees, Interchange}
+use Rattle.acceptance.specs.Allowed.{Allowed}
 
 -- the messages of each group, added up
 unfoldable pub messagesOf : {gs : List Segment} → OneOrMore (Group Agrees) gs → ℕ
@@ -16,3 +21,9 @@ messages i = ⊎-elim messagesOf size (i .inside)
 
 unfoldable pub groups : {gs : List Segment} → Interchange gs → ℕ
 groups i = ⊎-elim size (λ h. 0) (i .inside)
+
+-- "service characters, counts of segments, messages and groups, length of the normal form"
+abbrev pub told : (s : List ℕ) → Allowed s → List ℕ
+told s a =
+    spelledOut (charactersOf s)
+    ++ length (a .spelled .list) ∷ messages (a .order) ∷ groups (a .order) ∷ length (normalForm s) ∷ []

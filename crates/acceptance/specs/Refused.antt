@@ -53,4 +53,5 @@ pub record Refused (s : List ℕ) (f : Fault) (p : ℕ) : Type 0 where
   -- no fault of an earlier stage is met anywhere
   pub earlier : (faults : List Fault) → List·Memᴰ faults before → (g : Fault) → List·Memᴰ g faults → placesOf g s ≡ []
   -- each fault of this stage is met farther on, or at the same place with a number that is not lower
-  pub lowest : (g : Fault) → List·Memᴰ g stage → (q : ℕ) → List·Memᴰ q (placesOf g s) → (p < q) ⊎ ((p ≡ q) × (number f ≤ number g))
+  pub lowest : (g : Fault) → List·Memᴰ g stage → (q : ℕ) → List·Memᴰ q (placesOf g s)
+      → (p < q) ⊎ ((p ≡ q) × (number f ≤ number g))
