@@ -19,7 +19,7 @@ use Rattle.cases.specs.Cases.{Case, accepted, x, cases, says, meets, holds}
 use Rattle.cases.specs.Theorem.{all-cases-hold}
 use Rattle.acceptance.specs.Allowed.{Opening, advice, plus, control, Allowed}
 use Rattle.acceptance.specs.Counts.{messages, groups, told}
-use Rattle.acceptance.proofs.Clear.{all-each}
+use Rattle.acceptance.proofs.Each.{all-each}
 use Rattle.acceptance.proofs.Judged.{judged-accepted, judged-number}
 
 passed : (t : Bool) → T t → t ≡ true

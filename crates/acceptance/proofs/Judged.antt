@@ -20,17 +20,16 @@ use Rattle.refusals.proofs.Order.{number-tells}
 use Rattle.segments.specs.declared.Kind.the-variants.{Ung, Unh}
 use Rattle.segments.specs.Tags.{kindOf}
 use Rattle.segments.specs.Order.{segmentsIn, messagesIn, groupsIn}
-use Rattle.verdict.specs.Contents.{segmentsOf, kindsOf, normalForm}
+use Rattle.verdict.specs.Contents.{bodyTokens, segmentsOf, kindsOf, normalForm}
 use Rattle.verdict.specs.Stages.{refusalOf}
 use Rattle.answers.specs.Answers.{Answer, given, refused, accepted}
 use Rattle.operations.specs.Judge.{interchangeOf, judge}
-use Rattle.spelling.specs.Bodies.{wordsOf, listed}
+use Rattle.spelling.specs.Bodies.{wordsOf, listed, readList}
 use Rattle.acceptance.specs.Allowed.{Allowed}
 use Rattle.acceptance.specs.Refused.{Refused}
 use Rattle.acceptance.specs.Counts.{messages, groups, told}
-use Rattle.acceptance.proofs.Acceptance.{list-is, accepted-exactly}
+use Rattle.acceptance.proofs.Acceptance.{list-read, allowed-exactly}
 use Rattle.acceptance.proofs.Stages.{refused-exactly}
-use Rattle.acceptance.proofs.Opening.{usable-opening}
 use Rattle.acceptance.proofs.Counts.{number-back, message-headers, group-headers}
 
 -- no fault has the number 0
@@ -77,12 +76,12 @@ module _ (s : List ℕ) where
 
   module _ (a : Allowed s) where
     counted-segments : segmentsIn (kindsOf s) ≡ length (a .spelled .list)
-    unfolding segmentsIn kindsOf segmentsOf listed
+    unfolding segmentsIn kindsOf segmentsOf bodyTokens listed readList
     counted-segments =
         length-reverse (map kindOf (segmentsOf s))
         ∙ length-map kindOf (segmentsOf s)
         ∙ sym (length-map wordsOf (segmentsOf s))
-        ∙ ap length (sym (list-is s (usable-opening (a .opening)) (a .spelled)))
+        ∙ ap length (sym (list-read s a))
 
     counted-messages : messagesIn (kindsOf s) ≡ messages (a .order)
     unfolding messagesIn kindsOf
@@ -96,7 +95,7 @@ module _ (s : List ℕ) where
     pub judged-accepted : judge s ≡ given (told s a)
     unfolding accepted interchangeOf
     judged-accepted =
-        judge-none (accepted-exactly s .1 a)
+        judge-none (allowed-exactly s .1 a)
         ∙ ap (λ (n : ℕ). told-as n (messagesIn (kindsOf s)) (groupsIn (kindsOf s))) counted-segments
         ∙ ap₂ (told-as (length (a .spelled .list))) counted-messages counted-groups
       where
@@ -124,12 +123,12 @@ module _ (s : List ℕ) where
   judged = step (refusalOf s) refl
     where
       step : (o : Option Refusal) → refusalOf s ≡ o → Allowed s ⊎ ((f : Fault) × (p : ℕ) × Refused s f p)
-      step none e = inl (accepted-exactly s .0 e)
+      step none e = inl (allowed-exactly s .0 e)
       step (some r) e = inr (r .fault, r .place, refused-exactly s (r .fault) (r .place) .0 e)
 
   -- never both
   pub not-both : {f : Fault} {p : ℕ} → Allowed s → Refused s f p → ⊥
-  not-both {f} {p} a d = Option·none-ne-some (at f p) (sym (accepted-exactly s .1 a) ∙ refused-exactly s f p .1 d)
+  not-both {f} {p} a d = Option·none-ne-some (at f p) (sym (allowed-exactly s .1 a) ∙ refused-exactly s f p .1 d)
 
   -- and only one refusal
   pub one-refusal : {f g : Fault} {p q : ℕ} → Refused s f p → Refused s g q → (f ≡ g) × (p ≡ q)
@@ -149,5 +148,5 @@ module _ (s : List ℕ) where
         let is = judged-refused (d .0) (d .1) .1 (d .2) in
         absurd (number-not-zero (d .0) (ap (λ (x : Answer). x .number) (sym is) ∙ e)))
         judged,
-    λ a. ap (λ (x : Answer). x .number) (judge-none (accepted-exactly s .1 a)),
+    λ a. ap (λ (x : Answer). x .number) (judge-none (allowed-exactly s .1 a)),
   )

@@ -1,27 +1,25 @@
 -- Levels: refusals 7 and 8 are not met exactly where UNB names a level and a version that are ours, and every value byte is in
 -- that level. Assumes nothing.
 use Prim.Native.Nat.{ℕ}
-use mathlib.Core.Path.{_≡_, refl, sym, ap, ap₂, _∙_}
+use mathlib.Core.Path.{_≡_, refl, sym, ap, ap₂, fun-ext, _∙_}
 use mathlib.Core.Logic.{_↔_, _⊎_, inl, inr, ⊎-elim}
-use mathlib.Core.Bool.{Bool, true, false, not, _||_, and-true, false≢true}
+use mathlib.Core.Bool.{Bool, true, false, _||_, false≢true}
 use mathlib.Core.List.{List, [], _∷_, cons-ne-nil}
 use mathlib.Core.Option.{Option, none, some, Option·none-ne-some, Option·some-injective}
 use lib.Dec.{leb}
-use borrow.Author.Tests.{not-false}
 use Rattle.lists.specs.Lists.{if_then_else_, text, same, all, at, maybe}
 use Rattle.lists.proofs.Texts.{same-eq, or-cases}
 use Rattle.characters.specs.Characters.{lower}
-use Rattle.reading.specs.Tokens.{Token, byte, separator, fault, Segment, start}
-use Rattle.reading.specs.Values.{byteOf}
+use Rattle.reading.specs.Tokens.{Segment, start}
 use Rattle.reading.specs.Trimming.{valueAt, contentsOf}
 use Rattle.reading.specs.Spelling.{Bytes}
 use Rattle.levels.specs.Levels.{inLevelA, inLevelB, classOf, levelNamed, inLevel, isOurVersion, levelOf}
-use Rattle.verdict.specs.Contents.{bodyTokens, segmentsOf}
-use Rattle.verdict.specs.Places.{foreignLevel, level, placeOutside, outsideLevel}
-use Rattle.spelling.specs.Bodies.{listed}
+use Rattle.verdict.specs.Contents.{segmentsOf}
+use Rattle.verdict.specs.Places.{foreignLevel, level, outsideLevel}
+use Rattle.forms.specs.Forms.{listOf}
+use Rattle.forms.proofs.Trimmed.{allBytes}
+use Rattle.forms.proofs.LevelBytes.{level-bytes}
 use Rattle.acceptance.specs.Allowed.{Level, levelA, levelB, nameOf, holds, Named}
-use Rattle.acceptance.proofs.Clear.{place-none, gather-none}
-use Rattle.acceptance.proofs.Pieces.{passesByte, listed-all}
 
 -- the least class of a level's bytes
 abbrev pub class : Level → ℕ
@@ -123,23 +121,8 @@ module _ (s : List ℕ) (unb : Segment) (rest : List Segment) (shape : segmentsO
 
 -- 8 is not met exactly where every value byte is in the level
 pub inside-clear : (s : List ℕ) (l : Level) → level s ≡ class l
-    → (outsideLevel s ≡ []) ↔ (all (all (all (all (holds l)))) (listed (bodyTokens s)) ≡ true)
-unfolding outsideLevel placeOutside byteOf all
-inside-clear s l e = (λ h. listed-is ∙ clear .0 h, λ h. clear .1 (sym listed-is ∙ h))
-  where
-    in-is : (b : ℕ) → inLevel (level s) b ≡ holds l b
-    in-is b = ap (λ (n : ℕ). inLevel n b) e ∙ class-holds l b
-
-    one : (t : Token) → (placeOutside s t ≡ []) ↔ (passesByte (holds l) t ≡ true)
-    one (byte b from place) = (
-      λ h. and-true (holds l b) ∙ sym (in-is b) ∙ not-false (inLevel (level s) b) (place-none (not (inLevel (level s) b)) place .0 h),
-      λ h. place-none (not (inLevel (level s) b)) place .1 (ap not (in-is b ∙ sym (and-true (holds l b)) ∙ h)),
-    )
-    one (separator kind place) = (λ h. refl, λ h. refl)
-    one (fault place) = (λ h. refl, λ h. refl)
-
-    listed-is : all (all (all (all (holds l)))) (listed (bodyTokens s)) ≡ all (passesByte (holds l)) (bodyTokens s)
-    listed-is = listed-all (holds l) (bodyTokens s)
-
-    clear : (outsideLevel s ≡ []) ↔ (all (passesByte (holds l)) (bodyTokens s) ≡ true)
-    clear = gather-none (placeOutside s) (passesByte (holds l)) one (bodyTokens s)
+    → (outsideLevel s ≡ []) ↔ (all (all (all (all (holds l)))) (listOf s) ≡ true)
+inside-clear s l e =
+    let same-test : inLevel (level s) ≡ holds l = fun-ext (λ b. ap (λ (n : ℕ). inLevel n b) e ∙ class-holds l b) in
+    let same-bytes : allBytes (inLevel (level s)) (listOf s) ≡ allBytes (holds l) (listOf s) = ap (λ (t : ℕ → Bool). allBytes t (listOf s)) same-test in
+    (λ h. sym same-bytes ∙ level-bytes s .0 h, λ h. level-bytes s .1 (same-bytes ∙ h))

@@ -1,10 +1,9 @@
+pub mod Each
 pub mod Opening
-pub mod Clear
-pub mod Pieces
 pub mod Tags
 pub mod Levels
-pub mod Stages
 pub mod Acceptance
+pub mod Stages
 pub mod Counts
 pub mod Judged
 pub mod Same

@@ -1,6 +1,6 @@
 -- The opening: refusals 2 and 3 are not met exactly where the input begins as an interchange does. Assumes nothing.
 use Prim.Native.Nat.{ℕ, _≤_}
-use mathlib.Core.Path.{_≡_, refl, sym, ap, ap₂, _∙_}
+use mathlib.Core.Path.{_≡_, refl, sym, ap, _∙_}
 use mathlib.Core.Logic.{_↔_}
 use mathlib.Core.Bool.{Bool, true, false, not, _&&_, _||_, false≢true}
 use mathlib.Core.List.{List, [], _∷_, _++_}
@@ -8,11 +8,14 @@ use native.Mathlib.Omega.{arith}
 use lib.ListN.{length, drop, length-drop}
 use lib.Seq.{drop-drop}
 use lib.Dec.{eqb, ltb}
-use borrow.Author.Tests.{eqb-true, eq-eqb, ltb-false, le-ltb, not-false}
-use Rattle.lists.specs.Lists.{text, begins, member, all, allDiffer}
+use borrow.Author.Tests.{eqb-true, eq-eqb, ltb-false, not-false}
+use Rattle.lists.specs.Lists.{text, begins}
 use Rattle.lists.proofs.Texts.{and-left, and-right, and-both, or-none-left, or-none-right}
 use Rattle.characters.specs.declared.Characters.{Characters}
-use Rattle.characters.specs.Characters.{between, upper, lower, digit, separates, released, serviceCharacters, usable, sixBytes, spelledOut, advised, adviceOf, plusCharacters, controlCharacters, charactersOf, bodyStart, body, badAdvice, opens}
+use Rattle.characters.specs.Characters.{usable, sixBytes, spelledOut, advised, adviceOf, plusCharacters, controlCharacters, charactersOf, bodyStart, body, badAdvice, opens}
+use Rattle.verdict.specs.Places.{unusableAdvice, noOpening}
+use Rattle.forms.proofs.Tests.{place-none, place-none-not}
+use Rattle.forms.proofs.Openings.{advice-good}
 use Rattle.acceptance.specs.Allowed.{Opening, advice, plus, control}
 
 -- what begins with a text is the text and the rest
@@ -83,19 +86,9 @@ module _ (s : List ℕ) where
 
 -- ---- where the input begins so
 
--- its service characters are usable
-pub usable-opening : {s : List ℕ} → Opening s → usable (charactersOf s) ≡ true
-unfolding charactersOf advised adviceOf begins sixBytes spelledOut usable plusCharacters controlCharacters serviceCharacters released member all allDiffer separates between upper lower digit
-usable-opening (advice c rest u e) = ap (λ (s : List ℕ). usable (charactersOf s)) e ∙ u
-usable-opening (plus rest e) = ap (λ (s : List ℕ). usable (charactersOf s)) e
-usable-opening (control rest e) = ap (λ (s : List ℕ). usable (charactersOf s)) e
-
 good-advice : {s : List ℕ} → Opening s → badAdvice s ≡ false
-unfolding badAdvice advised begins adviceOf charactersOf sixBytes spelledOut
-good-advice (advice c rest u e) =
-    ap badAdvice e
-    ∙ ap₂ (λ (short fit : Bool). short || not fit)
-    (le-ltb (length (adviceOf c ++ (text "UNB" ++ c .element ∷ rest))) 9 (omega arith)) u
+unfolding badAdvice advised begins
+good-advice (advice c rest u e) = ap badAdvice e ∙ advice-good c (text "UNB" ++ c .element ∷ rest) u
 good-advice (plus rest e) = ap badAdvice e
 good-advice (control rest e) = ap badAdvice e
 
@@ -106,9 +99,13 @@ opens-opening (plus rest e) = ap opens e
 opens-opening (control rest e) = ap opens e
 
 -- neither refusal 2 nor refusal 3 is met exactly where the input begins so
-pub opening-clear : (s : List ℕ) → (badAdvice s ≡ false) × (opens s ≡ true) ↔ Opening s
-opening-clear s = (λ h. step (advised s) refl h, λ o. (good-advice o, opens-opening o))
+pub opening-clear : (s : List ℕ) → (unusableAdvice s ≡ []) × (noOpening s ≡ []) ↔ Opening s
+unfolding unusableAdvice noOpening
+opening-clear s = (
+  λ h. step (advised s) refl (place-none (badAdvice s) 0 .0 (h .0)) (place-none-not (opens s) (bodyStart s) .0 (h .1)),
+  λ o. (place-none (badAdvice s) 0 .1 (good-advice o), place-none-not (opens s) (bodyStart s) .1 (opens-opening o)),
+)
   where
-    step : (t : Bool) → advised s ≡ t → (badAdvice s ≡ false) × (opens s ≡ true) → Opening s
-    step true e h = opening-advice s e (h .0) (h .1)
-    step false e h = opening-none s e (h .1)
+    step : (t : Bool) → advised s ≡ t → badAdvice s ≡ false → opens s ≡ true → Opening s
+    step true e h o = opening-advice s e h o
+    step false e h o = opening-none s e o

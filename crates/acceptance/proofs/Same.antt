@@ -3,7 +3,7 @@
 use Prim.Native.Nat.{ℕ, _≤_, _<_}
 use mathlib.Core.Path.{_≡_, refl, sym, ap, ap₂, subst, _∙_}
 use mathlib.Core.Logic.{_↔_, _⊎_, inl, inr, ⊎-elim}
-use mathlib.Core.Bool.{Bool, true, false, _&&_, false≢true}
+use mathlib.Core.Bool.{Bool, true, false, false≢true}
 use mathlib.Core.List.{List, [], _∷_}
 use mathlib.Core.Option.{Option, none, some}
 use native.Mathlib.Omega.{arith}
@@ -11,29 +11,21 @@ use lib.ListN.{length, getD}
 use lib.Seq.{take-length}
 use lib.Dec.{ltb}
 use borrow.Author.Tests.{ltb-true, ltb-false}
-use Rattle.lists.specs.Lists.{if_then_else_, same, maybe}
-use Rattle.lists.proofs.Texts.{and-left, and-right, and-both, same-eq, same-refl, if-true, if-false}
+use Rattle.lists.specs.Lists.{if_then_else_, maybe}
+use Rattle.lists.proofs.Texts.{if-true, if-false}
 use Rattle.refusals.specs.declared.Refusal.{Refusal}
-use Rattle.verdict.specs.Contents.{normalForm}
 use Rattle.verdict.specs.Stages.{refusalOf}
 use Rattle.answers.specs.Answers.{Answer, given, refusedInput}
-use Rattle.operations.specs.Compare.{isAccepted, areSame, compare, Part, ofFirst, ofSecond, keep}
+use Rattle.operations.specs.Compare.{areSame, compare, Part, ofFirst, ofSecond, keep}
+use Rattle.forms.proofs.Theorems.{same-normal, same-exactly}
 use Rattle.acceptance.specs.Allowed.{Allowed}
 use Rattle.acceptance.specs.Same.{Same, handed}
-use Rattle.acceptance.proofs.Acceptance.{accepted-exactly}
+use Rattle.acceptance.proofs.Acceptance.{allowed-exactly}
 use Rattle.acceptance.proofs.Judged.{number-not-zero}
 
 -- 1 for "same", 0 for "different"
 abbrev word : Bool → ℕ
 word t = if t then 1 else 0
-
-accepted-test : (s : List ℕ) → (isAccepted s ≡ true) ↔ Allowed s
-unfolding isAccepted maybe
-accepted-test s = (λ h. step (refusalOf s) refl h, λ a. ap (maybe true (λ r. false)) (accepted-exactly s .1 a))
-  where
-    step : (o : Option Refusal) → refusalOf s ≡ o → maybe true (λ r. false) o ≡ true → Allowed s
-    step none e h = accepted-exactly s .0 e
-    step (some r) e h = absurd (false≢true h)
 
 -- ---- an equivalence of accepted interchanges
 
@@ -50,23 +42,16 @@ module _ (a b : List ℕ) where
   -- ---- Compare
 
   same-test : (areSame a b ≡ true) ↔ Same a b
-  unfolding areSame
   same-test = (
     λ h.
-        let both = and-left (isAccepted a && isAccepted b) equal h in
-        record {
-          first = accepted-test a .0 (and-left (isAccepted a) (isAccepted b) both);
-          second = accepted-test b .0 (and-right (isAccepted a) (isAccepted b) both);
-          normal = same-eq (normalForm a) (normalForm b) (and-right (isAccepted a && isAccepted b) equal h);
-        },
+        let (x, y, c, m) = same-exactly a b .0 h in
+        record { first = allowed-exactly a .0 x; second = allowed-exactly b .0 y; normal = same-normal a b x y .1 (c, m) },
     λ h.
-        and-both (isAccepted a && isAccepted b) equal
-        (and-both (isAccepted a) (isAccepted b) (accepted-test a .1 (h .first)) (accepted-test b .1 (h .second)))
-        (ap (same (normalForm a)) (sym (h .normal)) ∙ same-refl (normalForm a)),
+        let x = allowed-exactly a .1 (h .first) in
+        let y = allowed-exactly b .1 (h .second) in
+        let e = same-normal a b x y .0 (h .normal) in
+        same-exactly a b .1 (x, y, e .0, e .1),
   )
-    where
-      equal : Bool
-      equal = same (normalForm a) (normalForm b)
 
   not-same : (Same a b → ⊥) → areSame a b ≡ false
   not-same h = step (areSame a b) refl
@@ -83,7 +68,7 @@ module _ (a b : List ℕ) where
       step : (o : Option Refusal) → refusalOf a ≡ o → (p : Option Refusal) → refusalOf b ≡ p
           → maybe (maybe (given (word (areSame a b) ∷ [])) (refusedInput 2) p) (refusedInput 1) o .number ≡ 0
           → Allowed a × Allowed b
-      step none e none f h = (accepted-exactly a .0 e, accepted-exactly b .0 f)
+      step none e none f h = (allowed-exactly a .0 e, allowed-exactly b .0 f)
       step none e (some r) f h = absurd (number-not-zero (r .fault) h)
       step (some r) e p f h = absurd (number-not-zero (r .fault) h)
 
@@ -91,7 +76,7 @@ module _ (a b : List ℕ) where
   unfolding compare maybe
   compare-told h k =
       ap₂ (λ (o p : Option Refusal). maybe (maybe (given (word (areSame a b) ∷ [])) (refusedInput 2) p) (refusedInput 1) o)
-      (accepted-exactly a .1 h) (accepted-exactly b .1 k)
+      (allowed-exactly a .1 h) (allowed-exactly b .1 k)
 
   -- "same" exactly where they are the same
   pub compared-same : (compare a b ≡ given (1 ∷ [])) ↔ Same a b

@@ -1,16 +1,15 @@
--- The stages, by their faults: nothing is refused exactly where no fault has a place, and a refusal is the paper's. Assumes nothing.
-use Prim.Native.Nat.{ℕ, zero, suc, _≤_, _<_}
+-- The stages, by their faults: a refusal is answered exactly where the paper says so. Assumes nothing.
+use Prim.Native.Nat.{ℕ, _≤_, _<_}
 use mathlib.Core.Path.{_≡_, refl, sym, ap, ap₂, subst, _∙_}
 use mathlib.Core.Logic.{_↔_, ⊎-elim, _⊎_, inl, inr}
 use mathlib.Core.Bool.{Bool, true, false}
-use mathlib.Core.List.{List, [], _∷_, _++_, map, map-append, append-nil, append-assoc, cons-ne-nil, List·Memᴰ, List·Memᴰ·head, List·Memᴰ·tail, List·Memᴰ·not-nil, List·Memᴰ·cases-cons, List·Memᴰ·append-cases, Memᴰ·append-left, Memᴰ·append-right, Memᴰ·map, Memᴰ·of-map}
-use mathlib.Core.Option.{none, some, Option·none-ne-some, Option·some-injective}
+use mathlib.Core.List.{List, [], _∷_, _++_, map, map-append, append-nil, append-assoc, append-eq-nil-iff, cons-ne-nil, List·Memᴰ, List·Memᴰ·head, List·Memᴰ·tail, List·Memᴰ·not-nil, List·Memᴰ·cases-cons, List·Memᴰ·append-cases, Memᴰ·append-left, Memᴰ·append-right, Memᴰ·map, Memᴰ·of-map}
+use mathlib.Core.Option.{some}
 use native.Mathlib.Omega.{arith}
 use lib.Dec.{ltb}
 use borrow.Author.Tests.{ltb-true, ltb-false}
-use Rattle.lists.specs.Lists.{at, gather}
+use Rattle.lists.specs.Lists.{gather}
 use Rattle.refusals.specs.declared.Fault.{Fault}
-use Rattle.refusals.specs.declared.Fault.the-variants.{TooLong, UnusableAdvice, NoOpening, StrayRelease, UnendedSegment, BrokenTag, ForeignLevel, OutsideLevel, MisplacedSegment, BadControl, ReferenceDiffers, CountWrong, NormalTooLong, BufferShort, BadList, NeedsRelease}
 use Rattle.refusals.specs.declared.Refusal.{Refusal}
 use Rattle.refusals.specs.Refusals.{Stage, number, met, isLower, lowest, orElse, answering}
 use Rattle.refusals.proofs.Order.{number-below, key, not-lower, key-least}
@@ -18,15 +17,8 @@ use Rattle.refusals.proofs.Lowest.{LowestOf, lowest-is, lowest-answers}
 use Rattle.refusals.proofs.Stages.{NoneMet, met-none, met-member, answering-append, answering-first, answering-some, answering-none}
 use Rattle.verdict.specs.Stages.{laterStages, stages, refusalOf}
 use Rattle.acceptance.specs.Refused.{placesOf, brackets, Refused}
-use Rattle.acceptance.proofs.Clear.{both-empty}
 
 -- ---- lists
-
-at-member : {A : Type 0} (xs : List A) (n : ℕ) {x : A} → at xs n ≡ some x → List·Memᴰ x xs
-unfolding at
-at-member [] n {x} e = absurd (Option·none-ne-some x e)
-at-member (y ∷ ys) zero {x} e = List·Memᴰ·head (sym (Option·some-injective y x e))
-at-member (y ∷ ys) (suc n) e = List·Memᴰ·tail (at-member ys n e)
 
 -- where a mapped list is split, the list is
 record Split {A B : Type 0} (f : A → B) (xs : List A) (ys : List B) (z : B) : Type 0 where
@@ -110,7 +102,7 @@ module _ (s : List ℕ) where
   bracketed-none [] = (λ e f m. absurd (List·Memᴰ·not-nil m), λ h. refl)
   bracketed-none (f ∷ faults) =
       let rest = bracketed-none faults in
-      let both = both-empty (met f (placesOf f s)) (bracketed faults) in (
+      let both = append-eq-nil-iff {p = met f (placesOf f s)} {q = bracketed faults} in (
         λ e g m.
             ⊎-elim (λ k. ap (λ (h : Fault). placesOf h s) k ∙ met-none f (placesOf f s) .0 (both .0 e .0)) (rest .0 (both .0 e .1) g)
             (List·Memᴰ·cases-cons m),
@@ -124,44 +116,6 @@ module _ (s : List ℕ) where
   none-met bs = (
     λ h faults m. bracketed-none faults .0 (h (bracketed faults) (Memᴰ·map bracketed m)),
     λ h stage m. let (faults, k, e) = Memᴰ·of-map bracketed bs m in sym e ∙ bracketed-none faults .1 (h faults k),
-  )
-
-  -- the fault has no place, or is of a stage
-  abbrev Staged : Fault → Type 0
-  Staged f = (placesOf f s ≡ []) ⊎ ((faults : List Fault) × List·Memᴰ faults brackets × List·Memᴰ f faults)
-
-  -- it is the one at a number in the stage at a number
-  stands : {f : Fault} {faults : List Fault} (n k : ℕ) → at brackets n ≡ some faults → at faults k ≡ some f → Staged f
-  stands {f} {faults} n k e h = inr (faults, at-member brackets n e, at-member faults k h)
-
-  staged : (f : Fault) → Staged f
-  unfolding placesOf brackets at
-  staged TooLong = stands 0 0 refl refl
-  staged UnusableAdvice = stands 1 0 refl refl
-  staged NoOpening = stands 2 0 refl refl
-  staged StrayRelease = stands 3 0 refl refl
-  staged UnendedSegment = stands 3 1 refl refl
-  staged BrokenTag = stands 3 2 refl refl
-  staged ForeignLevel = stands 4 0 refl refl
-  staged OutsideLevel = stands 5 0 refl refl
-  staged MisplacedSegment = stands 6 0 refl refl
-  staged BadControl = stands 7 0 refl refl
-  staged ReferenceDiffers = stands 7 1 refl refl
-  staged CountWrong = stands 7 2 refl refl
-  staged NormalTooLong = stands 8 0 refl refl
-  staged BufferShort = inl refl
-  staged BadList = inl refl
-  staged NeedsRelease = inl refl
-
-  -- nothing is refused exactly where no fault has a place
-  pub clear-exactly : (refusalOf s ≡ none) ↔ ((f : Fault) → placesOf f s ≡ [])
-  unfolding refusalOf
-  clear-exactly = (
-    λ h f.
-        ⊎-elim (λ e. e)
-        (λ m. none-met brackets .0 (subst NoneMet stages-are (answering-none (stages s) .0 h)) (m .0) (m .1) f (m .2))
-        (staged f),
-    λ h. answering-none (stages s) .1 (subst NoneMet (sym stages-are) (none-met brackets .1 (λ faults m f k. h f))),
   )
 
   -- a refusal is answered exactly where the paper says so
