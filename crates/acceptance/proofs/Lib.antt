@@ -1,0 +1,10 @@
+pub mod Each
+pub mod Opening
+pub mod Tags
+pub mod Levels
+pub mod Acceptance
+pub mod Stages
+pub mod Counts
+pub mod Judged
+pub mod Same
+pub mod Fakes

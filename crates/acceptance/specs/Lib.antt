@@ -1,0 +1,4 @@
+pub mod Allowed
+pub mod Refused
+pub mod Counts
+pub mod Same
