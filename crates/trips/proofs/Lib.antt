@@ -1,0 +1,4 @@
+pub mod Values
+pub mod Written
+pub mod Numbers
+pub mod Theorems

@@ -1,0 +1,133 @@
+-- The theorems of this crate. Assumes nothing.
+use Prim.Native.Nat.{ℕ, _≤_}
+use mathlib.Core.Path.{_≡_, refl, sym, ap, ap₂, _∙_}
+use mathlib.Core.Bool.{Bool, true, false, true≢false}
+use mathlib.Core.List.{List, [], _∷_}
+use mathlib.Core.Option.{Option, none, some}
+use lib.ListN.{length}
+use Rattle.lists.specs.Lists.{if_then_else_, maybe}
+use Rattle.characters.specs.declared.Characters.{Characters}
+use Rattle.characters.specs.Characters.{usable, sixBytes, released, charactersOf}
+use Rattle.refusals.specs.declared.Refusal.{Refusal}
+use Rattle.verdict.specs.Contents.{contents, interchange}
+use Rattle.verdict.specs.Stages.{refusalOf}
+use Rattle.reading.specs.Spelling.{SegmentList}
+use Rattle.answers.specs.Answers.{given, refused, refusedInput, accepted}
+use Rattle.operations.specs.Judge.{interchangeOf, judge}
+use Rattle.operations.specs.Compare.{areSame, compare}
+use Rattle.operations.specs.Read.{valueBytes, valueTable, readRefusal, read}
+use Rattle.operations.specs.ValueList.{listOf, listBytes, listTable, listedIn, segmentsListed, trimList}
+use Rattle.operations.specs.Write.{badList, unusableBytes, needsRelease, writtenText, writeRefusal, write}
+use Rattle.spelling.specs.Bodies.{Releasable}
+use Rattle.trimming.proofs.Nesting.{listOf-listed}
+use Rattle.forms.proofs.Theorems.{same-exactly}
+use Rattle.trips.specs.Trips.{listGiven, WrittenBack, ReadBack}
+use Rattle.trips.proofs.Values.{kinds-sound}
+use Rattle.trips.proofs.Written.{Passed, write-passed, text-accepted, text-contents, text-characters, text-stored, list-read, list-sound, list-releasable, six-usable, read-accepted, read-passes, bytes-stand, table-stands}
+use Rattle.trips.proofs.Numbers.{unrefused}
+
+-- Judge says of an accepted input what is to be said of it.
+judge-accepted : (s : List ℕ) → refusalOf s ≡ none → judge s ≡ accepted (interchangeOf s)
+unfolding judge maybe
+judge-accepted s h = ap (maybe (accepted (interchangeOf s)) refused) h
+
+-- ---- Write, then Read
+
+module _ (service bytes table output : List ℕ) (h : writeRefusal service bytes table output ≡ none) where
+  -- The text of a Write that is not refused is accepted,
+  pub written-accepted : refusalOf (writtenText service bytes table) ≡ none
+  written-accepted = text-accepted service bytes table output (write-passed service bytes table output h)
+
+  -- and its contents are the list that was written, with its empty ends trimmed.
+  pub written-contents : contents (writtenText service bytes table) ≡ trimList (segmentsListed (listedIn bytes table))
+  unfolding listGiven
+  written-contents = text-contents service bytes table output (write-passed service bytes table output h)
+
+  -- Read gives back the very values that were written, kind by kind, where there was no empty end to trim.
+  pub written-unchanged : (untrimmed : trimList (segmentsListed (listedIn bytes table)) ≡ segmentsListed (listedIn bytes table))
+      → let text = writtenText service bytes table in
+      (valueBytes text ≡ listBytes (listedIn bytes table)) × (valueTable text ≡ listTable (listedIn bytes table))
+  unfolding valueBytes valueTable
+  written-unchanged untrimmed =
+      let kinds = kinds-sound bytes table (write-passed service bytes table output h .list) in
+      let values = ap listOf (written-contents ∙ untrimmed) ∙ listOf-listed (listedIn bytes table) kinds in
+      (ap listBytes values, ap listTable values)
+
+-- Whoever gets the number 0 from Write can rely on this.
+pub written-back : (service bytes table output : List ℕ) → write service bytes table output .number ≡ 0
+    → WrittenBack service bytes table output (writtenText service bytes table)
+unfolding write read valueBytes valueTable listGiven maybe
+written-back service bytes table output n =
+    let text : List ℕ = writtenText service bytes table in
+    let h = unrefused (length text ∷ []) (writeRefusal service bytes table output) n in
+    let back : contents text ≡ listGiven bytes table = written-contents service bytes table output h in
+    let passes = written-accepted service bytes table output h in
+    record {
+      stored = text-stored service bytes table output h;
+      accepts = judge-accepted text passes;
+      characters = text-characters service bytes table output;
+      same-contents = back;
+      bytes-back = ap (λ (list : SegmentList). listBytes (listOf list)) back;
+      table-back = ap (λ (list : SegmentList). listTable (listOf list)) back;
+      reads = λ buffer numbers b t.
+          ap (maybe (given (length (valueBytes text) ∷ length (valueTable text) ∷ [])) refused)
+          (read-passes buffer numbers text passes b t);
+    }
+
+-- ---- Read, then Write
+
+module _ (s service : List ℕ) (h : refusalOf s ≡ none) where
+  abbrev rewritten : List ℕ
+  rewritten = writtenText service (valueBytes s) (valueTable s)
+
+  -- What Write makes of what Read gave is the contents, spelled with the new service characters,
+  pub rewritten-text : rewritten ≡ interchange (sixBytes service) (contents s)
+  unfolding writtenText listGiven
+  rewritten-text = ap (interchange (sixBytes service)) (list-read s h)
+
+  -- and it has the same contents, where Write is not refused.
+  pub rewritten-contents : (output : List ℕ) → writeRefusal service (valueBytes s) (valueTable s) output ≡ none
+      → contents rewritten ≡ contents s
+  unfolding listGiven
+  rewritten-contents output w = written-contents service (valueBytes s) (valueTable s) output w ∙ list-read s h
+
+  -- Of Write's own refusals, 15 is never met by what Read gave, 2 is not met under six usable bytes, and 16 is not met where
+  -- there is a release character, or where no value holds a service character.
+  pub rewritten-listed : badList (valueBytes s) (valueTable s) ≡ []
+  rewritten-listed = list-sound s h
+
+  pub rewritten-usable : length service ≡ 6 → usable (sixBytes service) ≡ true → unusableBytes service ≡ []
+  rewritten-usable = six-usable service
+
+  pub rewritten-releasable : Releasable (sixBytes service) (contents s) → needsRelease service (valueBytes s) (valueTable s) ≡ []
+  rewritten-releasable = list-releasable s h service
+
+  pub rewritten-released : released (sixBytes service) ≡ true → needsRelease service (valueBytes s) (valueTable s) ≡ []
+  unfolding Releasable
+  rewritten-released r = rewritten-releasable (λ n. absurd (true≢false (sym r ∙ n)))
+
+-- Whoever gets the number 0 from Read, and then from Write, can rely on this.
+pub read-back : (s buffer numbers service output : List ℕ) → read buffer numbers s .number ≡ 0
+    → write service (valueBytes s) (valueTable s) output .number ≡ 0
+    → ReadBack s buffer numbers service (writtenText service (valueBytes s) (valueTable s))
+unfolding read write compare maybe
+read-back s buffer numbers service output n m =
+    let bytes : List ℕ = valueBytes s in
+    let table : List ℕ = valueTable s in
+    let text : List ℕ = writtenText service bytes table in
+    let r = unrefused (length bytes ∷ length table ∷ []) (readRefusal buffer numbers s) n in
+    let w = unrefused (length text ∷ []) (writeRefusal service bytes table output) m in
+    let h = read-accepted buffer numbers s r in
+    let k = written-accepted service bytes table output w in
+    let back : contents text ≡ contents s = rewritten-contents s service h output w in
+    record {
+      bytes-stored = bytes-stand buffer numbers s r;
+      table-stored = table-stands buffer numbers s r;
+      spelled = rewritten-text s service h;
+      accepts = judge-accepted text k;
+      same-contents = back;
+      same = λ mark.
+          let c : charactersOf text ≡ sixBytes service = text-characters service bytes table output in
+          let equal : areSame s text ≡ true = same-exactly s text .1 (h, k, sym back, sym (ap (λ (c : Characters). c .mark) c ∙ mark)) in
+          rw (h, k, equal) refl;
+    }

@@ -1,0 +1,231 @@
+-- What a Write that is not refused has passed, and what of it holds for the value list of an accepted input. Assumes nothing.
+use Prim.Native.Nat.{ℕ, _≤_}
+use mathlib.Core.Path.{_≡_, refl, sym, ap, ap₂, _∙_}
+use mathlib.Core.Bool.{Bool, true, false, not, _&&_}
+use mathlib.Core.List.{List, [], _∷_, _++_}
+use mathlib.Core.Option.{Option, none, some, Option·some-ne-none}
+use native.Mathlib.Omega.{arith}
+use lib.ListN.{length, take, drop, length-append}
+use lib.Seq.{take-append-seam}
+use lib.Dec.{eqb, ltb}
+use borrow.Author.Tests.{ltb-false, le-ltb, eq-eqb}
+use Rattle.lists.specs.Lists.{text, maybe}
+use Rattle.lists.proofs.Texts.{and-left, and-right, and-both}
+use Rattle.characters.specs.declared.Characters.{Characters}
+use Rattle.characters.specs.Characters.{usable, sixBytes, released, charactersOf, adviceOf, badAdvice}
+use Rattle.refusals.specs.declared.Fault.{Fault}
+use Rattle.refusals.specs.declared.Fault.the-variants.{TooLong, UnusableAdvice, BadList, NeedsRelease, BufferShort}
+use Rattle.refusals.specs.declared.Refusal.{Refusal}
+use Rattle.refusals.specs.Refusals.{Stage, met, placeIf, lowest, orElse, answering}
+use Rattle.refusals.proofs.Lowest.{lowest-none}
+use Rattle.refusals.proofs.Stages.{met-none, answering-append}
+use Rattle.reading.specs.Spelling.{Bytes, SegmentList, spell}
+use Rattle.verdict.specs.Contents.{contents, interchange, normalCharacters, normalForm}
+use Rattle.verdict.specs.Places.{isOver, tooLong, unusableAdvice, normalTooLong}
+use Rattle.verdict.specs.Stages.{laterStages, stages, refusalOf}
+use Rattle.operations.specs.Judge.{shortFor, storedIn, unlessRefused}
+use Rattle.operations.specs.Read.{valueBytes, valueTable, readRefusal, readBytes, readTable}
+use Rattle.operations.specs.ValueList.{Item, listOf, listBytes, listTable, listedIn, segmentsListed, trimList}
+use Rattle.operations.specs.Write.{badList, unusableBytes, needsRelease, writtenText, writeRefusal, writeOutput}
+use Rattle.spelling.specs.Bodies.{Shaped, Releasable}
+use Rattle.spelling.proofs.Grammar.{spells-list}
+use Rattle.trimming.specs.Kinds.{Kinds}
+use Rattle.trimming.proofs.Nesting.{shaped-listed, kinds-listOf}
+use Rattle.trimming.proofs.Again.{trimList-again, trimList-shaped}
+use Rattle.trimming.proofs.Tables.{listed-table, segments-table, listOf-sound}
+use Rattle.forms.specs.Forms.{markOf}
+use Rattle.forms.proofs.Tests.{place-none, place-none-not}
+use Rattle.forms.proofs.Trimmed.{contents-trimmed, trim-releasable}
+use Rattle.forms.proofs.Openings.{advice-characters, advice-good, interchange-contents}
+use Rattle.forms.proofs.Accepted.{Accepted, accepted-exactly}
+use Rattle.forms.proofs.Normal.{contents-shaped, normal-releasable}
+use Rattle.trips.specs.Trips.{listGiven}
+use Rattle.trips.proofs.Values.{kinds-sound, release-exactly, values-bound}
+
+-- ---- stages that refuse nothing
+
+-- neither of two refuses
+orElse-none : (o p : Option Refusal) → orElse o p ≡ none → (o ≡ none) × (p ≡ none)
+unfolding orElse
+orElse-none none p h = (refl, h)
+orElse-none (some r) p h = absurd (Option·some-ne-none r h)
+
+-- where nothing is refused, nothing is met in the first stage and the others refuse nothing
+pub first-none : (stage : Stage) (rest : List Stage) → answering (stage ∷ rest) ≡ none → (stage ≡ []) × (answering rest ≡ none)
+unfolding answering
+first-none stage rest h =
+    let parts = orElse-none (lowest stage) (answering rest) h in
+    (lowest-none stage .0 (parts .0), parts .1)
+
+-- and the other way
+pub none-first : (stage : Stage) (rest : List Stage) → stage ≡ [] → answering rest ≡ none → answering (stage ∷ rest) ≡ none
+unfolding answering orElse
+none-first stage rest e h = ap₂ orElse (lowest-none stage .1 e) h
+
+-- the buffer holds the new exactly where 14 is not met
+pub room : (new buffer : List ℕ) → shortFor new buffer ≡ [] → length new ≤ length buffer
+unfolding shortFor
+room new buffer h =
+    let short : Bool = ltb (length buffer) (length new) in
+    ltb-false (length buffer) (length new) (place-none short (length new) .0 (met-none BufferShort (placeIf short (length new)) .0 h))
+
+pub room-enough : (new buffer : List ℕ) → length new ≤ length buffer → shortFor new buffer ≡ []
+unfolding shortFor
+room-enough new buffer h =
+    let short : Bool = ltb (length buffer) (length new) in
+    met-none BufferShort (placeIf short (length new)) .1 (place-none short (length new) .1 (le-ltb (length buffer) (length new) h))
+
+-- ---- Write
+
+module _ (service bytes table output : List ℕ) where
+  abbrev t : List ℕ
+  t = writtenText service bytes table
+
+  -- none of 15, 2, 16, 1, 14 and of the later stages is met
+  pub record Passed : Type 0 where
+    pub list : badList bytes table ≡ []
+    pub characters : unusableBytes service ≡ []
+    pub releases : needsRelease service bytes table ≡ []
+    pub short : tooLong t ≡ []
+    pub fits : length t ≤ length output
+    pub later : answering (laterStages t) ≡ none
+
+  pub write-passed : writeRefusal service bytes table output ≡ none → Passed
+  unfolding writeRefusal
+  write-passed h =
+      let fourteenth : List Stage = shortFor t output ∷ laterStages t in
+      let first : List Stage = met TooLong (tooLong t) ∷ fourteenth in
+      let sixteenth : List Stage = met NeedsRelease (needsRelease service bytes table) ∷ first in
+      let second : List Stage = met UnusableAdvice (unusableBytes service) ∷ sixteenth in
+      let a = first-none (met BadList (badList bytes table)) second h in
+      let b = first-none (met UnusableAdvice (unusableBytes service)) sixteenth (a .1) in
+      let d = first-none (met NeedsRelease (needsRelease service bytes table)) first (b .1) in
+      let e = first-none (met TooLong (tooLong t)) fourteenth (d .1) in
+      let f = first-none (shortFor t output) (laterStages t) (e .1) in
+      record {
+        list = met-none BadList (badList bytes table) .0 (a .0);
+        characters = met-none UnusableAdvice (unusableBytes service) .0 (b .0);
+        releases = met-none NeedsRelease (needsRelease service bytes table) .0 (d .0);
+        short = met-none TooLong (tooLong t) .0 (e .0);
+        fits = room t output (f .0);
+        later = f .1;
+      }
+
+  module _ (p : Passed) where
+    usable-six : usable (sixBytes service) ≡ true
+    unfolding unusableBytes
+    usable-six =
+        let six : Bool = eqb (length service) 6 in
+        let good : Bool = usable (sixBytes service) in
+        and-right six good (place-none-not (six && good) 0 .0 (p .characters))
+
+    -- the text is accepted
+    pub text-accepted : refusalOf t ≡ none
+    unfolding refusalOf stages unusableAdvice writtenText interchange listGiven
+    text-accepted =
+        let spelled : Bytes = spell (sixBytes service) (listGiven bytes table) in
+        none-first (met TooLong (tooLong t)) (met UnusableAdvice (unusableAdvice t) ∷ laterStages t)
+        (met-none TooLong (tooLong t) .1 (p .short))
+        (none-first (met UnusableAdvice (unusableAdvice t)) (laterStages t)
+        (met-none UnusableAdvice (unusableAdvice t) .1
+        (place-none (badAdvice t) 0 .1 (advice-good (sixBytes service) spelled usable-six)))
+        (p .later))
+
+    -- its contents are the trimmed list
+    pub text-contents : contents t ≡ listGiven bytes table
+    unfolding writtenText listGiven
+    text-contents =
+        let items : List Item = listedIn bytes table in
+        let kinds : Kinds items = kinds-sound bytes table (p .list) in
+        let list : SegmentList = segmentsListed items in
+        interchange-contents (sixBytes service) (trimList list) usable-six
+        (trimList-shaped list (shaped-listed items kinds))
+        (trim-releasable (sixBytes service) list (release-exactly service bytes table kinds .0 (p .releases)))
+        ∙ trimList-again list
+
+  -- its service characters are the six bytes
+  pub text-characters : charactersOf t ≡ sixBytes service
+  unfolding writtenText interchange
+  text-characters = advice-characters (sixBytes service) (spell (sixBytes service) (trimList (segmentsListed (listedIn bytes table))))
+
+  -- it stands in the front of the output buffer
+  pub text-stored : writeRefusal service bytes table output ≡ none → take (length t) (writeOutput service bytes table output) ≡ t
+  unfolding writeOutput unlessRefused storedIn
+  text-stored h = rw h (take-append-seam t (drop (length t) output))
+
+-- ---- the value list of an accepted input
+
+module _ (s : List ℕ) (accepted : refusalOf s ≡ none) where
+  -- it stands for the contents
+  pub list-read : listGiven (valueBytes s) (valueTable s) ≡ contents s
+  unfolding listGiven valueBytes valueTable
+  list-read = ap trimList (segments-table (contents s) (contents-shaped s accepted)) ∙ contents-trimmed s
+
+  -- it has at most 32,000 values, since the normal form has a separator for each
+  values-few : length (listOf (contents s)) ≤ 32000
+  unfolding normalTooLong isOver normalForm interchange
+  values-few =
+      let c : Characters = normalCharacters (markOf s) in
+      let list : SegmentList = contents s in
+      let long : Bool = ltb 32000 (length (normalForm s)) in
+      omega (
+        arith,
+        ltb-false 32000 (length (normalForm s)) (place-none long (length (normalForm s)) .0 (accepted-exactly s .0 accepted .normal)),
+        length-append (adviceOf c) (spell c list),
+        values-bound c (spells-list c list (contents-shaped s accepted) (normal-releasable (markOf s) list)),
+      )
+
+  -- 15 does not refuse it
+  pub list-sound : badList (valueBytes s) (valueTable s) ≡ []
+  unfolding valueBytes valueTable
+  list-sound = listOf-sound (contents s) (contents-shaped s accepted) values-few
+
+  -- 16 refuses it only where its contents cannot be spelled
+  pub list-releasable : (service : List ℕ) → Releasable (sixBytes service) (contents s)
+      → needsRelease service (valueBytes s) (valueTable s) ≡ []
+  unfolding valueBytes valueTable
+  list-releasable service r =
+      let items : List Item = listOf (contents s) in
+      let back : listedIn (listBytes items) (listTable items) ≡ items = listed-table items in
+      let shaped : Shaped (contents s) = contents-shaped s accepted in
+      release-exactly service (listBytes items) (listTable items) (rw back (kinds-listOf (contents s) shaped)) .1
+      (rw (segments-table (contents s) shaped) r)
+
+-- 2 does not refuse six usable bytes
+pub six-usable : (service : List ℕ) → length service ≡ 6 → usable (sixBytes service) ≡ true → unusableBytes service ≡ []
+unfolding unusableBytes
+six-usable service n u =
+    let six : Bool = eqb (length service) 6 in
+    let good : Bool = usable (sixBytes service) in
+    place-none-not (six && good) 0 .1 (and-both six good (eq-eqb (length service) 6 n) u)
+
+-- ---- Read
+
+module _ (buffer numbers s : List ℕ) where
+  -- a Read that is not refused had an accepted input
+  pub read-accepted : readRefusal buffer numbers s ≡ none → refusalOf s ≡ none
+  unfolding readRefusal refusalOf
+  read-accepted h =
+      let last : List Stage = shortFor (valueBytes s) buffer ∷ shortFor (valueTable s) numbers ∷ [] in
+      orElse-none (answering (stages s)) (answering last) (sym (answering-append (stages s) last) ∙ h) .0
+
+  -- and one whose buffers hold the value list of an accepted input is not refused
+  pub read-passes : refusalOf s ≡ none → length (valueBytes s) ≤ length buffer → length (valueTable s) ≤ length numbers
+      → readRefusal buffer numbers s ≡ none
+  unfolding readRefusal refusalOf orElse answering
+  read-passes accepted b n =
+      let last : List Stage = shortFor (valueBytes s) buffer ∷ shortFor (valueTable s) numbers ∷ [] in
+      answering-append (stages s) last
+      ∙ ap₂ orElse accepted
+      (none-first (shortFor (valueBytes s) buffer) (shortFor (valueTable s) numbers ∷ [])
+      (room-enough (valueBytes s) buffer b)
+      (none-first (shortFor (valueTable s) numbers) [] (room-enough (valueTable s) numbers n) refl))
+
+  -- the value list stands in the fronts of the buffers
+  pub bytes-stand : readRefusal buffer numbers s ≡ none → take (length (valueBytes s)) (readBytes buffer numbers s) ≡ valueBytes s
+  unfolding readBytes unlessRefused storedIn
+  bytes-stand h = rw h (take-append-seam (valueBytes s) (drop (length (valueBytes s)) buffer))
+
+  pub table-stands : readRefusal buffer numbers s ≡ none → take (length (valueTable s)) (readTable buffer numbers s) ≡ valueTable s
+  unfolding readTable unlessRefused storedIn
+  table-stands h = rw h (take-append-seam (valueTable s) (drop (length (valueTable s)) numbers))

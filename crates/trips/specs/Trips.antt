@@ -1,0 +1,54 @@
+-- Paper 01, "Operations": what comes back of what was written, read or located. Assumes nothing.
+use Prim.Native.Nat.{ℕ, _≤_}
+use mathlib.Core.Path.{_≡_}
+use mathlib.Core.List.{List, [], _∷_}
+use mathlib.Core.Option.{Option, none}
+use lib.ListN.{length, take}
+use Rattle.lists.specs.Lists.{at, maybe}
+use Rattle.characters.specs.Characters.{sixBytes, charactersOf}
+use Rattle.reading.specs.Trimming.{valueAt}
+use Rattle.reading.specs.Spelling.{Bytes, SegmentList}
+use Rattle.verdict.specs.Contents.{contents, interchange}
+use Rattle.answers.specs.Answers.{given, accepted}
+use Rattle.operations.specs.Judge.{interchangeOf, judge}
+use Rattle.operations.specs.Compare.{compare}
+use Rattle.operations.specs.Read.{valueBytes, valueTable, read, readBytes, readTable}
+use Rattle.operations.specs.ValueList.{listOf, listBytes, listTable, listedIn, segmentsListed, trimList}
+use Rattle.operations.specs.Write.{writeOutput}
+
+-- the list of segments that a value list stands for, with its empty ends trimmed
+unfoldable pub listGiven : Bytes → List ℕ → SegmentList
+listGiven bytes table = trimList (segmentsListed (listedIn bytes table))
+
+-- What a Write that is not refused leaves to whoever reads its text.
+pub record WrittenBack (service bytes table output : List ℕ) (text : List ℕ) : Type 0 where
+  -- the text stands in the front of the output buffer,
+  pub stored : take (length text) (writeOutput service bytes table output) ≡ text
+  -- Judge accepts it,
+  pub accepts : judge text ≡ accepted (interchangeOf text)
+  -- its service characters are the six bytes,
+  pub characters : charactersOf text ≡ sixBytes service
+  -- its contents are the trimmed list,
+  pub same-contents : contents text ≡ listGiven bytes table
+  -- and Read gives the bytes and the table of that list, where its buffers hold them.
+  pub bytes-back : valueBytes text ≡ listBytes (listOf (listGiven bytes table))
+  pub table-back : valueTable text ≡ listTable (listOf (listGiven bytes table))
+  pub reads : (buffer numbers : List ℕ) → length (valueBytes text) ≤ length buffer → length (valueTable text) ≤ length numbers
+      → read buffer numbers text ≡ given (length (valueBytes text) ∷ length (valueTable text) ∷ [])
+
+-- What a Write of what Read gave for s leaves, where neither is refused.
+pub record ReadBack (s buffer numbers service : List ℕ) (text : List ℕ) : Type 0 where
+  -- what was written stood in the fronts of Read's buffers,
+  pub bytes-stored : take (length (valueBytes s)) (readBytes buffer numbers s) ≡ valueBytes s
+  pub table-stored : take (length (valueTable s)) (readTable buffer numbers s) ≡ valueTable s
+  -- the text is the contents of s, spelled with the six bytes,
+  pub spelled : text ≡ interchange (sixBytes service) (contents s)
+  -- Judge accepts it, with the contents of s,
+  pub accepts : judge text ≡ accepted (interchangeOf text)
+  pub same-contents : contents text ≡ contents s
+  -- and Compare says "same" where the decimal mark is that of s.
+  pub same : sixBytes service .mark ≡ charactersOf s .mark → compare s text ≡ given (1 ∷ [])
+
+-- the value that a list of segments has at a position
+unfoldable pub wordAt : SegmentList → ℕ → ℕ → ℕ → Option Bytes
+wordAt list segment element component = maybe none (λ elements. valueAt elements element component) (at list segment)

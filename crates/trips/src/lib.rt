@@ -1,0 +1,4 @@
+// Round trips (paper 01, "Operations"): what Write gives is accepted and read back as the trimmed list; what Read gives is written
+// back, under any service characters, as an interchange with the same contents; and Locate names the part of the input in which the
+// value that Read gives at that position is spelled.
+// The words of these theorems are in specs/, the theorems themselves in proofs/Theorems.antt.
