@@ -1,0 +1,117 @@
+// Places by number: where a segment, or a component of an element, begins; whether a byte of a value
+// stands from a place on; where a value ends. It promises the pieces into which `reading` cuts the
+// tokens. What trimming leaves of them is left to others.
+ghost use mathlib.Core.Path.{_≡_};
+ghost use Rattle.reading.proofs.Steps.{tokensAt};
+ghost use Rattle.placing.specs.Placing.{SegmentAt, ComponentAt, holdsByte, EndsAt};
+use characters::Characters;
+use scanner::Lexed;
+use scanner::lex;
+use scanner::segment_end;
+
+// Where the segment of that number begins, from 0 at `start`; behind the input where there are fewer.
+pub fn segment_at(s: &[u8], c: Characters, start: usize, number: usize) -> usize
+    ensures { λ r. ⌜ SegmentAt c (now (s .entry)) start number r ⌝ }
+{
+    let mut at = start;
+    let mut left = number;
+    while 0 < left {
+        if s.len() <= at {
+            return at;
+        }
+        at = segment_end(s, c, at);
+        left -= 1;
+    }
+    at
+}
+
+// Where the component of that number begins in the element that begins at `from`. The input's length
+// where the element has no such component.
+pub fn component_at(s: &[u8], c: Characters, from: usize, number: usize) -> usize
+    ensures { λ r. ⌜ ComponentAt c (now (s .entry)) from number r ⌝ }
+{
+    let mut at = from;
+    let mut left = number;
+    while 0 < left {
+        match lex(s, c, at) {
+            Lexed::Byte {
+                byte: _,
+                place: _,
+                next,
+            } => {
+                at = next;
+            }
+            Lexed::Separator { kind, next } => {
+                if kind <= 1 {
+                    return s.len();
+                }
+                at = next;
+                left -= 1;
+            }
+            Lexed::Stray { next } => {
+                at = next;
+            }
+            Lexed::End => {
+                return s.len();
+            }
+        }
+    }
+    at
+}
+
+// A byte of a value stands from here on, before a separator of this kind or a lower one.
+pub fn holds_byte(s: &[u8], c: Characters, from: usize, rank: u8) -> bool
+    ensures { λ r. ⌜ r ≡ holdsByte rank (tokensAt c (now (s .entry)) from) ⌝ }
+{
+    let mut at = from;
+    loop {
+        match lex(s, c, at) {
+            Lexed::Byte {
+                byte: _,
+                place: _,
+                next: _,
+            } => {
+                return true;
+            }
+            Lexed::Separator { kind, next } => {
+                if kind <= rank {
+                    return false;
+                }
+                at = next;
+            }
+            Lexed::Stray { next } => {
+                at = next;
+            }
+            Lexed::End => {
+                return false;
+            }
+        }
+    }
+}
+
+// Where the separator stands that ends the value which begins at `from`.
+pub fn value_end(s: &[u8], c: Characters, from: usize) -> usize
+    ensures { λ r. ⌜ EndsAt c (now (s .entry)) from r ⌝ }
+{
+    let mut at = from;
+    loop {
+        match lex(s, c, at) {
+            Lexed::Byte {
+                byte: _,
+                place: _,
+                next,
+            } => {
+                at = next;
+            }
+            Lexed::Separator { kind: _, next: _ } => {
+                return at;
+            }
+            Lexed::Stray { next } => {
+                at = next;
+            }
+            Lexed::End => {
+                return at;
+            }
+        }
+    }
+}
