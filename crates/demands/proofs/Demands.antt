@@ -1,12 +1,120 @@
 -- All that is demanded holds. Assumes nothing.
+use Prim.Native.Nat.{ℕ, _≤_}
+use mathlib.Core.Path.{_≡_, refl, sym, ap, ap₂, _∙_}
+use mathlib.Core.Logic.{_↔_}
+use mathlib.Core.Bool.{true}
+use mathlib.Core.List.{List, [], _∷_, _++_, map}
+use mathlib.Core.Option.{Option, none, some}
+use lib.ListN.{length, drop}
+use lib.Dec.{ltb}
+use borrow.Author.Tests.{le-ltb}
+use Rattle.lists.specs.Lists.{if_then_else_, maybe}
+use Rattle.lists.proofs.Texts.{if-false}
+use Rattle.characters.specs.Characters.{usable, adviceOf, charactersOf, bodyStart, body}
+use Rattle.refusals.specs.declared.Fault.the-variants.{BufferShort}
+use Rattle.refusals.specs.declared.Refusal.{Refusal}
+use Rattle.refusals.specs.Refusals.{lowest, orElse, answering}
+use Rattle.refusals.proofs.Stages.{answering-append}
+use Rattle.reading.specs.Spelling.{spell}
+use Rattle.verdict.specs.Contents.{bodyTokens, segmentsOf, contents, interchange, normalForm}
+use Rattle.verdict.specs.Places.{strayReleases, unendedSegment}
+use Rattle.verdict.specs.Stages.{stages, refusalOf}
+use Rattle.machines.specs.Walks.{refuse}
+use Rattle.machines.proofs.Rows.{lowest-if, orElse-none}
+use Rattle.answers.specs.Answers.{given, refused, refusedInput}
+use Rattle.operations.specs.Judge.{shortFor, storedIn, unlessRefused, normaliseRefusal, normalise, normaliseBuffer}
+use Rattle.operations.specs.Compare.{areSame, compare}
+use Rattle.operations.specs.ValueList.{trimList}
+use Rattle.spelling.specs.Bodies.{Spelled, wordsOf, listed, readList}
 use Rattle.spelling.proofs.Laws.{passes-exactly, only-one, spell-read, read-spelling, spelling-unique}
 use Rattle.trimming.proofs.Trimmed.{trimList-trimmed, list-only}
 use Rattle.trimming.proofs.Again.{trimList-again}
 use Rattle.trimming.proofs.Ends.{same-trimmed}
+use Rattle.forms.specs.Forms.{markOf, formCharacters}
+use Rattle.forms.proofs.Accepted.{passes-accepted}
+use Rattle.forms.proofs.Trimmed.{contents-read}
 use Rattle.forms.proofs.Theorems.{normal-form, same-normal, cut-forms, file-unique}
 use Rattle.acceptance.proofs.Judged.{judged-accepted, judged-refused, judged, not-both, one-refusal, judged-number}
-use Rattle.acceptance.proofs.Same.{compared-same, same-self, same-back, same-on, kept-short, kept-same, keep-other}
+use Rattle.grammar.proofs.Theorem.{input-order, input-interchange, group-counts, interchange-counts}
+use Rattle.acceptance.specs.Allowed.{Allowed}
+use Rattle.acceptance.specs.Same.{Same}
+use Rattle.acceptance.proofs.Opening.{opening-clear}
+use Rattle.acceptance.proofs.Tags.{tags-clear}
+use Rattle.acceptance.proofs.Acceptance.{allowed-exactly, list-read}
+use Rattle.acceptance.proofs.Fakes.{x-allowed, empty-not-allowed}
+use Rattle.acceptance.proofs.Same.{compared-same, compared-different, same-self, same-back, same-on, keep-same, keep-other}
+use Rattle.trips.proofs.Theorems.{written-back, read-back}
 use Rattle.demands.specs.Demands.{Demands}
+
+-- an input's body passes exactly where 4 and 5 are not met
+four-and-five : (s : List ℕ) → usable (charactersOf s) ≡ true
+    → ((strayReleases s ≡ []) × (unendedSegment s ≡ [])) ↔ Spelled (charactersOf s) (body s)
+four-and-five s u =
+    let exactly = passes-exactly (charactersOf s) u (bodyStart s) (body s) in
+    (λ h. exactly .0 (passes-accepted s .0 h), λ h. passes-accepted s .1 (exactly .1 h))
+
+list-is : (s : List ℕ) (a : Allowed s) → a .spelled .list ≡ map wordsOf (segmentsOf s)
+unfolding readList listed segmentsOf bodyTokens
+list-is s a = list-read s a
+
+contents-are : (s : List ℕ) (a : Allowed s) → contents s ≡ trimList (a .spelled .list)
+contents-are s a = contents-read s ∙ ap trimList (sym (list-read s a))
+
+form-is : (s : List ℕ) → normalForm s ≡ adviceOf (formCharacters s) ++ spell (formCharacters s) (contents s)
+unfolding normalForm interchange
+form-is s = refl
+
+module _ (buffer s : List ℕ) where
+  from-refusal : (o : Option Refusal) → normaliseRefusal buffer s ≡ o
+      → (normalise buffer s ≡ maybe (given (length (normalForm s) ∷ [])) refused o)
+      × (normaliseBuffer buffer s ≡ unlessRefused o (storedIn buffer (normalForm s)) buffer)
+  unfolding normalise normaliseBuffer
+  from-refusal o e = (
+    ap (maybe (given (length (normalForm s) ∷ [])) refused) e,
+    ap (λ (p : Option Refusal). unlessRefused p (storedIn buffer (normalForm s)) buffer) e,
+  )
+
+  normalise-refused : {r : Refusal} → normaliseRefusal buffer s ≡ some r
+      → (normalise buffer s ≡ refused r) × (normaliseBuffer buffer s ≡ buffer)
+  unfolding maybe unlessRefused
+  normalise-refused {r} e = from-refusal (some r) e
+
+  normalises : refusalOf s ≡ none → length (normalForm s) ≤ length buffer
+      → (normalise buffer s ≡ given (length (normalForm s) ∷ []))
+      × (normaliseBuffer buffer s ≡ normalForm s ++ drop (length (normalForm s)) buffer)
+  unfolding maybe unlessRefused storedIn normaliseRefusal refusalOf answering shortFor orElse
+  normalises h fits =
+      from-refusal none
+      (answering-append (stages s) (shortFor (normalForm s) buffer ∷ [])
+      ∙ ap (λ (o : Option Refusal). orElse o (answering (shortFor (normalForm s) buffer ∷ []))) h
+      ∙ orElse-none (lowest (shortFor (normalForm s) buffer))
+      ∙ lowest-if BufferShort (ltb (length buffer) (length (normalForm s))) (length (normalForm s))
+      ∙ if-false (ltb (length buffer) (length (normalForm s))) (refuse BufferShort (length (normalForm s))) none
+      (le-ltb (length buffer) (length (normalForm s)) fits))
+
+module _ (a b : List ℕ) where
+  same-contents : Same a b ↔ (Allowed a × Allowed b × (contents a ≡ contents b) × (markOf a ≡ markOf b))
+  same-contents = (
+    λ h.
+        let form = same-normal a b (allowed-exactly a .1 (h .first)) (allowed-exactly b .1 (h .second)) .0 (h .normal) in
+        (h .first, h .second, form .0, form .1),
+    λ h.
+        record {
+          first = h .0;
+          second = h .1;
+          normal = same-normal a b (allowed-exactly a .1 (h .0)) (allowed-exactly b .1 (h .1)) .1 (h .2, h .3);
+        },
+  )
+
+  first-refused : {r : Refusal} → refusalOf a ≡ some r → compare a b ≡ refusedInput 1 r
+  unfolding compare maybe
+  first-refused e =
+      ap (maybe (maybe (given ((if areSame a b then 1 else 0) ∷ [])) (refusedInput 2) (refusalOf b)) (refusedInput 1)) e
+
+  second-refused : {r : Refusal} → refusalOf a ≡ none → refusalOf b ≡ some r → compare a b ≡ refusedInput 2 r
+  unfolding compare maybe
+  second-refused h e =
+      ap₂ (λ (o p : Option Refusal). maybe (maybe (given ((if areSame a b then 1 else 0) ∷ [])) (refusedInput 2) p) (refusedInput 1) o) h e
 
 pub demands : Demands
 demands =
@@ -16,25 +124,44 @@ demands =
       spelled-back = λ c u. spell-read c u;
       read-back = λ c u. read-spelling c u;
       never-alike = λ c u. spelling-unique c u;
+      four-and-five = four-and-five;
       trims = trimList-trimmed;
       trims-only-so = list-only;
       trims-once = trimList-again;
       differ-by-ends = same-trimmed;
       accepts-exactly = judged-number;
       tells = judged-accepted;
+      list-is = list-is;
+      contents-are = contents-are;
+      une-counts = group-counts;
+      unz-counts = interchange-counts;
+      x-is-allowed = x-allowed;
+      nothing-is-not = empty-not-allowed;
+      two-and-three = opening-clear;
+      six = tags-clear;
+      nine = input-order;
+      nine-to-twelve = input-interchange;
       refuses-exactly = judged-refused;
       one-of-them = judged;
       not-both = not-both;
       one-refusal = one-refusal;
       normal-form = normal-form;
       same-form = same-normal;
+      form-is = form-is;
+      normalises = normalises;
+      normalise-refused = normalise-refused;
       cut-back = cut-forms;
       one-way = file-unique;
+      write-read = written-back;
+      read-write = read-back;
       compares = compared-same;
+      same-contents = same-contents;
+      tells-apart = compared-different;
+      first-refused = first-refused;
+      second-refused = second-refused;
       same-self = same-self;
       same-back = same-back;
       same-on = same-on;
-      kept-short = kept-short;
-      kept-same = kept-same;
+      keeps = keep-same;
       kept-none = keep-other;
     }

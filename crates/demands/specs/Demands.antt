@@ -1,30 +1,40 @@
 -- What is demanded of the definitions, for all inputs. Each field is a theorem; `proofs/Demands.antt` proves the record. Assumes nothing.
-use Prim.Native.Nat.{ℕ, _≤_}
+use Prim.Native.Nat.{ℕ, _≤_, _<_}
 use mathlib.Core.Path.{_≡_}
-use mathlib.Core.Logic.{_↔_, _⊎_}
+use mathlib.Core.Logic.{_↔_, _⊎_, ⊎-elim}
 use mathlib.Core.Bool.{true}
-use mathlib.Core.List.{List, [], _∷_}
-use mathlib.Core.Option.{none}
-use lib.ListN.{length}
+use mathlib.Core.List.{List, [], _∷_, _++_, map, List·Memᴰ}
+use mathlib.Core.Option.{none, some}
+use lib.ListN.{length, drop}
+use Rattle.lists.specs.Lists.{maybe}
 use Rattle.characters.specs.declared.Characters.{Characters}
-use Rattle.characters.specs.Characters.{usable}
+use Rattle.characters.specs.Characters.{usable, adviceOf, charactersOf, body}
 use Rattle.refusals.specs.declared.Fault.{Fault}
+use Rattle.refusals.specs.declared.Refusal.{Refusal}
 use Rattle.refusals.specs.Refusals.{number}
+use Rattle.reading.specs.Tokens.{Segment}
 use Rattle.reading.specs.Spelling.{Bytes, SegmentList, spell}
-use Rattle.verdict.specs.Contents.{contents, normalForm}
+use Rattle.control.specs.Control.{countOf, decimal}
+use Rattle.verdict.specs.Contents.{segmentsOf, contents, normalForm}
+use Rattle.verdict.specs.Places.{unusableAdvice, noOpening, strayReleases, unendedSegment, brokenTags, misplacedSegments, badControls, differingReferences, wrongCounts}
 use Rattle.verdict.specs.Stages.{refusalOf}
-use Rattle.answers.specs.Answers.{given}
-use Rattle.operations.specs.Judge.{judge}
-use Rattle.operations.specs.Compare.{compare, keep, ofFirst}
+use Rattle.answers.specs.Answers.{given, refused, refusedInput}
+use Rattle.operations.specs.Judge.{judge, normaliseRefusal, normalise, normaliseBuffer}
+use Rattle.operations.specs.Compare.{compare, keep, ofFirst, ofSecond}
+use Rattle.operations.specs.Read.{read, valueBytes, valueTable}
+use Rattle.operations.specs.Write.{write, writtenText}
+use Rattle.cases.specs.Cases.{x}
 use Rattle.operations.specs.ValueList.{trimList}
-use Rattle.spelling.specs.Bodies.{Passes, Spelled, Shaped, Releasable, readList}
+use Rattle.spelling.specs.Bodies.{Passes, Spelled, Shaped, Releasable, wordsOf, readList}
+use Rattle.grammar.specs.Grammar.{size, Group, Ordered, Agrees, Interchange}
 use Rattle.trimming.specs.Trimmed.{TrimmedList}
 use Rattle.trimming.specs.Ends.{DifferByEnds}
-use Rattle.forms.specs.Forms.{markOf, Normalised, NormalForms, endToEnd, cutForms}
-use Rattle.acceptance.specs.Allowed.{Allowed}
+use Rattle.forms.specs.Forms.{markOf, formCharacters, BodyPasses, listOf, Normalised, NormalForms, endToEnd, cutForms}
+use Rattle.acceptance.specs.Allowed.{Opening, Tagged, Allowed}
 use Rattle.acceptance.specs.Counts.{told}
 use Rattle.acceptance.specs.Refused.{Refused}
-use Rattle.acceptance.specs.Same.{Same, handed}
+use Rattle.acceptance.specs.Same.{Same}
+use Rattle.trips.specs.Trips.{WrittenBack, ReadBack}
 
 pub record Demands : Type 0 where
   -- ---- 1. Reading and spelling, under usable characters
@@ -43,9 +53,12 @@ pub record Demands : Type 0 where
   -- releases are read before splitting: two different lists are never spelled alike
   pub never-alike : (c : Characters) → usable c ≡ true → (a b : SegmentList) → Shaped a → Releasable c a → Shaped b → Releasable c b
       → spell c a ≡ spell c b → a ≡ b
+  -- and of an input: neither 4 nor 5 is met exactly when its body is spelled so
+  pub four-and-five : (s : List ℕ) → usable (charactersOf s) ≡ true
+      → ((strayReleases s ≡ []) × (unendedSegment s ≡ [])) ↔ Spelled (charactersOf s) (body s)
   -- ---- 2. Trimming
 
-  -- it is what the paper's words say, level by level, and nothing else is
+  -- it is what the paper's words say, level by level, with no empty end left, and nothing else is
   pub trims : (list : SegmentList) → TrimmedList list (trimList list)
   pub trims-only-so : (list left : SegmentList) → TrimmedList list left → trimList list ≡ left
   -- trimming again takes nothing more
@@ -57,8 +70,24 @@ pub record Demands : Type 0 where
   pub accepts-exactly : (s : List ℕ) → (judge s .number ≡ 0) ↔ Allowed s
   -- what is then answered: the characters, the counts of the contents, the normal form's length
   pub tells : (s : List ℕ) (a : Allowed s) → judge s ≡ given (told s a)
+  -- the list of segments is read off the segments of the input, and "The contents are the trimmed list."
+  pub list-is : (s : List ℕ) (a : Allowed s) → a .spelled .list ≡ map wordsOf (segmentsOf s)
+  pub contents-are : (s : List ℕ) (a : Allowed s) → contents s ≡ trimList (a .spelled .list)
+  -- a trailer's count is the number of the pieces that it closes
+  pub une-counts : {gs : List Segment} (g : Group Agrees gs) → maybe 0 decimal (countOf (g .tail)) ≡ size (g .inside)
+  pub unz-counts : {gs : List Segment} (i : Interchange gs) → maybe 0 decimal (countOf (i .tail)) ≡ ⊎-elim size size (i .inside)
+  -- some input is allowed, and some is not
+  pub x-is-allowed : Allowed x
+  pub nothing-is-not : Allowed [] → ⊥
   -- ---- 4. Refusals
 
+  -- what it says that a number is not met: 2 and 3; 6, where the body passes; 9; 9 to 12
+  pub two-and-three : (s : List ℕ) → (unusableAdvice s ≡ []) × (noOpening s ≡ []) ↔ Opening s
+  pub six : (s : List ℕ) → BodyPasses s
+      → (brokenTags s ≡ []) ↔ ((segment : List (List Bytes)) → List·Memᴰ segment (listOf s) → Tagged segment)
+  pub nine : (s : List ℕ) → (misplacedSegments s ≡ []) ↔ Ordered (segmentsOf s)
+  pub nine-to-twelve : (s : List ℕ)
+      → (misplacedSegments s ≡ []) × (badControls s ≡ []) × (differingReferences s ≡ []) × (wrongCounts s ≡ []) ↔ Interchange (segmentsOf s)
   -- the number and the place that are answered are met, nothing of an earlier stage is, and nothing lower of its own stage is
   pub refuses-exactly : (s : List ℕ) (f : Fault) (p : ℕ) → (judge s ≡ record { number = number f; values = p ∷ [] }) ↔ Refused s f p
   -- exactly one of "accepted" and one refusal holds
@@ -72,20 +101,43 @@ pub record Demands : Type 0 where
   -- two accepted interchanges have the same normal form exactly when their contents and marks are equal
   pub same-form : (a b : List ℕ) → refusalOf a ≡ none → refusalOf b ≡ none
       → (normalForm a ≡ normalForm b) ↔ ((contents a ≡ contents b) × (markOf a ≡ markOf b))
+  -- it is the advice and the contents, spelled
+  pub form-is : (s : List ℕ) → normalForm s ≡ adviceOf (formCharacters s) ++ spell (formCharacters s) (contents s)
+  -- Normalise stores it, and what is beyond keeps its values
+  pub normalises : (buffer s : List ℕ) → refusalOf s ≡ none → length (normalForm s) ≤ length buffer
+      → (normalise buffer s ≡ given (length (normalForm s) ∷ []))
+      × (normaliseBuffer buffer s ≡ normalForm s ++ drop (length (normalForm s)) buffer)
+  -- where it is refused, the buffer is unchanged
+  pub normalise-refused : (buffer s : List ℕ) {r : Refusal} → normaliseRefusal buffer s ≡ some r
+      → (normalise buffer s ≡ refused r) × (normaliseBuffer buffer s ≡ buffer)
   -- ---- 6. End to end
 
   -- any number of normal forms written end to end are found again by a cut, and in one way only
   pub cut-back : (forms : List (List ℕ)) → NormalForms forms → cutForms (endToEnd forms) ≡ forms
   pub one-way : (forms others : List (List ℕ)) → NormalForms forms → NormalForms others → endToEnd forms ≡ endToEnd others
       → forms ≡ others
+  -- ---- 7. Round trips
+
+  -- where Write isn't refused, its text is accepted and Read gives the list back with its empty ends trimmed
+  pub write-read : (service bytes table output : List ℕ) → write service bytes table output .number ≡ 0
+      → WrittenBack service bytes table output (writtenText service bytes table)
+  -- Read then Write gives an interchange with the same contents
+  pub read-write : (s buffer numbers service output : List ℕ) → read buffer numbers s .number ≡ 0
+      → write service (valueBytes s) (valueTable s) output .number ≡ 0
+      → ReadBack s buffer numbers service (writtenText service (valueBytes s) (valueTable s))
   -- ---- 8. Compare and Keep
 
+  -- "same" exactly when both are accepted and contents and marks are equal
   pub compares : (a b : List ℕ) → (compare a b ≡ given (1 ∷ [])) ↔ Same a b
+  pub same-contents : (a b : List ℕ) → Same a b ↔ (Allowed a × Allowed b × (contents a ≡ contents b) × (markOf a ≡ markOf b))
+  -- "different" exactly when both are accepted and they are not; else the first refusal, with its input
+  pub tells-apart : (a b : List ℕ) → (compare a b ≡ given (0 ∷ [])) ↔ (Allowed a × Allowed b × (Same a b → ⊥))
+  pub first-refused : (a b : List ℕ) {r : Refusal} → refusalOf a ≡ some r → compare a b ≡ refusedInput 1 r
+  pub second-refused : (a b : List ℕ) {r : Refusal} → refusalOf a ≡ none → refusalOf b ≡ some r → compare a b ≡ refusedInput 2 r
   pub same-self : {a : List ℕ} → Allowed a → Same a a
   pub same-back : {a b : List ℕ} → Same a b → Same b a
   pub same-on : {a b c : List ℕ} → Same a b → Same b c → Same a c
-  -- Keep hands back one of its two inputs or nothing, never a longer one
-  pub kept-short : (a b : List ℕ) → Same a b
-      → (length (handed a b (keep a b)) ≤ length a) × (length (handed a b (keep a b)) ≤ length b)
-  pub kept-same : (a b : List ℕ) → Same a b → Same a (handed a b (keep a b))
+  -- Keep hands back the whole of one of its two inputs, the shorter, the first where equally long; or nothing
+  pub keeps : (a b : List ℕ) → Same a b
+      → ((keep a b ≡ ofFirst 0 (length a)) × (length a ≤ length b)) ⊎ ((keep a b ≡ ofSecond 0 (length b)) × (length b < length a))
   pub kept-none : (a b : List ℕ) → (Same a b → ⊥) → keep a b ≡ ofFirst 0 0

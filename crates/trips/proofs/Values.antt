@@ -143,7 +143,7 @@ module _ (service bytes table : List ℕ) where
       let lacks : Entry → Bool = λ e. lacksRelease six (valueIn bytes e) in
       let none = numbers-none lacks 0 (entries table) in
       let moved =
-          all-mapped (λ e. record { kind = e .kind; value = valueIn bytes e }) (λ (l : Item). not (lacksRelease six (l .value))) (entries table) in
+      all-mapped (λ e. record { kind = e .kind; value = valueIn bytes e }) (λ (l : Item). not (lacksRelease six (l .value))) (entries table) in
       (λ h. moved ∙ none .0 h, λ h. none .1 (sym moved ∙ h))
 
   -- that is, where the list of segments can be spelled
@@ -154,9 +154,9 @@ module _ (service bytes table : List ℕ) where
       let list : SegmentList = segmentsListed (listedIn bytes table) in
       let spelled : Bytes → Bool = λ v. not (lacksRelease six v) in
       let values : all (λ l. spelled (l .value)) (listedIn bytes table) ≡ all (all (all spelled)) list =
-          ap (all (λ l. spelled (l .value))) (sym (listOf-listed (listedIn bytes table) kinds)) ∙ all-listOf spelled list in
+      ap (all (λ l. spelled (l .value))) (sym (listOf-listed (listedIn bytes table) kinds)) ∙ all-listOf spelled list in
       let plain : released six ≡ false → all (all (all spelled)) list ≡ all (all (all (isPlain six))) list =
-          λ r. ap (λ (t : Bytes → Bool). all (all (all t)) list) (fun-ext (spelled-plain six r)) in (
+      λ r. ap (λ (t : Bytes → Bool). all (all (all t)) list) (fun-ext (spelled-plain six r)) in (
         λ h r. sym (plain r) ∙ sym values ∙ release-values .0 h,
         λ h.
             release-values .1
