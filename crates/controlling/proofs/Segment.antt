@@ -15,7 +15,7 @@ use Rattle.refusals.specs.declared.Outcome.{Outcome}
 use Rattle.refusals.specs.declared.Outcome.the-variants.{Passed}
 use Rattle.refusals.specs.Refusals.{outcome}
 use Rattle.reading.specs.Tokens.{Token, Segment}
-use Rattle.reading.proofs.Steps.{tokensAt}
+use Rattle.reading.specs.Tokens.{tokensAt}
 use Rattle.scanner.specs.Scan.{segmentAt}
 use Rattle.scanner.proofs.Segments.{segment-start}
 use Rattle.segments.specs.declared.Kind.{Kind}

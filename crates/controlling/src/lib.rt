@@ -5,7 +5,7 @@ ghost use Prim.Native.Nat.{_≤_};
 ghost use mathlib.Core.Path.{_≡_};
 ghost use lib.ListN.{length};
 ghost use Rattle.refusals.specs.Refusals.{outcome};
-ghost use Rattle.reading.proofs.Steps.{tokensAt};
+ghost use Rattle.reading.specs.Tokens.{tokensAt};
 ghost use Rattle.machines.specs.Walks.{controlled};
 ghost use Rattle.walking.specs.Walking.{Within};
 ghost use Rattle.controlling.specs.Controlling.{failedAt, headerKept, headersBehind, groupsOrMessages, countDue, trailerAt, controlledBy};

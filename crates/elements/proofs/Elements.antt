@@ -14,7 +14,7 @@ use Rattle.lists.proofs.Texts.{if-true, if-false}
 use Rattle.lists.proofs.Pieces.{cut-first}
 use Rattle.characters.specs.declared.Characters.{Characters}
 use Rattle.reading.specs.Tokens.{Token, byte, separator, fault, ends}
-use Rattle.reading.proofs.Steps.{tokensAt}
+use Rattle.reading.specs.Tokens.{tokensAt}
 use Rattle.scanner.specs.declared.Lexed.the-variants.{Byte, Separator, Stray, End}
 use Rattle.scanner.specs.Scan.{segmentAt}
 use Rattle.scanner.proofs.Lexing.{Lexes}

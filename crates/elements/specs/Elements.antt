@@ -8,7 +8,7 @@ use lib.Dec.{leb}
 use Rattle.lists.specs.Lists.{if_then_else_, through}
 use Rattle.characters.specs.declared.Characters.{Characters}
 use Rattle.reading.specs.Tokens.{Token, byte, separator, fault, ends}
-use Rattle.reading.proofs.Steps.{tokensAt}
+use Rattle.reading.specs.Tokens.{tokensAt}
 
 -- the tokens behind that many element separators of the segment that they begin; nothing where it ends before
 unfoldable pub elementFrom : ℕ → List Token → List Token

@@ -5,7 +5,7 @@ ghost use Prim.Native.Nat.{_+_, _≤_};
 ghost use lib.ListN.{length};
 ghost use lib.Seq.{sets};
 ghost use Rattle.reading.specs.Spelling.{spellByte};
-ghost use Rattle.reading.proofs.Steps.{tokensAt};
+ghost use Rattle.reading.specs.Tokens.{tokensAt};
 ghost use Rattle.verdict.specs.Contents.{normalCharacters};
 ghost use Rattle.emission.specs.Emission.{letOut, emitted};
 ghost use Rattle.emitting.specs.Emitting.{endText};

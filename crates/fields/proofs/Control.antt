@@ -16,7 +16,7 @@ use Rattle.characters.specs.Characters.{between, digit}
 use Rattle.reading.specs.Tokens.{Token, ends}
 use Rattle.reading.specs.Values.{Value, bytesOf, valueOf, valuesOf, elementsOf}
 use Rattle.reading.specs.Trimming.{trimElement, isIdle, trimSegment, trimmed, contentsOf}
-use Rattle.reading.proofs.Steps.{tokensAt}
+use Rattle.reading.specs.Tokens.{tokensAt}
 use Rattle.control.specs.Control.{single, controlElement, isReference, isCount, sameValue, decimal}
 use Rattle.scanner.specs.Scan.{segmentAt}
 use Rattle.elements.specs.Elements.{elementFrom, firstElement, ElementAt}

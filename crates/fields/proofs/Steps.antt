@@ -10,7 +10,7 @@ use Rattle.lists.specs.Lists.{if_then_else_, isEmpty, through, gather}
 use Rattle.characters.specs.declared.Characters.{Characters}
 use Rattle.reading.specs.Tokens.{separator, ends}
 use Rattle.reading.specs.Values.{byteOf, bytesOf}
-use Rattle.reading.proofs.Steps.{tokensAt}
+use Rattle.reading.specs.Tokens.{tokensAt}
 use Rattle.scanner.specs.declared.Lexed.the-variants as lexed
 use Rattle.scanner.proofs.Lexing.{Lexes}
 use Rattle.fields.specs.declared.NextByte.{NextByte}

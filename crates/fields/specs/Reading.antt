@@ -9,7 +9,7 @@ use Rattle.lists.specs.Lists.{if_then_else_}
 use Rattle.characters.specs.declared.Characters.{Characters}
 use Rattle.characters.specs.Characters.{digit}
 use Rattle.reading.specs.Tokens.{Token, ends}
-use Rattle.reading.proofs.Steps.{tokensAt}
+use Rattle.reading.specs.Tokens.{tokensAt}
 use Rattle.fields.specs.declared.Field.{Field}
 use Rattle.fields.specs.declared.NextByte.{NextByte}
 use Rattle.fields.specs.declared.NextByte.the-variants.{Byte, Ended}

@@ -14,7 +14,7 @@ use Rattle.characters.specs.declared.Characters.{Characters}
 use Rattle.reading.specs.Tokens.{Token, Segment, ends}
 use Rattle.reading.specs.Values.{Value, bytesOf, valueOf, valuesOf, elementsOf, endedBy}
 use Rattle.reading.specs.Trimming.{trimmed, contentsOf, valueAt}
-use Rattle.reading.proofs.Steps.{tokensAt}
+use Rattle.reading.specs.Tokens.{tokensAt}
 use Rattle.scanner.specs.Scan.{segmentAt}
 use Rattle.elements.specs.Elements.{firstElement, ElementAt}
 use Rattle.elements.proofs.Elements.{through-through, ends-more, element-at-piece}

@@ -20,7 +20,7 @@ use Rattle.refusals.proofs.Stages.{met-none}
 use Rattle.reading.specs.Tokens.{tokens}
 use Rattle.reading.specs.Values.{endsInside}
 use Rattle.reading.specs.Spelling.{spell}
-use Rattle.reading.proofs.Steps.{tokensAt}
+use Rattle.reading.specs.Tokens.{tokensAt}
 use Rattle.segments.specs.declared.Walk.{Walk}
 use Rattle.segments.specs.Order.{walkOver}
 use Rattle.verdict.specs.Contents.{bodyTokens, segmentsOf, contents, kindsOf, normalCharacters, interchange, normalForm}

@@ -16,7 +16,7 @@ use Rattle.refusals.specs.declared.Outcome.the-variants.{Passed, Failed}
 use Rattle.refusals.specs.Refusals.{met, lowest, lowerOf, orElse, answering, outcome}
 use Rattle.reading.specs.Tokens.{Token, Segment, ends, segments, start as startOf}
 use Rattle.reading.specs.Trimming.{valueAt, contentsOf}
-use Rattle.reading.proofs.Steps.{tokensAt}
+use Rattle.reading.specs.Tokens.{tokensAt}
 use Rattle.levels.specs.Levels.{levelNamed, isOurVersion, levelOf}
 use Rattle.segments.specs.declared.Walk.{Walk}
 use Rattle.segments.specs.Tags.{kindOf}

@@ -3,37 +3,33 @@ use mathlib.Core.Path.{_≡_, refl, sym, ap, _∙_}
 use mathlib.Core.Bool.{Bool, true, false, not, _&&_, false≢true}
 use mathlib.Core.List.{List, [], _∷_, _++_}
 use Rattle.lists.specs.Lists.{if_then_else_, all, through, onto, cut}
+unfoldable pub use Rattle.lists.specs.Lists.{beyond}
 use Rattle.lists.proofs.Texts.{and-right, if-true, if-false}
 
 module _ {A : Type 0} (t : A → Bool) where
-  -- what follows the first that passes the test
-  unfoldable pub beyond : List A → List A
-  beyond [] = []
-  beyond (x ∷ xs) = if t x then xs else beyond xs
-
   -- the first passes the test: the rest follows it
-  pub beyond-hit : {x : A} {xs rest : List A} → xs ≡ x ∷ rest → t x ≡ true → beyond xs ≡ rest
+  pub beyond-hit : {x : A} {xs rest : List A} → xs ≡ x ∷ rest → t x ≡ true → beyond t xs ≡ rest
   unfolding beyond
-  beyond-hit {x} {xs} {rest} e h = ap beyond e ∙ if-true (t x) rest (beyond rest) h
+  beyond-hit {x} {xs} {rest} e h = ap (beyond t) e ∙ if-true (t x) rest (beyond t rest) h
 
   -- it does not: the search goes on in the rest
-  pub beyond-miss : {x : A} {xs rest : List A} → xs ≡ x ∷ rest → t x ≡ false → beyond xs ≡ beyond rest
+  pub beyond-miss : {x : A} {xs rest : List A} → xs ≡ x ∷ rest → t x ≡ false → beyond t xs ≡ beyond t rest
   unfolding beyond
-  beyond-miss {x} {xs} {rest} e h = ap beyond e ∙ if-false (t x) rest (beyond rest) h
+  beyond-miss {x} {xs} {rest} e h = ap (beyond t) e ∙ if-false (t x) rest (beyond t rest) h
 
   -- a list is its first piece and what follows it
-  pub through-beyond : (xs : List A) → through t xs ++ beyond xs ≡ xs
+  pub through-beyond : (xs : List A) → through t xs ++ beyond t xs ≡ xs
   unfolding through beyond
   through-beyond [] = refl
   through-beyond (x ∷ xs) = step (t x) (through-beyond xs)
     where
-      step : (b : Bool) → through t xs ++ beyond xs ≡ xs
-          → x ∷ ((if b then [] else through t xs) ++ (if b then xs else beyond xs)) ≡ x ∷ xs
+      step : (b : Bool) → through t xs ++ beyond t xs ≡ xs
+          → x ∷ ((if b then [] else through t xs) ++ (if b then xs else beyond t xs)) ≡ x ∷ xs
       step true ih = refl
       step false ih = ap (λ (l : List A). x ∷ l) ih
 
   -- the pieces of a list are its first piece and the pieces of what follows it
-  pub cut-first : (x : A) (xs : List A) → cut t (x ∷ xs) ≡ through t (x ∷ xs) ∷ cut t (beyond (x ∷ xs))
+  pub cut-first : (x : A) (xs : List A) → cut t (x ∷ xs) ≡ through t (x ∷ xs) ∷ cut t (beyond t (x ∷ xs))
   unfolding cut onto through beyond
   cut-first x [] = step (t x)
     where
@@ -42,8 +38,8 @@ module _ {A : Type 0} (t : A → Bool) where
       step false = refl
   cut-first x (y ∷ ys) = step (t x) (cut-first y ys)
     where
-      step : (b : Bool) → cut t (y ∷ ys) ≡ through t (y ∷ ys) ∷ cut t (beyond (y ∷ ys))
-          → onto b x (cut t (y ∷ ys)) ≡ (x ∷ (if b then [] else through t (y ∷ ys))) ∷ cut t (if b then y ∷ ys else beyond (y ∷ ys))
+      step : (b : Bool) → cut t (y ∷ ys) ≡ through t (y ∷ ys) ∷ cut t (beyond t (y ∷ ys))
+          → onto b x (cut t (y ∷ ys)) ≡ (x ∷ (if b then [] else through t (y ∷ ys))) ∷ cut t (if b then y ∷ ys else beyond t (y ∷ ys))
       step true ih = refl
       step false ih = ap (onto false x) ih
 

@@ -68,6 +68,11 @@ module _ {A : Type 0} where
   through t [] = []
   through t (x ∷ xs) = x ∷ (if t x then [] else through t xs)
 
+  -- what follows the first that passes the test
+  unfoldable pub beyond : (A → Bool) → List A → List A
+  beyond t [] = []
+  beyond t (x ∷ xs) = if t x then xs else beyond t xs
+
   -- the first that passes the test
   unfoldable pub first : (A → Bool) → List A → Option A
   first t [] = none

@@ -5,7 +5,7 @@ ghost use Prim.Native.Nat.{_+_, _≤_, _*_};
 ghost use lib.ListN.{length};
 ghost use Rattle.characters.specs.Characters.{isService};
 ghost use Rattle.verdict.specs.Contents.{normalCharacters};
-ghost use Rattle.reading.proofs.Steps.{tokensAt};
+ghost use Rattle.reading.specs.Tokens.{tokensAt};
 ghost use Rattle.emission.specs.Emission.{emittedLength};
 ghost use Rattle.measuring.specs.Measure.{width, behindByte, behindSeparator, held};
 use characters::Characters;

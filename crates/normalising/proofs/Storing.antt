@@ -19,7 +19,7 @@ use Rattle.refusals.specs.declared.Refusal.{Refusal}
 use Rattle.refusals.specs.Refusals.{met, lowest, orElse, answering}
 use Rattle.refusals.proofs.Stages.{answering-append}
 use Rattle.reading.specs.Spelling.{spell}
-use Rattle.reading.proofs.Steps.{tokensAt}
+use Rattle.reading.specs.Tokens.{tokensAt}
 use Rattle.verdict.specs.Contents.{bodyTokens, segmentsOf, contents, normalCharacters, interchange, normalForm}
 use Rattle.verdict.specs.Stages.{stages, refusalOf}
 use Rattle.emission.specs.Emission.{emitted}

@@ -13,7 +13,7 @@ use Rattle.refusals.specs.declared.Fault.the-variants.{MisplacedSegment}
 use Rattle.refusals.specs.declared.Refusal.{Refusal}
 use Rattle.refusals.specs.Refusals.{orElse}
 use Rattle.reading.specs.Tokens.{Token, Segment, ends, segments, start}
-use Rattle.reading.proofs.Steps.{tokensAt}
+use Rattle.reading.specs.Tokens.{tokensAt}
 use Rattle.scanner.specs.Scan.{segmentAt, Skips}
 use Rattle.scanner.proofs.Segments.{stands, segments-end, segment-start}
 use Rattle.segments.specs.declared.Kind.{Kind}

@@ -5,11 +5,11 @@ use mathlib.Core.Bool.{Bool, not}
 use mathlib.Core.List.{List, [], _∷_}
 use lib.ListN.{length}
 use Rattle.lists.specs.Lists.{if_then_else_, isEmpty, through}
-use Rattle.lists.proofs.Pieces.{beyond}
+use Rattle.lists.specs.Lists.{beyond}
 use Rattle.characters.specs.declared.Characters.{Characters}
 use Rattle.reading.specs.Tokens.{Token, ends}
 use Rattle.reading.specs.Values.{bytesOf}
-use Rattle.reading.proofs.Steps.{tokensAt}
+use Rattle.reading.specs.Tokens.{tokensAt}
 use Rattle.fields.specs.Reading.{valueEnd}
 
 module _ {A : Type 0} where

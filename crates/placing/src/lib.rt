@@ -2,7 +2,7 @@
 // stands from a place on; where a value ends. It promises the pieces into which `reading` cuts the
 // tokens. What trimming leaves of them is left to others.
 ghost use mathlib.Core.Path.{_≡_};
-ghost use Rattle.reading.proofs.Steps.{tokensAt};
+ghost use Rattle.reading.specs.Tokens.{tokensAt};
 ghost use Rattle.placing.specs.Placing.{SegmentAt, ComponentAt, holdsByte, EndsAt};
 use characters::Characters;
 use scanner::Lexed;

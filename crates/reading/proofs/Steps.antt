@@ -14,6 +14,7 @@ use Rattle.characters.specs.declared.Role.{Role}
 use Rattle.characters.specs.declared.Role.the-variants.{Separator, Release, Plain}
 use Rattle.characters.specs.Characters.{role}
 use Rattle.reading.specs.Tokens.{Token, byte, separator, fault, unreleased, releasing, taken, tokensFrom, tokens, ends}
+unfoldable pub use Rattle.reading.specs.Tokens.{tokensAt}
 
 -- a separator ends what those of its own kind and of higher kinds end
 pub ends-yes : (kind place : ℕ) {k : ℕ} → k ≤ kind → ends kind (separator k place) ≡ true
@@ -25,29 +26,25 @@ unfolding ends
 ends-no kind place {k} h = lt-leb k kind h
 
 module _ (c : Characters) (s : List ℕ) where
-  -- the tokens of the input from a place on
-  unfoldable pub tokensAt : ℕ → List Token
-  tokensAt at = tokens c at (drop at s)
-
   -- what follows the byte at a place
   drop-next : (at : ℕ) → at < length s → drop at s ≡ getD s at 0 ∷ drop (at + 1) s
   drop-next at h = drop-cons s at 0 h ∙ ap (λ (n : ℕ). getD s at 0 ∷ drop n s) (sym (add-one at))
 
   -- at the end there is nothing
-  pub at-end : (at : ℕ) → length s ≤ at → tokensAt at ≡ []
+  pub at-end : (at : ℕ) → length s ≤ at → tokensAt c s at ≡ []
   unfolding tokensAt tokens tokensFrom
   at-end at h = ap (tokensFrom c none at) (drop-of-length-le s h)
 
   -- a plain byte is a byte of a value
   pub at-plain : (at : ℕ) → at < length s → role c (getD s at 0) ≡ Plain
-      → tokensAt at ≡ byte (getD s at 0) at at ∷ tokensAt (at + 1)
+      → tokensAt c s at ≡ byte (getD s at 0) at at ∷ tokensAt c s (at + 1)
   unfolding tokensAt tokens tokensFrom unreleased releasing
   at-plain at h r =
       ap (tokensFrom c none at) (drop-next at h)
       ∙ ap (λ (o : Role). unreleased o (getD s at 0) at (tokensFrom c (releasing o at) (at + 1) (drop (at + 1) s))) r
 
   pub at-separator : (at kind : ℕ) → at < length s → role c (getD s at 0) ≡ Separator kind
-      → tokensAt at ≡ separator kind at ∷ tokensAt (at + 1)
+      → tokensAt c s at ≡ separator kind at ∷ tokensAt c s (at + 1)
   unfolding tokensAt tokens tokensFrom unreleased releasing
   at-separator at kind h r =
       ap (tokensFrom c none at) (drop-next at h)
@@ -55,39 +52,39 @@ module _ (c : Characters) (s : List ℕ) where
 
   -- a release character leaves what follows to the byte behind it
   releases : (at : ℕ) → at < length s → role c (getD s at 0) ≡ Release
-      → tokensAt at ≡ tokensFrom c (some at) (at + 1) (drop (at + 1) s)
+      → tokensAt c s at ≡ tokensFrom c (some at) (at + 1) (drop (at + 1) s)
   unfolding tokensAt tokens tokensFrom unreleased releasing
   releases at h r =
       ap (tokensFrom c none at) (drop-next at h)
       ∙ ap (λ (o : Role). unreleased o (getD s at 0) at (tokensFrom c (releasing o at) (at + 1) (drop (at + 1) s))) r
 
   -- "release followed by .. the end"
-  pub at-last-release : (at : ℕ) → at + 1 ≡ length s → role c (getD s at 0) ≡ Release → tokensAt at ≡ fault at ∷ []
+  pub at-last-release : (at : ℕ) → at + 1 ≡ length s → role c (getD s at 0) ≡ Release → tokensAt c s at ≡ fault at ∷ []
   unfolding tokensFrom
   at-last-release at h r =
       releases at (omega arith) r ∙ ap (tokensFrom c (some at) (at + 1)) (drop-of-length-le s {i = at + 1} (omega arith))
 
   released : (at : ℕ) → at + 1 < length s → role c (getD s at 0) ≡ Release
-      → tokensAt at ≡ taken (role c (getD s (at + 1) 0)) (getD s (at + 1) 0) at (at + 1) (tokensAt (at + 1 + 1))
+      → tokensAt c s at ≡ taken (role c (getD s (at + 1) 0)) (getD s (at + 1) 0) at (at + 1) (tokensAt c s (at + 1 + 1))
   unfolding tokensAt tokens tokensFrom
   released at h r = releases at (omega arith) r ∙ ap (tokensFrom c (some at) (at + 1)) (drop-next (at + 1) h)
 
   -- "release followed by no service character"
   pub at-stray-release : (at : ℕ) → at + 1 < length s → role c (getD s at 0) ≡ Release
-      → role c (getD s (at + 1) 0) ≡ Plain → tokensAt at ≡ fault at ∷ tokensAt (at + 1 + 1)
+      → role c (getD s (at + 1) 0) ≡ Plain → tokensAt c s at ≡ fault at ∷ tokensAt c s (at + 1 + 1)
   unfolding taken
   at-stray-release at h r q =
-      released at h r ∙ ap (λ (o : Role). taken o (getD s (at + 1) 0) at (at + 1) (tokensAt (at + 1 + 1))) q
+      released at h r ∙ ap (λ (o : Role). taken o (getD s (at + 1) 0) at (at + 1) (tokensAt c s (at + 1 + 1))) q
 
   pub at-released-release : (at : ℕ) → at + 1 < length s → role c (getD s at 0) ≡ Release
-      → role c (getD s (at + 1) 0) ≡ Release → tokensAt at ≡ byte (getD s (at + 1) 0) at (at + 1) ∷ tokensAt (at + 1 + 1)
+      → role c (getD s (at + 1) 0) ≡ Release → tokensAt c s at ≡ byte (getD s (at + 1) 0) at (at + 1) ∷ tokensAt c s (at + 1 + 1)
   unfolding taken
   at-released-release at h r q =
-      released at h r ∙ ap (λ (o : Role). taken o (getD s (at + 1) 0) at (at + 1) (tokensAt (at + 1 + 1))) q
+      released at h r ∙ ap (λ (o : Role). taken o (getD s (at + 1) 0) at (at + 1) (tokensAt c s (at + 1 + 1))) q
 
   pub at-released-separator : (at kind : ℕ) → at + 1 < length s → role c (getD s at 0) ≡ Release
       → role c (getD s (at + 1) 0) ≡ Separator kind
-      → tokensAt at ≡ byte (getD s (at + 1) 0) at (at + 1) ∷ tokensAt (at + 1 + 1)
+      → tokensAt c s at ≡ byte (getD s (at + 1) 0) at (at + 1) ∷ tokensAt c s (at + 1 + 1)
   unfolding taken
   at-released-separator at kind h r q =
-      released at h r ∙ ap (λ (o : Role). taken o (getD s (at + 1) 0) at (at + 1) (tokensAt (at + 1 + 1))) q
+      released at h r ∙ ap (λ (o : Role). taken o (getD s (at + 1) 0) at (at + 1) (tokensAt c s (at + 1 + 1))) q

@@ -4,6 +4,7 @@ use mathlib.Core.Bool.{Bool, true, false}
 use mathlib.Core.List.{List, [], _∷_}
 use mathlib.Core.Option.{Option, none, some}
 use lib.Dec.{leb}
+use lib.ListN.{drop}
 use Rattle.characters.specs.declared.Characters.{Characters}
 use Rattle.characters.specs.declared.Role.{Role}
 use Rattle.characters.specs.declared.Role.the-variants.{Separator, Release, Plain}
@@ -70,3 +71,7 @@ segments ts = cut (ends 0) ts
 unfoldable pub start : List Token → ℕ
 start [] = zero
 start (t ∷ ts) = placeOf t
+
+-- the tokens of the input from a place on
+unfoldable pub tokensAt : Characters → List ℕ → ℕ → List Token
+tokensAt c s at = tokens c at (drop at s)

@@ -12,7 +12,7 @@ use Rattle.lists.proofs.Texts.{same-eq}
 use Rattle.characters.specs.declared.Characters.{Characters}
 use Rattle.reading.specs.Tokens.{Token, byte, separator, fault, ends}
 use Rattle.reading.specs.Values.{bytesOf, endedBy}
-use Rattle.reading.proofs.Steps.{tokensAt}
+use Rattle.reading.specs.Tokens.{tokensAt}
 use Rattle.segments.specs.declared.Kind.the-variants.{User}
 use Rattle.segments.specs.Kinds.{kindNamed}
 use Rattle.segments.specs.Tags.{tagPiece, tagOf, kindOf, isTag, tagRule}

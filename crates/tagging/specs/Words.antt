@@ -8,7 +8,7 @@ use Rattle.lists.specs.Lists.{through}
 use Rattle.characters.specs.declared.Characters.{Characters}
 use Rattle.reading.specs.Tokens.{Token, ends}
 use Rattle.reading.specs.Values.{bytesOf, endedBy}
-use Rattle.reading.proofs.Steps.{tokensAt}
+use Rattle.reading.specs.Tokens.{tokensAt}
 use Rattle.scanner.specs.Scan.{Skips}
 use Rattle.tagging.specs.declared.Word.{Word}
 

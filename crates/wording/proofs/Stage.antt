@@ -14,7 +14,7 @@ use Rattle.refusals.specs.declared.Refusal.{Refusal}
 use Rattle.refusals.specs.Refusals.{orElse}
 use Rattle.reading.specs.Tokens.{Token, byte, separator, fault, Segment, ends, segments, start}
 use Rattle.reading.specs.Values.{endedBy}
-use Rattle.reading.proofs.Steps.{tokensAt}
+use Rattle.reading.specs.Tokens.{tokensAt}
 use Rattle.segments.specs.Tags.{tagRule}
 use Rattle.machines.specs.Walks.{refuse, firstIn, firstFault, wordedSegment, worded}
 use Rattle.scanner.specs.declared.Scanned.{Scanned}

@@ -3,7 +3,7 @@
 ghost use mathlib.Core.Path.{_≡_};
 ghost use lib.ListN.{length};
 ghost use Rattle.refusals.specs.Refusals.{outcome};
-ghost use Rattle.reading.proofs.Steps.{tokensAt};
+ghost use Rattle.reading.specs.Tokens.{tokensAt};
 ghost use Rattle.machines.specs.Walks.{worded, refuse};
 use characters::Characters;
 use refusals::Fault;

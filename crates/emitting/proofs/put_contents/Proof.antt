@@ -10,7 +10,7 @@ use lib.Seq.{sets}
 use borrow.Author.Needs.{needs}
 use Rattle.reading.specs.Tokens.{Token}
 use Rattle.reading.specs.Spelling.{spellByte}
-use Rattle.reading.proofs.Steps.{tokensAt}
+use Rattle.reading.specs.Tokens.{tokensAt}
 use Rattle.verdict.specs.Contents.{normalCharacters}
 use Rattle.emission.specs.Emission.{letOut, emitted}
 use Rattle.measuring.specs.declared.Measure.{Measure}

@@ -5,7 +5,7 @@ use mathlib.Core.Path.{_≡_, refl, sym, _∙_}
 use native.Mathlib.Omega.{arith}
 use lib.ListN.{length}
 use borrow.Author.Needs.{needs}
-use Rattle.reading.proofs.Steps.{tokensAt}
+use Rattle.reading.specs.Tokens.{tokensAt}
 use Rattle.scanner.proofs.Lexing.{lexes-as}
 use Rattle.fields.specs.Fields.{blankIn}
 use Rattle.fields.proofs.Steps.{blank-byte, blank-over, blank-component, blank-stray, blank-end}

@@ -3,7 +3,7 @@ use mathlib.Core.Path.{ap, _∙_}
 use Prim.Native.Nat.{ℕ}
 use borrow.Author.Needs.{needs}
 use Rattle.refusals.specs.Refusals.{outcome}
-use Rattle.reading.proofs.Steps.{tokensAt}
+use Rattle.reading.specs.Tokens.{tokensAt}
 use Rattle.verdict.specs.Places.{level}
 use Rattle.machines.specs.Walks.{leveled}
 use Rattle.judging.specs.Judging.{fromOrder, fromBytes}

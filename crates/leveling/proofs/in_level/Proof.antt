@@ -7,7 +7,7 @@ use native.Mathlib.Omega.{arith}
 use lib.ListN.{length, getD}
 use borrow.Author.Needs.{needs}
 use Rattle.refusals.specs.Refusals.{outcome}
-use Rattle.reading.proofs.Steps.{tokensAt}
+use Rattle.reading.specs.Tokens.{tokensAt}
 use Rattle.levels.specs.Levels.{classOf, classTable}
 use Rattle.levels.proofs.Table.{class-at}
 use Rattle.machines.specs.Walks.{leveled}

@@ -8,7 +8,7 @@ use native.Mathlib.Omega.{arith}
 use lib.ListN.{length}
 use borrow.Author.Needs.{needs}
 use Rattle.reading.specs.Tokens.{Token}
-use Rattle.reading.proofs.Steps.{tokensAt}
+use Rattle.reading.specs.Tokens.{tokensAt}
 use Rattle.verdict.specs.Contents.{normalCharacters}
 use Rattle.emission.specs.Emission.{emittedLength}
 use Rattle.scanner.proofs.Lexing.{lexes-as}

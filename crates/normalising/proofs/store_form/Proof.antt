@@ -9,7 +9,7 @@ use lib.Seq.{sets}
 use borrow.Author.Needs.{needs}
 use Rattle.characters.specs.declared.Characters.{Characters}
 use Rattle.characters.specs.Characters.{adviceOf, bodyStart}
-use Rattle.reading.proofs.Steps.{tokensAt}
+use Rattle.reading.specs.Tokens.{tokensAt}
 use Rattle.verdict.specs.Contents.{normalCharacters}
 use Rattle.emission.specs.Emission.{emitted}
 use Rattle.answers.specs.declared.Interchange.{Interchange}

@@ -7,7 +7,7 @@ use lib.ListN.{length}
 use borrow.Author.Needs.{needs}
 use borrow.Author.Tests.{not-true, not-false}
 use Rattle.refusals.specs.Refusals.{outcome}
-use Rattle.reading.proofs.Steps.{tokensAt}
+use Rattle.reading.specs.Tokens.{tokensAt}
 use Rattle.machines.specs.Walks.{worded}
 use Rattle.wording.proofs.Stage.{scans-as, worded-end, worded-stray, worded-unended, worded-broken, worded-next}
 use Rattle.wording.proofs.wording.Statement.{statement}
