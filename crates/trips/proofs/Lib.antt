@@ -1,4 +1,6 @@
 pub mod Values
 pub mod Written
 pub mod Numbers
+pub mod Positions
+pub mod Places
 pub mod Theorems

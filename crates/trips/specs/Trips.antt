@@ -49,6 +49,6 @@ pub record ReadBack (s buffer numbers service : List ℕ) (text : List ℕ) : Ty
   -- and Compare says "same" where the decimal mark is that of s.
   pub same : sixBytes service .mark ≡ charactersOf s .mark → compare s text ≡ given (1 ∷ [])
 
--- the value that a list of segments has at a position
-unfoldable pub wordAt : SegmentList → ℕ → ℕ → ℕ → Option Bytes
-wordAt list segment element component = maybe none (λ elements. valueAt elements element component) (at list segment)
+-- what stands at a position, by segment, element and component
+unfoldable pub standingAt : {A : Type 0} → List (List (List A)) → ℕ → ℕ → ℕ → Option A
+standingAt list segment element component = maybe none (λ elements. valueAt elements element component) (at list segment)
