@@ -2,28 +2,36 @@
 use Prim.Native.Nat.{ℕ, _≤_}
 use mathlib.Core.Path.{_≡_, refl, sym, ap, ap₂, _∙_}
 use mathlib.Core.Bool.{Bool, true, false, true≢false}
-use mathlib.Core.List.{List, [], _∷_}
-use mathlib.Core.Option.{Option, none, some}
-use lib.ListN.{length}
+use mathlib.Core.List.{List, [], _∷_, map, map-map}
+use mathlib.Core.Option.{Option, none, some, Option·map, map-eq-none-iff}
+use mathlib.Core.Logic.{_↔_}
+use lib.ListN.{length, take, drop}
 use Rattle.lists.specs.Lists.{if_then_else_, maybe}
 use Rattle.characters.specs.declared.Characters.{Characters}
-use Rattle.characters.specs.Characters.{usable, sixBytes, released, charactersOf}
+use Rattle.characters.specs.Characters.{usable, sixBytes, released, charactersOf, bodyStart, body}
 use Rattle.refusals.specs.declared.Refusal.{Refusal}
-use Rattle.verdict.specs.Contents.{contents, interchange}
+use Rattle.reading.specs.Values.{Value}
+use Rattle.reading.specs.Trimming.{trimmed, contentsOf}
+use Rattle.reading.specs.Spelling.{SegmentList, spellValue}
+use Rattle.verdict.specs.Contents.{bodyTokens, segmentsOf, contents, interchange}
 use Rattle.verdict.specs.Stages.{refusalOf}
-use Rattle.reading.specs.Spelling.{SegmentList}
 use Rattle.answers.specs.Answers.{given, refused, refusedInput, accepted}
 use Rattle.operations.specs.Judge.{interchangeOf, judge}
 use Rattle.operations.specs.Compare.{areSame, compare}
 use Rattle.operations.specs.Read.{valueBytes, valueTable, readRefusal, read}
 use Rattle.operations.specs.ValueList.{listOf, listBytes, listTable, listedIn, segmentsListed, trimList}
+use Rattle.operations.specs.Locate.{located, partOffset, partLength, part}
 use Rattle.operations.specs.Write.{badList, unusableBytes, needsRelease, writtenText, writeRefusal, write}
 use Rattle.spelling.specs.Bodies.{Releasable}
 use Rattle.trimming.proofs.Nesting.{listOf-listed}
+use Rattle.spelling.proofs.Parsing.{passes-spells}
+use Rattle.forms.proofs.Normal.{accepted-usable, accepted-passes}
 use Rattle.forms.proofs.Theorems.{same-exactly}
-use Rattle.trips.specs.Trips.{listGiven, WrittenBack, ReadBack}
+use Rattle.trips.specs.Trips.{listGiven, standingAt, WrittenBack, ReadBack}
 use Rattle.trips.proofs.Values.{kinds-sound}
 use Rattle.trips.proofs.Written.{Passed, write-passed, text-accepted, text-contents, text-characters, text-stored, list-read, list-sound, list-releasable, six-usable, read-accepted, read-passes, bytes-stand, table-stands}
+use Rattle.trips.proofs.Positions.{standing-map, every-standing}
+use Rattle.trips.proofs.Places.{Names, names-body}
 use Rattle.trips.proofs.Numbers.{unrefused}
 
 -- Judge says of an accepted input what is to be said of it.
@@ -131,3 +139,56 @@ read-back s buffer numbers service output n m =
           let equal : areSame s text ≡ true = same-exactly s text .1 (h, k, sym back, sym (ap (λ (c : Characters). c .mark) c ∙ mark)) in
           rw (h, k, equal) refl;
     }
+
+-- ---- Locate, and what Read gives
+
+module _ (s : List ℕ) (segment element component : ℕ) where
+  abbrev found : Option Value
+  found = located s segment element component
+
+  -- What Locate finds at a position is what stands there in the contents, of any input:
+  pub located-contents : standingAt (contents s) segment element component ≡ Option·map (λ v. v .bytes) found
+  unfolding contents contentsOf located standingAt
+  located-contents =
+      ap (λ (list : SegmentList). standingAt list segment element component)
+      (sym (map-map (map (map (λ v. v .bytes))) trimmed (segmentsOf s)))
+      ∙ standing-map (λ v. v .bytes) (map trimmed (segmentsOf s)) segment element component
+
+  -- the same bytes,
+  pub located-value : (v : Value) → found ≡ some v → standingAt (contents s) segment element component ≡ some (v .bytes)
+  located-value v e = located-contents ∙ ap (Option·map (λ v. v .bytes)) e
+
+  -- and nothing exactly where the contents have no such position.
+  pub located-none : (found ≡ none) ↔ (standingAt (contents s) segment element component ≡ none)
+  located-none =
+      let nothing = map-eq-none-iff (λ (v : Value). v .bytes) found in
+      (λ e. located-contents ∙ nothing .1 e, λ e. nothing .0 (sym located-contents ∙ e))
+
+  module _ (h : refusalOf s ≡ none) where
+    -- In an accepted input, the part that is named by offset and length is the value's spelling: each service character in it is
+    -- released, and nothing else.
+    pub located-spelled : (v : Value) → found ≡ some v → take (v .spelled) (drop (v .offset) s) ≡ spellValue (charactersOf s) (v .bytes)
+    unfolding located standingAt segmentsOf bodyTokens body Names
+    located-spelled v e =
+        let c : Characters = charactersOf s in
+        let read = passes-spells c (bodyStart s) (body s) (accepted-passes s h) in
+        every-standing (Names c s) (map trimmed (segmentsOf s))
+        (names-body c (accepted-usable s h) s (read .0) (read .1) (bodyStart s) refl)
+        segment
+        element
+        component
+        v
+        e
+
+    -- So Locate's companion hands back the spelling of what Read gives there, and zero bytes where there is nothing.
+    pub part-spelled : part s segment element component
+        ≡ maybe [] (spellValue (charactersOf s)) (standingAt (contents s) segment element component)
+    unfolding part partLength partOffset maybe
+    part-spelled =
+        rw (h, located-contents) (step found refl)
+      where
+        step : (o : Option Value) → found ≡ o
+            → take (maybe 0 (λ v. v .spelled) o) (drop (maybe 0 (λ v. v .offset) o) s)
+            ≡ maybe [] (spellValue (charactersOf s)) (Option·map (λ v. v .bytes) o)
+        step none e = refl
+        step (some v) e = located-spelled v e
