@@ -3,4 +3,5 @@ pub mod Written
 pub mod Numbers
 pub mod Positions
 pub mod Places
+pub mod Respelled
 pub mod Theorems
