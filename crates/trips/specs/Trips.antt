@@ -1,11 +1,12 @@
 -- Paper 01, "Operations": what comes back of what was written, read or located. Assumes nothing.
 use Prim.Native.Nat.{ℕ, _≤_}
 use mathlib.Core.Path.{_≡_}
+use mathlib.Core.Bool.{true}
 use mathlib.Core.List.{List, [], _∷_}
 use mathlib.Core.Option.{Option, none}
 use lib.ListN.{length, take}
 use Rattle.lists.specs.Lists.{at, maybe}
-use Rattle.characters.specs.Characters.{sixBytes, charactersOf}
+use Rattle.characters.specs.Characters.{usable, sixBytes, charactersOf}
 use Rattle.reading.specs.Trimming.{valueAt}
 use Rattle.reading.specs.Spelling.{Bytes, SegmentList}
 use Rattle.verdict.specs.Contents.{contents, interchange}
@@ -15,6 +16,7 @@ use Rattle.operations.specs.Compare.{compare}
 use Rattle.operations.specs.Read.{valueBytes, valueTable, read, readBytes, readTable}
 use Rattle.operations.specs.ValueList.{listOf, listBytes, listTable, listedIn, segmentsListed, trimList}
 use Rattle.operations.specs.Write.{writeOutput}
+use Rattle.spelling.specs.Bodies.{Releasable}
 
 -- the list of segments that a value list stands for, with its empty ends trimmed
 unfoldable pub listGiven : Bytes → List ℕ → SegmentList
@@ -35,6 +37,15 @@ pub record WrittenBack (service bytes table output : List ℕ) (text : List ℕ)
   pub table-back : valueTable text ≡ listTable (listOf (listGiven bytes table))
   pub reads : (buffer numbers : List ℕ) → length (valueBytes text) ≤ length buffer → length (valueTable text) ≤ length numbers
       → read buffer numbers text ≡ given (length (valueBytes text) ∷ length (valueTable text) ∷ [])
+
+-- What lets Write take what Read gave for s: six usable bytes that can spell the contents, a text of 32,000 bytes at most, and
+-- room for it.
+pub record Rewritable (s service output : List ℕ) : Type 0 where
+  pub six : length service ≡ 6
+  pub usable-bytes : usable (sixBytes service) ≡ true
+  pub releasable : Releasable (sixBytes service) (contents s)
+  pub short : length (interchange (sixBytes service) (contents s)) ≤ 32000
+  pub fits : length (interchange (sixBytes service) (contents s)) ≤ length output
 
 -- What a Write of what Read gave for s leaves, where neither is refused.
 pub record ReadBack (s buffer numbers service : List ℕ) (text : List ℕ) : Type 0 where
