@@ -1,26 +1,24 @@
 -- Where values are spelled: the tokens of a body that passes stand one behind the other in the input, each where its spelling begins,
 -- so that a value's spelling lies between its first token and the separator that ends it. Assumes nothing.
 use Prim.Native.Nat.{ℕ, _+_, _-_}
-use mathlib.Core.Path.{_≡_, refl, sym, ap, ap₂, subst, _∙_}
+use mathlib.Core.Path.{_≡_, refl, sym, ap, subst, _∙_}
 use mathlib.Core.Bool.{Bool, true, false, not, true≢false, false≢true}
 use mathlib.Core.List.{List, [], _∷_, _++_, map, append-assoc}
-use mathlib.Core.Option.{Option, none, some}
+use mathlib.Core.Option.{none}
 use native.Mathlib.Omega.{arith}
 use lib.ListN.{length, take, drop, length-append}
 use lib.Seq.{drop-drop, take-at, drop-append-seam}
 use lib.Dec.{leb}
 use borrow.Author.Tests.{leb-true, le-leb}
 use Rattle.lists.specs.Lists.{if_then_else_, isEmpty, lastOr, onto, cut, gather}
-use Rattle.lists.proofs.Texts.{if-true, if-false, decided}
 use Rattle.characters.specs.declared.Characters.{Characters}
 use Rattle.characters.specs.declared.Role.{Role}
 use Rattle.characters.specs.declared.Role.the-variants.{Separator, Release, Plain}
-use Rattle.characters.specs.Characters.{usable, released, isService, role, charactersOf, bodyStart, body}
-use Rattle.reading.specs.Tokens.{Token, byte, separator, fault, unreleased, releasing, taken, tokensFrom, tokens, ends, placeOf, Segment, segments, start}
+use Rattle.characters.specs.Characters.{usable, released, isService, role}
+use Rattle.reading.specs.Tokens.{Token, byte, separator, unreleased, releasing, taken, tokensFrom, tokens, ends, placeOf, segments, start}
 use Rattle.reading.specs.Values.{Value, byteOf, bytesOf, endPlace, valueOf, valuesOf, elementsOf}
 use Rattle.reading.specs.Trimming.{trimmed}
 use Rattle.reading.specs.Spelling.{Bytes, SegmentList, spellByte, spellValue}
-use Rattle.verdict.specs.Contents.{bodyTokens, segmentsOf}
 use Rattle.spelling.proofs.Service.{serves, service-serves, role-terminator, role-element, role-component, role-release}
 use Rattle.spelling.proofs.Grammar.{Spellable, Spells, nothing, segmentEnd, elementEnd, componentEnd, valueByte}
 use Rattle.trips.proofs.Positions.{Every, every-none, every-cons, every-map, every-trimmed}
@@ -133,9 +131,9 @@ module _ (c : Characters) (s : List ℕ) where
   names-values {p} {element} row =
       every-map Names valueOf (cut (ends 2) element)
       (λ n piece e.
-          let v = every-piece 1 2 ValueAt (λ k h. le-leb k 2 (omega (arith, leb-true k 1 h))) (λ p k h. value-alone p k)
-              (λ p k ts h e r. absurd (true≢false (sym h ∙ e))) value-further row n piece e in
-          value-names (v .0) piece (v .1))
+      let v = every-piece 1 2 ValueAt (λ k h. le-leb k 2 (omega (arith, leb-true k 1 h))) (λ p k h. value-alone p k)
+      (λ p k ts h e r. absurd (true≢false (sym h ∙ e))) value-further row n piece e in
+      value-names (v .0) piece (v .1))
 
   names-elements : {p : ℕ} {segment : List Token} → Row 0 p segment → Every (Every Names) (elementsOf segment)
   unfolding elementsOf
@@ -148,7 +146,7 @@ module _ (c : Characters) (s : List ℕ) where
   names-segments {p} {ts} row =
       every-map (Every (Every Names)) trimmed (cut (ends 0) ts)
       (λ n g e.
-          every-trimmed Names (λ v. isEmpty (v .bytes)) (elementsOf g) (names-elements (row-pieces 0 0 (λ k h. h) row n g e .1)))
+      every-trimmed Names (λ v. isEmpty (v .bytes)) (elementsOf g) (names-elements (row-pieces 0 0 (λ k h. h) row n g e .1)))
 
 -- ---- the tokens of a body that passes are a row
 

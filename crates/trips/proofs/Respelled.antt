@@ -3,19 +3,18 @@
 use Prim.Native.Nat.{ℕ, _≤_}
 use mathlib.Core.Path.{_≡_, refl, sym, ap, ap₂, subst, _∙_}
 use mathlib.Core.Bool.{Bool, true, false, not, _&&_, _||_, false≢true, true≢false}
-use mathlib.Core.List.{List, [], _∷_, _++_, map, reverse, append-assoc, cons≢nil}
+use mathlib.Core.List.{List, [], _∷_, _++_, reverse, append-assoc, cons≢nil}
 use mathlib.Core.Option.{Option, none, some}
 use lib.ListN.{length}
 use lib.Dec.{eqb, ltb}
-use borrow.Author.Tests.{le-ltb, ltb-false, eqb-true, eq-eqb, ne-eqb, not-true}
+use borrow.Author.Tests.{le-ltb, eqb-true, eq-eqb, ne-eqb, not-true}
 use Rattle.lists.specs.Lists.{if_then_else_, text, begins, member, all, allDiffer, at, maybe, gather, joined, behind}
 use Rattle.lists.proofs.Texts.{and-left, and-right, and-both, if-false}
 use Rattle.characters.specs.declared.Characters.{Characters}
-use Rattle.characters.specs.Characters.{between, upper, lower, digit, space, separates, released, serviceCharacters, isService, usable, sixBytes, adviceOf, spelledOut, charactersOf, bodyStart, body, badAdvice, opens}
+use Rattle.characters.specs.Characters.{between, upper, lower, digit, space, separates, released, serviceCharacters, isService, usable, sixBytes, adviceOf, spelledOut, bodyStart, badAdvice, opens}
 use Rattle.reading.specs.Tokens.{Segment, start}
-use Rattle.reading.specs.Trimming.{contentsOf}
 use Rattle.reading.specs.Spelling.{Bytes, SegmentList, spellByte, spellValue, spellElement, spellSegment, spell}
-use Rattle.levels.specs.Levels.{levelOf, inLevel}
+use Rattle.levels.specs.Levels.{levelOf}
 use Rattle.segments.specs.declared.Kind.{Kind}
 use Rattle.segments.specs.Order.{isComplete}
 use Rattle.control.specs.Control.{referenceDiffers, countWrong}
@@ -28,7 +27,7 @@ use Rattle.spelling.proofs.Grammar.{Spells, nothing, segmentEnd, elementEnd, co
 use Rattle.grammar.specs.Grammar.{misplaced, badControl}
 use Rattle.forms.specs.Forms.{markOf, formCharacters, BodyPasses, listOf}
 use Rattle.forms.proofs.Tests.{place-none, place-none-not}
-use Rattle.forms.proofs.Trimmed.{contents-read, contents-trimmed, allBytes}
+use Rattle.forms.proofs.Trimmed.{contents-read, contents-trimmed}
 use Rattle.forms.proofs.Openings.{advice-characters, advice-body, advice-good, interchange-passes, interchange-read, interchange-contents}
 use Rattle.forms.proofs.Accepted.{Accepted, accepted-exactly, passes-accepted, order-accepted}
 use Rattle.forms.proofs.Normal.{contents-shaped, normal-releasable, normal-read, normal-passes}
@@ -104,8 +103,8 @@ module _ (mark : ℕ) (c : Characters) (u : usable c ≡ true) where
       let f = first-byte x b (w ++ 43 ∷ []) rest (apart x 63 (plain x w k) refl) h in
       let more : SegmentList = ((v ∷ e) ∷ s) ∷ list in
       let bare : spellByte c b ≡ b ∷ [] =
-          if-false (isService c b) (c .release ∷ b ∷ []) (b ∷ [])
-          (no-service c u b (ap separates (sym (f .1)) ∙ plain x w k)) in
+      if-false (isService c b) (c .release ∷ b ∷ []) (b ∷ [])
+      (no-service c u b (ap separates (sym (f .1)) ∙ plain x w k)) in
       subst (λ (bs : Bytes). begins (x ∷ (w ++ c .element ∷ [])) bs ≡ true)
       (sym (spell-byte b v e s list ∙ ap (λ (first : Bytes). first ++ spell c more) bare))
       (and-both (eqb x b) (begins (w ++ c .element ∷ []) (spell c more)) (eq-eqb x b (f .1))

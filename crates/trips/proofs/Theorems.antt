@@ -1,21 +1,20 @@
 -- The theorems of this crate. Assumes nothing.
 use Prim.Native.Nat.{ℕ, _≤_}
-use mathlib.Core.Path.{_≡_, refl, sym, ap, ap₂, _∙_}
-use mathlib.Core.Bool.{Bool, true, false, true≢false}
+use mathlib.Core.Path.{_≡_, refl, sym, ap, _∙_}
+use mathlib.Core.Bool.{true, true≢false}
 use mathlib.Core.List.{List, [], _∷_, map, map-map}
 use mathlib.Core.Option.{Option, none, some, Option·map, map-eq-none-iff}
 use mathlib.Core.Logic.{_↔_}
 use lib.ListN.{length, take, drop}
-use Rattle.lists.specs.Lists.{if_then_else_, maybe}
+use Rattle.lists.specs.Lists.{maybe}
 use Rattle.characters.specs.declared.Characters.{Characters}
-use Rattle.characters.specs.Characters.{usable, sixBytes, released, charactersOf, bodyStart, body}
-use Rattle.refusals.specs.declared.Refusal.{Refusal}
+use Rattle.characters.specs.Characters.{sixBytes, released, charactersOf, bodyStart, body}
 use Rattle.reading.specs.Values.{Value}
 use Rattle.reading.specs.Trimming.{trimmed, contentsOf}
 use Rattle.reading.specs.Spelling.{SegmentList, spellValue}
 use Rattle.verdict.specs.Contents.{bodyTokens, segmentsOf, contents, interchange}
 use Rattle.verdict.specs.Stages.{refusalOf}
-use Rattle.answers.specs.Answers.{given, refused, refusedInput, accepted}
+use Rattle.answers.specs.Answers.{given, refused, accepted}
 use Rattle.operations.specs.Judge.{interchangeOf, judge}
 use Rattle.operations.specs.Compare.{areSame, compare}
 use Rattle.operations.specs.Read.{valueBytes, valueTable, readRefusal, read}
@@ -29,7 +28,7 @@ use Rattle.forms.proofs.Normal.{accepted-usable, accepted-passes}
 use Rattle.forms.proofs.Theorems.{same-exactly}
 use Rattle.trips.specs.Trips.{listGiven, standingAt, WrittenBack, Rewritable, ReadBack}
 use Rattle.trips.proofs.Values.{kinds-sound}
-use Rattle.trips.proofs.Written.{Passed, write-passed, text-accepted, text-contents, text-characters, text-stored, list-read, list-sound, list-releasable, list-text, six-usable, short-enough, later-none, read-accepted, read-passes, bytes-stand, table-stands}
+use Rattle.trips.proofs.Written.{write-passed, text-accepted, text-contents, text-characters, text-stored, list-read, list-sound, list-releasable, list-text, six-usable, short-enough, later-none, read-accepted, read-passes, bytes-stand, table-stands}
 use Rattle.trips.proofs.Positions.{standing-map, every-standing}
 use Rattle.trips.proofs.Places.{Names, names-body}
 use Rattle.trips.proofs.Respelled.{respelled-accepted}
@@ -118,7 +117,7 @@ module _ (s service : List ℕ) (h : refusalOf s ≡ none) where
         λ k.
             let text-short : length rewritten ≤ 32000 = rw rewritten-text (k .short) in
             let read : refusalOf rewritten ≡ none =
-                ap refusalOf rewritten-text ∙ respelled-accepted s h c (k .usable-bytes) (k .releasable) (k .short) in
+            ap refusalOf rewritten-text ∙ respelled-accepted s h c (k .usable-bytes) (k .releasable) (k .short) in
             passed .1 (record {
               list = list-sound s h;
               characters = six-usable service .1 (k .six, k .usable-bytes);

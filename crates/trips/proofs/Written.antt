@@ -1,8 +1,8 @@
 -- What a Write that is not refused has passed, and what of it holds for the value list of an accepted input. Assumes nothing.
 use Prim.Native.Nat.{ℕ, _≤_}
 use mathlib.Core.Path.{_≡_, refl, sym, ap, ap₂, subst, _∙_}
-use mathlib.Core.Bool.{Bool, true, false, not, _&&_}
-use mathlib.Core.List.{List, [], _∷_, _++_}
+use mathlib.Core.Bool.{Bool, true, _&&_}
+use mathlib.Core.List.{List, [], _∷_}
 use mathlib.Core.Option.{Option, none, some, Option·some-ne-none}
 use mathlib.Core.Logic.{_↔_}
 use native.Mathlib.Omega.{arith}
@@ -10,11 +10,9 @@ use lib.ListN.{length, take, drop, length-append}
 use lib.Seq.{take-append-seam}
 use lib.Dec.{eqb, ltb}
 use borrow.Author.Tests.{ltb-false, le-ltb, eqb-true, eq-eqb}
-use Rattle.lists.specs.Lists.{text, maybe}
 use Rattle.lists.proofs.Texts.{and-left, and-right, and-both}
 use Rattle.characters.specs.declared.Characters.{Characters}
 use Rattle.characters.specs.Characters.{usable, sixBytes, released, charactersOf, adviceOf, badAdvice}
-use Rattle.refusals.specs.declared.Fault.{Fault}
 use Rattle.refusals.specs.declared.Fault.the-variants.{TooLong, UnusableAdvice, BadList, NeedsRelease, BufferShort}
 use Rattle.refusals.specs.declared.Refusal.{Refusal}
 use Rattle.refusals.specs.Refusals.{Stage, met, placeIf, lowest, orElse, answering}
@@ -38,7 +36,7 @@ use Rattle.forms.specs.Forms.{markOf}
 use Rattle.forms.proofs.Tests.{place-none, place-none-not}
 use Rattle.forms.proofs.Trimmed.{contents-trimmed, trim-releasable}
 use Rattle.forms.proofs.Openings.{advice-characters, advice-good, interchange-contents}
-use Rattle.forms.proofs.Accepted.{Accepted, accepted-exactly}
+use Rattle.forms.proofs.Accepted.{accepted-exactly}
 use Rattle.forms.proofs.Normal.{contents-shaped, normal-releasable}
 use Rattle.trips.specs.Trips.{listGiven}
 use Rattle.trips.proofs.Values.{kinds-sound, release-exactly, values-bound}
@@ -235,7 +233,7 @@ module _ (s : List ℕ) (accepted : refusalOf s ≡ none) where
       let shaped : Shaped (contents s) = contents-shaped s accepted in
       subst
       (λ (list : SegmentList).
-          (needsRelease service (listBytes items) (listTable items) ≡ []) ↔ Releasable (sixBytes service) list)
+      (needsRelease service (listBytes items) (listTable items) ≡ []) ↔ Releasable (sixBytes service) list)
       (segments-table (contents s) shaped)
       (release-exactly service (listBytes items) (listTable items) (rw (listed-table items) (kinds-listOf (contents s) shaped)))
 
