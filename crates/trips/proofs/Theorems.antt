@@ -26,11 +26,11 @@ use Rattle.trimming.proofs.Nesting.{listOf-listed}
 use Rattle.spelling.proofs.Parsing.{passes-spells}
 use Rattle.forms.proofs.Normal.{accepted-usable, accepted-passes}
 use Rattle.forms.proofs.Theorems.{same-exactly}
-use Rattle.trips.specs.Trips.{listGiven, standingAt, WrittenBack, Rewritable, ReadBack}
+use Rattle.trips.specs.Trips.{listGiven, standingAt, WrittenBack, Rewritable, ReadBack, Named}
 use Rattle.trips.proofs.Values.{kinds-sound}
 use Rattle.trips.proofs.Written.{write-passed, text-accepted, text-contents, text-characters, text-stored, list-read, list-sound, list-releasable, list-text, six-usable, short-enough, later-none, read-accepted, read-passes, bytes-stand, table-stands}
 use Rattle.trips.proofs.Positions.{standing-map, every-standing}
-use Rattle.trips.proofs.Places.{Names, names-body}
+use Rattle.trips.proofs.Places.{named-body}
 use Rattle.trips.proofs.Respelled.{respelled-accepted}
 use Rattle.trips.proofs.Numbers.{unrefused}
 
@@ -184,15 +184,15 @@ module _ (s : List ℕ) (segment element component : ℕ) where
       (λ e. located-contents ∙ nothing .1 e, λ e. nothing .0 (sym located-contents ∙ e))
 
   module _ (h : refusalOf s ≡ none) where
-    -- In an accepted input, the part that is named by offset and length is the value's spelling: each service character in it is
-    -- released, and nothing else.
-    pub located-spelled : (v : Value) → found ≡ some v → take (v .spelled) (drop (v .offset) s) ≡ spellValue (charactersOf s) (v .bytes)
-    unfolding located standingAt segmentsOf bodyTokens body Names
-    located-spelled v e =
+    -- In an accepted input, the part that Locate names is the value's spelling, and read alone it is the value.
+    pub located-named : (v : Value) → found ≡ some v → Named (charactersOf s) s v
+    unfolding located standingAt segmentsOf bodyTokens body
+    located-named v e =
         let c : Characters = charactersOf s in
+        let u = accepted-usable s h in
         let read = passes-spells c (bodyStart s) (body s) (accepted-passes s h) in
-        every-standing (Names c s) (map trimmed (segmentsOf s))
-        (names-body c (accepted-usable s h) s (read .0) (read .1) (bodyStart s) refl)
+        every-standing (Named c s) (map trimmed (segmentsOf s))
+        (named-body c u s (read .0) (read .1) (bodyStart s) refl)
         segment
         element
         component
@@ -210,4 +210,4 @@ module _ (s : List ℕ) (segment element component : ℕ) where
             → take (maybe 0 (λ v. v .spelled) o) (drop (maybe 0 (λ v. v .offset) o) s)
             ≡ maybe [] (spellValue (charactersOf s)) (Option·map (λ v. v .bytes) o)
         step none e = refl
-        step (some v) e = located-spelled v e
+        step (some v) e = located-named v e .spelling

@@ -4,11 +4,14 @@ use mathlib.Core.Path.{_≡_}
 use mathlib.Core.Bool.{true}
 use mathlib.Core.List.{List, [], _∷_}
 use mathlib.Core.Option.{Option, none}
-use lib.ListN.{length, take}
+use lib.ListN.{length, take, drop}
 use Rattle.lists.specs.Lists.{at, maybe}
+use Rattle.characters.specs.declared.Characters.{Characters}
 use Rattle.characters.specs.Characters.{usable, sixBytes, charactersOf}
+use Rattle.reading.specs.Tokens.{tokens}
+use Rattle.reading.specs.Values.{Value, bytesOf}
 use Rattle.reading.specs.Trimming.{valueAt}
-use Rattle.reading.specs.Spelling.{Bytes, SegmentList}
+use Rattle.reading.specs.Spelling.{Bytes, SegmentList, spellValue}
 use Rattle.verdict.specs.Contents.{contents, interchange}
 use Rattle.answers.specs.Answers.{given, accepted}
 use Rattle.operations.specs.Judge.{interchangeOf, judge}
@@ -63,3 +66,8 @@ pub record ReadBack (s buffer numbers service : List ℕ) (text : List ℕ) : Ty
 -- what stands at a position, by segment, element and component
 unfoldable pub standingAt : {A : Type 0} → List (List (List A)) → ℕ → ℕ → ℕ → Option A
 standingAt list segment element component = maybe none (λ elements. valueAt elements element component) (at list segment)
+
+-- The part of the input that a value names is the value's spelling; and that part alone, its release characters taken off, is the value.
+pub record Named (c : Characters) (s : List ℕ) (v : Value) : Type 0 where
+  pub spelling : take (v .spelled) (drop (v .offset) s) ≡ spellValue c (v .bytes)
+  pub alone : bytesOf (tokens c (v .offset) (take (v .spelled) (drop (v .offset) s))) ≡ v .bytes
