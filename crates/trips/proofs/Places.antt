@@ -16,7 +16,7 @@ use Rattle.characters.specs.declared.Role.{Role}
 use Rattle.characters.specs.declared.Role.the-variants.{Separator, Release, Plain}
 use Rattle.characters.specs.Characters.{usable, released, isService, role}
 use Rattle.reading.specs.Tokens.{Token, byte, separator, unreleased, releasing, taken, tokensFrom, tokens, ends, placeOf, segments, start}
-use Rattle.reading.specs.Values.{Value, byteOf, bytesOf, endPlace, valueOf, valuesOf, elementsOf}
+use Rattle.reading.specs.Values.{byteOf, bytesOf, endPlace, valueOf, valuesOf, elementsOf}
 use Rattle.reading.specs.Trimming.{trimmed}
 use Rattle.reading.specs.Spelling.{Bytes, SegmentList, spellByte, spellValue}
 use Rattle.spelling.proofs.Service.{serves, service-serves, role-terminator, role-element, role-component, role-release}

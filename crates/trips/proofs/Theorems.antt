@@ -116,15 +116,15 @@ module _ (s service : List ℕ) (h : refusalOf s ≡ none) where
             },
         λ k.
             let text-short : length rewritten ≤ 32000 = rw rewritten-text (k .short) in
-            let read : refusalOf rewritten ≡ none =
-            ap refusalOf rewritten-text ∙ respelled-accepted s h c (k .usable-bytes) (k .releasable) (k .short) in
+            let respelled = respelled-accepted s h c (k .usable-bytes) (k .releasable) (k .short) in
+            let passes : refusalOf rewritten ≡ none = ap refusalOf rewritten-text ∙ respelled in
             passed .1 (record {
               list = list-sound s h;
               characters = six-usable service .1 (k .six, k .usable-bytes);
               releases = list-releasable s h service .1 (k .releasable);
               short = short-enough rewritten .1 text-short;
               fits = rw rewritten-text (k .fits);
-              later = later-none rewritten read;
+              later = later-none rewritten passes;
             }),
       )
 
@@ -203,8 +203,7 @@ module _ (s : List ℕ) (segment element component : ℕ) where
     pub part-spelled : part s segment element component
         ≡ maybe [] (spellValue (charactersOf s)) (standingAt (contents s) segment element component)
     unfolding part partLength partOffset maybe
-    part-spelled =
-        rw (h, located-contents) (step found refl)
+    part-spelled = rw (h, located-contents) (step found refl)
       where
         step : (o : Option Value) → found ≡ o
             → take (maybe 0 (λ v. v .spelled) o) (drop (maybe 0 (λ v. v .offset) o) s)
