@@ -1,4 +1,7 @@
 pub mod Values
 pub mod Written
 pub mod Numbers
+pub mod Positions
+pub mod Places
+pub mod Respelled
 pub mod Theorems

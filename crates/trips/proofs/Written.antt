@@ -1,19 +1,18 @@
 -- What a Write that is not refused has passed, and what of it holds for the value list of an accepted input. Assumes nothing.
 use Prim.Native.Nat.{ℕ, _≤_}
-use mathlib.Core.Path.{_≡_, refl, sym, ap, ap₂, _∙_}
-use mathlib.Core.Bool.{Bool, true, false, not, _&&_}
-use mathlib.Core.List.{List, [], _∷_, _++_}
+use mathlib.Core.Path.{_≡_, refl, sym, ap, ap₂, subst, _∙_}
+use mathlib.Core.Bool.{Bool, true, _&&_}
+use mathlib.Core.List.{List, [], _∷_}
 use mathlib.Core.Option.{Option, none, some, Option·some-ne-none}
+use mathlib.Core.Logic.{_↔_}
 use native.Mathlib.Omega.{arith}
 use lib.ListN.{length, take, drop, length-append}
 use lib.Seq.{take-append-seam}
 use lib.Dec.{eqb, ltb}
-use borrow.Author.Tests.{ltb-false, le-ltb, eq-eqb}
-use Rattle.lists.specs.Lists.{text, maybe}
+use borrow.Author.Tests.{ltb-false, le-ltb, eqb-true, eq-eqb}
 use Rattle.lists.proofs.Texts.{and-left, and-right, and-both}
 use Rattle.characters.specs.declared.Characters.{Characters}
 use Rattle.characters.specs.Characters.{usable, sixBytes, released, charactersOf, adviceOf, badAdvice}
-use Rattle.refusals.specs.declared.Fault.{Fault}
 use Rattle.refusals.specs.declared.Fault.the-variants.{TooLong, UnusableAdvice, BadList, NeedsRelease, BufferShort}
 use Rattle.refusals.specs.declared.Refusal.{Refusal}
 use Rattle.refusals.specs.Refusals.{Stage, met, placeIf, lowest, orElse, answering}
@@ -37,7 +36,7 @@ use Rattle.forms.specs.Forms.{markOf}
 use Rattle.forms.proofs.Tests.{place-none, place-none-not}
 use Rattle.forms.proofs.Trimmed.{contents-trimmed, trim-releasable}
 use Rattle.forms.proofs.Openings.{advice-characters, advice-good, interchange-contents}
-use Rattle.forms.proofs.Accepted.{Accepted, accepted-exactly}
+use Rattle.forms.proofs.Accepted.{accepted-exactly}
 use Rattle.forms.proofs.Normal.{contents-shaped, normal-releasable}
 use Rattle.trips.specs.Trips.{listGiven}
 use Rattle.trips.proofs.Values.{kinds-sound, release-exactly, values-bound}
@@ -62,18 +61,41 @@ pub none-first : (stage : Stage) (rest : List Stage) → stage ≡ [] → answer
 unfolding answering orElse
 none-first stage rest e h = ap₂ orElse (lowest-none stage .1 e) h
 
--- the buffer holds the new exactly where 14 is not met
-pub room : (new buffer : List ℕ) → shortFor new buffer ≡ [] → length new ≤ length buffer
-unfolding shortFor
-room new buffer h =
-    let short : Bool = ltb (length buffer) (length new) in
-    ltb-false (length buffer) (length new) (place-none short (length new) .0 (met-none BufferShort (placeIf short (length new)) .0 h))
+-- the later stages refuse nothing in an accepted input
+pub later-none : (s : List ℕ) → refusalOf s ≡ none → answering (laterStages s) ≡ none
+unfolding refusalOf stages
+later-none s h =
+    let second : List Stage = met UnusableAdvice (unusableAdvice s) ∷ laterStages s in
+    first-none (met UnusableAdvice (unusableAdvice s)) (laterStages s) (first-none (met TooLong (tooLong s)) second h .1) .1
 
-pub room-enough : (new buffer : List ℕ) → length new ≤ length buffer → shortFor new buffer ≡ []
+-- 14 is not met exactly where the buffer holds the new
+pub room : (new buffer : List ℕ) → (shortFor new buffer ≡ []) ↔ (length new ≤ length buffer)
 unfolding shortFor
-room-enough new buffer h =
+room new buffer =
     let short : Bool = ltb (length buffer) (length new) in
-    met-none BufferShort (placeIf short (length new)) .1 (place-none short (length new) .1 (le-ltb (length buffer) (length new) h))
+    let none = met-none BufferShort (placeIf short (length new)) in
+    let test = place-none short (length new) in (
+      λ h. ltb-false (length buffer) (length new) (test .0 (none .0 h)),
+      λ h. none .1 (test .1 (le-ltb (length buffer) (length new) h)),
+    )
+
+-- 2 is not met exactly by six usable bytes
+pub six-usable : (service : List ℕ) → (unusableBytes service ≡ []) ↔ ((length service ≡ 6) × (usable (sixBytes service) ≡ true))
+unfolding unusableBytes
+six-usable service =
+    let six : Bool = eqb (length service) 6 in
+    let good : Bool = usable (sixBytes service) in
+    let test = place-none-not (six && good) 0 in (
+      λ h. (eqb-true (length service) 6 (and-left six good (test .0 h)), and-right six good (test .0 h)),
+      λ h. test .1 (and-both six good (eq-eqb (length service) 6 (h .0)) (h .1)),
+    )
+
+-- 1 is not met exactly by 32,000 bytes or fewer
+pub short-enough : (s : List ℕ) → (tooLong s ≡ []) ↔ (length s ≤ 32000)
+unfolding tooLong isOver
+short-enough s =
+    let test = place-none (ltb 32000 (length s)) 0 in
+    (λ h. ltb-false 32000 (length s) (test .0 h), λ h. test .1 (le-ltb 32000 (length s) h))
 
 -- ---- Write
 
@@ -90,34 +112,56 @@ module _ (service bytes table output : List ℕ) where
     pub fits : length t ≤ length output
     pub later : answering (laterStages t) ≡ none
 
-  pub write-passed : writeRefusal service bytes table output ≡ none → Passed
+  pub write-passed : (writeRefusal service bytes table output ≡ none) ↔ Passed
   unfolding writeRefusal
-  write-passed h =
-      let fourteenth : List Stage = shortFor t output ∷ laterStages t in
-      let first : List Stage = met TooLong (tooLong t) ∷ fourteenth in
-      let sixteenth : List Stage = met NeedsRelease (needsRelease service bytes table) ∷ first in
-      let second : List Stage = met UnusableAdvice (unusableBytes service) ∷ sixteenth in
-      let a = first-none (met BadList (badList bytes table)) second h in
-      let b = first-none (met UnusableAdvice (unusableBytes service)) sixteenth (a .1) in
-      let d = first-none (met NeedsRelease (needsRelease service bytes table)) first (b .1) in
-      let e = first-none (met TooLong (tooLong t)) fourteenth (d .1) in
-      let f = first-none (shortFor t output) (laterStages t) (e .1) in
-      record {
-        list = met-none BadList (badList bytes table) .0 (a .0);
-        characters = met-none UnusableAdvice (unusableBytes service) .0 (b .0);
-        releases = met-none NeedsRelease (needsRelease service bytes table) .0 (d .0);
-        short = met-none TooLong (tooLong t) .0 (e .0);
-        fits = room t output (f .0);
-        later = f .1;
-      }
+  write-passed = (there, back)
+    where
+      listed : Stage
+      listed = met BadList (badList bytes table)
+
+      usably : Stage
+      usably = met UnusableAdvice (unusableBytes service)
+
+      released : Stage
+      released = met NeedsRelease (needsRelease service bytes table)
+
+      shortly : Stage
+      shortly = met TooLong (tooLong t)
+
+      fitting : Stage
+      fitting = shortFor t output
+
+      there : writeRefusal service bytes table output ≡ none → Passed
+      there h =
+          let a = first-none listed (usably ∷ released ∷ shortly ∷ fitting ∷ laterStages t) h in
+          let b = first-none usably (released ∷ shortly ∷ fitting ∷ laterStages t) (a .1) in
+          let d = first-none released (shortly ∷ fitting ∷ laterStages t) (b .1) in
+          let e = first-none shortly (fitting ∷ laterStages t) (d .1) in
+          let f = first-none fitting (laterStages t) (e .1) in
+          record {
+            list = met-none BadList (badList bytes table) .0 (a .0);
+            characters = met-none UnusableAdvice (unusableBytes service) .0 (b .0);
+            releases = met-none NeedsRelease (needsRelease service bytes table) .0 (d .0);
+            short = met-none TooLong (tooLong t) .0 (e .0);
+            fits = room t output .0 (f .0);
+            later = f .1;
+          }
+
+      back : Passed → writeRefusal service bytes table output ≡ none
+      back p =
+          none-first listed (usably ∷ released ∷ shortly ∷ fitting ∷ laterStages t)
+          (met-none BadList (badList bytes table) .1 (p .list))
+          (none-first usably (released ∷ shortly ∷ fitting ∷ laterStages t)
+          (met-none UnusableAdvice (unusableBytes service) .1 (p .characters))
+          (none-first released (shortly ∷ fitting ∷ laterStages t)
+          (met-none NeedsRelease (needsRelease service bytes table) .1 (p .releases))
+          (none-first shortly (fitting ∷ laterStages t)
+          (met-none TooLong (tooLong t) .1 (p .short))
+          (none-first fitting (laterStages t) (room t output .1 (p .fits)) (p .later)))))
 
   module _ (p : Passed) where
-    usable-six : usable (sixBytes service) ≡ true
-    unfolding unusableBytes
-    usable-six =
-        let six : Bool = eqb (length service) 6 in
-        let good : Bool = usable (sixBytes service) in
-        and-right six good (place-none-not (six && good) 0 .0 (p .characters))
+    abbrev usable-six : usable (sixBytes service) ≡ true
+    usable-six = six-usable service .0 (p .characters) .1
 
     -- the text is accepted
     pub text-accepted : refusalOf t ≡ none
@@ -180,24 +224,23 @@ module _ (s : List ℕ) (accepted : refusalOf s ≡ none) where
   unfolding valueBytes valueTable
   list-sound = listOf-sound (contents s) (contents-shaped s accepted) values-few
 
-  -- 16 refuses it only where its contents cannot be spelled
-  pub list-releasable : (service : List ℕ) → Releasable (sixBytes service) (contents s)
-      → needsRelease service (valueBytes s) (valueTable s) ≡ []
+  -- 16 is not met exactly where its contents can be spelled
+  pub list-releasable : (service : List ℕ)
+      → (needsRelease service (valueBytes s) (valueTable s) ≡ []) ↔ Releasable (sixBytes service) (contents s)
   unfolding valueBytes valueTable
-  list-releasable service r =
+  list-releasable service =
       let items : List Item = listOf (contents s) in
-      let back : listedIn (listBytes items) (listTable items) ≡ items = listed-table items in
       let shaped : Shaped (contents s) = contents-shaped s accepted in
-      release-exactly service (listBytes items) (listTable items) (rw back (kinds-listOf (contents s) shaped)) .1
-      (rw (segments-table (contents s) shaped) r)
+      subst
+      (λ (list : SegmentList).
+      (needsRelease service (listBytes items) (listTable items) ≡ []) ↔ Releasable (sixBytes service) list)
+      (segments-table (contents s) shaped)
+      (release-exactly service (listBytes items) (listTable items) (rw (listed-table items) (kinds-listOf (contents s) shaped)))
 
--- 2 does not refuse six usable bytes
-pub six-usable : (service : List ℕ) → length service ≡ 6 → usable (sixBytes service) ≡ true → unusableBytes service ≡ []
-unfolding unusableBytes
-six-usable service n u =
-    let six : Bool = eqb (length service) 6 in
-    let good : Bool = usable (sixBytes service) in
-    place-none-not (six && good) 0 .1 (and-both six good (eq-eqb (length service) 6 n) u)
+  -- Write's text for it is its contents, spelled with the six bytes
+  pub list-text : (service : List ℕ) → writtenText service (valueBytes s) (valueTable s) ≡ interchange (sixBytes service) (contents s)
+  unfolding writtenText listGiven
+  list-text service = ap (interchange (sixBytes service)) list-read
 
 -- ---- Read
 
@@ -218,8 +261,8 @@ module _ (buffer numbers s : List ℕ) where
       answering-append (stages s) last
       ∙ ap₂ orElse accepted
       (none-first (shortFor (valueBytes s) buffer) (shortFor (valueTable s) numbers ∷ [])
-      (room-enough (valueBytes s) buffer b)
-      (none-first (shortFor (valueTable s) numbers) [] (room-enough (valueTable s) numbers n) refl))
+      (room (valueBytes s) buffer .1 b)
+      (none-first (shortFor (valueTable s) numbers) [] (room (valueTable s) numbers .1 n) refl))
 
   -- the value list stands in the fronts of the buffers
   pub bytes-stand : readRefusal buffer numbers s ≡ none → take (length (valueBytes s)) (readBytes buffer numbers s) ≡ valueBytes s

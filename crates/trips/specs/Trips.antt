@@ -1,13 +1,17 @@
 -- Paper 01, "Operations": what comes back of what was written, read or located. Assumes nothing.
 use Prim.Native.Nat.{ℕ, _≤_}
 use mathlib.Core.Path.{_≡_}
+use mathlib.Core.Bool.{true}
 use mathlib.Core.List.{List, [], _∷_}
 use mathlib.Core.Option.{Option, none}
-use lib.ListN.{length, take}
+use lib.ListN.{length, take, drop}
 use Rattle.lists.specs.Lists.{at, maybe}
-use Rattle.characters.specs.Characters.{sixBytes, charactersOf}
+use Rattle.characters.specs.declared.Characters.{Characters}
+use Rattle.characters.specs.Characters.{usable, sixBytes, charactersOf}
+use Rattle.reading.specs.Tokens.{tokens}
+use Rattle.reading.specs.Values.{Value, bytesOf}
 use Rattle.reading.specs.Trimming.{valueAt}
-use Rattle.reading.specs.Spelling.{Bytes, SegmentList}
+use Rattle.reading.specs.Spelling.{Bytes, SegmentList, spellValue}
 use Rattle.verdict.specs.Contents.{contents, interchange}
 use Rattle.answers.specs.Answers.{given, accepted}
 use Rattle.operations.specs.Judge.{interchangeOf, judge}
@@ -15,6 +19,7 @@ use Rattle.operations.specs.Compare.{compare}
 use Rattle.operations.specs.Read.{valueBytes, valueTable, read, readBytes, readTable}
 use Rattle.operations.specs.ValueList.{listOf, listBytes, listTable, listedIn, segmentsListed, trimList}
 use Rattle.operations.specs.Write.{writeOutput}
+use Rattle.spelling.specs.Bodies.{Releasable}
 
 -- the list of segments that a value list stands for, with its empty ends trimmed
 unfoldable pub listGiven : Bytes → List ℕ → SegmentList
@@ -36,6 +41,15 @@ pub record WrittenBack (service bytes table output : List ℕ) (text : List ℕ)
   pub reads : (buffer numbers : List ℕ) → length (valueBytes text) ≤ length buffer → length (valueTable text) ≤ length numbers
       → read buffer numbers text ≡ given (length (valueBytes text) ∷ length (valueTable text) ∷ [])
 
+-- What lets Write take what Read gave for s: six usable bytes that can spell the contents, a text of 32,000 bytes at most, and
+-- room for it.
+pub record Rewritable (s service output : List ℕ) : Type 0 where
+  pub six : length service ≡ 6
+  pub usable-bytes : usable (sixBytes service) ≡ true
+  pub releasable : Releasable (sixBytes service) (contents s)
+  pub short : length (interchange (sixBytes service) (contents s)) ≤ 32000
+  pub fits : length (interchange (sixBytes service) (contents s)) ≤ length output
+
 -- What a Write of what Read gave for s leaves, where neither is refused.
 pub record ReadBack (s buffer numbers service : List ℕ) (text : List ℕ) : Type 0 where
   -- what was written stood in the fronts of Read's buffers,
@@ -49,6 +63,11 @@ pub record ReadBack (s buffer numbers service : List ℕ) (text : List ℕ) : Ty
   -- and Compare says "same" where the decimal mark is that of s.
   pub same : sixBytes service .mark ≡ charactersOf s .mark → compare s text ≡ given (1 ∷ [])
 
--- the value that a list of segments has at a position
-unfoldable pub wordAt : SegmentList → ℕ → ℕ → ℕ → Option Bytes
-wordAt list segment element component = maybe none (λ elements. valueAt elements element component) (at list segment)
+-- what stands at a position, by segment, element and component
+unfoldable pub standingAt : {A : Type 0} → List (List (List A)) → ℕ → ℕ → ℕ → Option A
+standingAt list segment element component = maybe none (λ elements. valueAt elements element component) (at list segment)
+
+-- The part of the input that a value names is the value's spelling; and that part alone, its release characters taken off, is the value.
+pub record Named (c : Characters) (s : List ℕ) (v : Value) : Type 0 where
+  pub spelling : take (v .spelled) (drop (v .offset) s) ≡ spellValue c (v .bytes)
+  pub alone : bytesOf (tokens c (v .offset) (take (v .spelled) (drop (v .offset) s))) ≡ v .bytes
