@@ -82,7 +82,7 @@ fn judge_argument(i: usize) {
     let mut name = io::buffer();
     let n = os::arg(i, &mut name);
     if os::errno() != 0 {
-        // Longer than any file's name: its first bytes are there.
+        // Longer than the name of any file: its first bytes are there.
         os::fail(&name);
         return;
     }
