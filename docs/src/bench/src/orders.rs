@@ -1,0 +1,175 @@
+//! Seeded interchanges of orders, each accepted: what a mailbox holds on a
+//! plain day. Most have the standard's service characters, some others; a few
+//! values have released characters, and a few segments have ends to trim.
+
+use second::generator::{Draft, Random};
+use second::level::Level;
+use second::service_characters::{ServiceCharacters, INFORMATION_SEPARATORS, PRINTABLE};
+
+type Element = Vec<Vec<u8>>;
+type Segment = Vec<Element>;
+
+/// Other characters that an advice may name.
+const OTHERS: ServiceCharacters = ServiceCharacters {
+    component: b'*',
+    element: b'%',
+    mark: b',',
+    release: Some(b'!'),
+    terminator: b'&',
+};
+
+const NAMES: [&str; 10] = [
+    "NORDHAVN SPEDITION",
+    "KELLER UND SOHN",
+    "ATLAS FREIGHT LTD",
+    "LE QUAI NORD",
+    "BRUUN",
+    "PORT OF HVEROLDA",
+    "MERIDIAN HAULAGE",
+    "SKAGEN TRANSPORT",
+    "VAN DER MEER",
+    "ORION LINES",
+];
+
+/// Names that hold one of the standard's service characters.
+const RELEASED: [&str; 4] = ["O'HARA FREIGHT", "NORTH+SOUTH LINES", "GATE: 14", "FRAGILE?"];
+
+const GOODS: [&str; 8] = [
+    "PALLET, EURO, 1200 X 800",
+    "STEEL COIL",
+    "COFFEE, GREEN, IN BAGS",
+    "MACHINE PARTS (USED)",
+    "PAPER REELS",
+    "TYRES 205/55 R16",
+    "TIMBER, SAWN",
+    "GLASS JARS, 500 ML",
+];
+
+/// An element of the components that the text has, one after each `:`.
+fn element(text: &str) -> Element {
+    text.split(':').map(|component| component.as_bytes().to_vec()).collect()
+}
+
+fn value(text: impl AsRef<[u8]>) -> Element {
+    vec![text.as_ref().to_vec()]
+}
+
+fn figures(random: &mut Random, count: usize) -> String {
+    (0..count).map(|_| char::from(random.pick(b"0123456789"))).collect()
+}
+
+fn name(random: &mut Random, released: bool) -> Element {
+    match released && random.chance(8) {
+        true => value(random.pick(&RELEASED)),
+        false => value(random.pick(&NAMES)),
+    }
+}
+
+/// A segment of an order: a party, a date, a line of goods, a quantity, ...
+fn order_segment(random: &mut Random, line: usize, released: bool) -> Segment {
+    match random.below(8) {
+        0 => {
+            let party = random.pick(&["BY", "SU", "DP", "IV"]);
+            let number = element(&format!("{}::9", figures(random, 13)));
+            let street = value(format!("QUAY {}", figures(random, 2)));
+            let (name, city) = (name(random, released), name(random, released));
+            let code = value(figures(random, 5));
+            vec![value("NAD"), value(party), number, value(""), name, street, city, value(""), code]
+        }
+        1 => vec![value("DTM"), element(&format!("137:2026{}:102", figures(random, 4)))],
+        2 => {
+            let article = format!("{}:EN", figures(random, 13));
+            vec![value("LIN"), value(line.to_string()), value(""), element(&article)]
+        }
+        3 => vec![value("PIA"), value("1"), element(&format!("{}:SA", figures(random, 8)))],
+        4 => {
+            let mut description = element(":::");
+            description.push(random.pick(&GOODS).into());
+            description.extend(name(random, released));
+            vec![value("IMD"), value("F"), value(""), description]
+        }
+        5 => vec![value("QTY"), element(&format!("21:{}:PCE", figures(random, 3)))],
+        6 => vec![value("PRI"), element(&format!("AAA:{}.{}", line, figures(random, 2)))],
+        _ => vec![value("RFF"), element(&format!("ON:{}", figures(random, 10)))],
+    }
+}
+
+struct Maker<'a> {
+    random: &'a mut Random,
+    released: bool,
+    segments: Vec<Segment>,
+    bytes: usize,
+}
+
+impl Maker<'_> {
+    /// Adds the segment, now and then with empty ends.
+    fn put(&mut self, mut segment: Segment, may_pad: bool) {
+        if may_pad && self.random.chance(4) {
+            segment.extend([value(""), element(":")]);
+        }
+        self.bytes += segment.iter().flatten().map(|value| value.len() + 1).sum::<usize>();
+        self.segments.push(segment);
+    }
+
+    /// A message that brings the interchange to so many bytes.
+    fn message(&mut self, target: usize) {
+        let reference = figures(self.random, 8);
+        let first = self.segments.len();
+        self.put(vec![value("UNH"), value(&reference), element("ORDERS:D:96A:UN")], false);
+        let order = vec![value("BGM"), value("220"), value(figures(self.random, 9)), value("9")];
+        self.put(order, true);
+        while self.bytes + 60 < target {
+            let line = self.segments.len() - first;
+            let segment = order_segment(self.random, line, self.released);
+            self.put(segment, true);
+        }
+        let count = self.segments.len() - first + 1;
+        self.put(vec![value("UNT"), value(count.to_string()), value(&reference)], false);
+    }
+
+    fn interchange(&mut self, target: usize) {
+        let reference = figures(self.random, 10);
+        self.put(
+            vec![
+                value("UNB"),
+                element("UNOA:2"),
+                element("5790000000012:14"),
+                element("4012345000009:14"),
+                element("261115:0842"),
+                value(&reference),
+            ],
+            false,
+        );
+        let messages = self.random.between(1, 4);
+        if self.random.chance(15) {
+            self.group(messages, target);
+        } else {
+            (1..=messages).for_each(|number| self.message(target * number / messages));
+        }
+        let count = if self.segments[1][0][0] == b"UNG" { 1 } else { messages };
+        self.put(vec![value("UNZ"), value(count.to_string()), value(&reference)], false);
+    }
+
+    fn group(&mut self, messages: usize, target: usize) {
+        let reference = figures(self.random, 6);
+        let mut header = vec![value("UNG"), value("ORDERS"), value("5790000000012")];
+        header.extend([value("4012345000009"), element("261115:0842"), value(&reference)]);
+        self.put(header, false);
+        (1..=messages).for_each(|number| self.message(target * number / messages));
+        self.put(vec![value("UNE"), value(messages.to_string()), value(&reference)], false);
+    }
+}
+
+/// One interchange of about so many bytes.
+pub fn order(random: &mut Random, target: usize) -> Vec<u8> {
+    let (characters, advice) = match random.below(10) {
+        0..=4 => (PRINTABLE, false),
+        5..=7 => (PRINTABLE, true),
+        8 => (OTHERS, true),
+        _ => (INFORMATION_SEPARATORS, false),
+    };
+    let released = characters.release.is_some();
+    let mut maker = Maker { random, released, segments: Vec::new(), bytes: 0 };
+    maker.interchange(target);
+    Draft { characters, advice, level: Level::A, segments: maker.segments }.spelled()
+}
