@@ -1,0 +1,4 @@
+pub mod Ends
+pub mod Trimmed
+pub mod Values
+pub mod Locating
