@@ -147,6 +147,7 @@ tokens-hold (fault place ∷ ts) h a e k = tokens-hold ts (ended-next (fault pla
 -- the bytes of the contents' values are the value bytes of the tokens
 pub contents-bytes : (ts : List Token) → endsInside ts ≡ false → all known ts ≡ true → Shaped (map contentsOf (segments ts))
     → listBytes (listOf (map contentsOf (segments ts))) ≡ bytesOf ts
+unfolding endsInside isEmpty emitted itemsFrom readMarks listBytes bytesOf gather
 contents-bytes ts h a s = ap listBytes (contents-items ts h a s) ∙ held ts h a
   where
     held : (ts : List Token) → endsInside ts ≡ false → all known ts ≡ true

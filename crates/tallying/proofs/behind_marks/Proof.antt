@@ -1,0 +1,21 @@
+-- `tallying::behind_marks` meets its contract. Assumes nothing.
+use native.Mathlib.Nat.{pos-of-ne-zero}
+use borrow.Author.Needs.{needs}
+use Rattle.tallying.proofs.Steps.{behind-none, behind-some}
+use Rattle.tallying.proofs.behind_marks.Statement.{statement}
+use Rattle.tallying.proofs.behind_marks.Tie as tie
+
+returns : tie.Need-returns
+returns c = behind-none (c .before .args .kind) (c .before .args .count) (c .before .args .l) (c .if1 .taken)
+
+add-t5 : tie.Need-add-t5
+add-t5 c = search needs
+
+add-t6 : tie.Need-add-t6
+add-t6 c = search needs
+
+returns-2 : tie.Need-returns-2
+returns-2 c = behind-some (c .before .before .before .args .kind) (c .before .before .before .args .count) (c .before .before .before .args .l) (pos-of-ne-zero (c .before .before .if1 .left))
+
+pub behind-marks-spec : {M : Type 1} → statement M
+behind-marks-spec = tie.close (tie.spec returns add-t5 add-t6 returns-2)
