@@ -1,0 +1,217 @@
+-- What is stored in the byte buffer and in the table, piece by piece, is the value list of the tokens. Assumes nothing.
+use Prim.Native.Nat.{ℕ, suc, _+_, _*_, _-_, _≤_, _<_}
+use mathlib.Core.Path.{_≡_, refl, sym, ap, ap₂, subst, _∙_}
+use mathlib.Core.List.{List, [], _∷_, _++_}
+use native.Mathlib.Omega.{arith}
+use native.Mathlib.Numerals.{add-one, add-two}
+use lib.Dec.{leb}
+use lib.ListN.{length, set, length-append}
+use lib.Seq.{sets, length-sets}
+use borrow.Author.Tests.{le-leb, lt-leb}
+use Rattle.lists.specs.Lists.{if_then_else_, gather}
+use Rattle.lists.proofs.Texts.{if-true, if-false}
+use Rattle.reading.specs.Tokens.{Token, byte, separator, fault}
+use Rattle.reading.specs.Values.{byteOf, bytesOf}
+use Rattle.operations.specs.ValueList.{Entry}
+use Rattle.emission.specs.Emission.{emitted}
+use Rattle.storing.proofs.Stores.{sets-append}
+use Rattle.emitting.proofs.Putting.{Goes, goes-step, front-fits}
+use Rattle.tallying.specs.declared.Listing.{Listing}
+use Rattle.tallying.specs.Marks.{runOut, runNext, numbersOut, entryNext, readMarks, numbersFrom}
+use Rattle.tallying.specs.Tally.{entryOf, listing, fresh, values, end, marksOut, entryBehind, behindMarks, behindByte, byteNumbers, behindSeparator, separatorNumbers, tableRest, tableOf}
+use Rattle.tallying.proofs.Steps.{behind-none, marks-length, records-marks, end-marks, table-byte, table-separator, records-byte, end-byte, values-byte, records-separator, end-separator, values-separator}
+
+-- ---- records
+
+-- three numbers stored one behind the other
+pub record-stored : (table : List ℕ) (at : ℕ) (e : Entry)
+    → set (set (set table at (e .kind)) (at + 1) (e .start)) (at + 2) (e .size) ≡ sets table at (numbersOut e)
+record-stored table at e =
+    ap₂ (λ (i j : ℕ). set (set (set table at (e .kind)) i (e .start)) j (e .size)) (add-one at) (add-two at)
+
+module _ (kind count i : ℕ) (h : i < count) where
+  one-more : count - i ≡ suc (count - (i + 1))
+  one-more = omega arith
+
+  -- the first of the marks that are left puts out the open record
+  pub marks-first : (e : Entry) → marksOut kind (count - i) e ≡ numbersOut e ++ marksOut kind (count - (i + 1)) (entryNext kind e)
+  unfolding runOut
+  marks-first e = ap (λ (n : ℕ). marksOut kind n e) one-more
+
+  -- and the others follow it
+  pub behind-first : (m : Listing) → behindMarks kind (count - i) m ≡ behindMarks kind (count - (i + 1)) (behindMarks kind 1 m)
+  unfolding behindMarks runNext
+  behind-first m =
+      ap (λ (n : ℕ). behindMarks kind n m) one-more
+      ∙ ap (λ (n : ℕ). listing n (entryBehind kind (count - (i + 1)) (entryNext kind (entryOf m))) (m .elements) (m .components)) sum
+    where
+      sum : m .records + suc (count - (i + 1)) ≡ m .records + 1 + (count - (i + 1))
+      sum = omega arith
+
+-- Where so many marks are to be let out, and i of them are: the records that are left, stored from here, give the whole, and
+-- the listing behind them is the same.
+pub record Lets (kind count : ℕ) (t₀ t₁ : List ℕ) (l m : Listing) (i : ℕ) : Type 0 where
+  pub stored : sets t₀ (l .records * 3) (marksOut kind count (entryOf l)) ≡ sets t₁ (m .records * 3) (marksOut kind (count - i) (entryOf m))
+  pub behind : behindMarks kind count l ≡ behindMarks kind (count - i) m
+  pub as-long : length t₁ ≡ length t₀
+  pub passed : i ≤ count
+  pub records : m .records ≡ l .records + i
+  pub ended : end m ≡ end l
+
+pub lets-start : (kind count : ℕ) (t : List ℕ) (l : Listing) → Lets kind count t t l l 0
+lets-start kind count t l = record {
+  stored = ap (λ (n : ℕ). sets t (l .records * 3) (marksOut kind n (entryOf l))) all-left;
+  behind = ap (λ (n : ℕ). behindMarks kind n l) all-left;
+  as-long = refl;
+  passed = omega arith;
+  records = omega arith;
+  ended = refl;
+}
+  where
+    all-left : count ≡ count - 0
+    all-left = omega arith
+
+-- the open record is stored, and the next one is open
+pub lets-step : {kind count : ℕ} {t₀ t₁ t₂ : List ℕ} {l : Listing} (m : Listing) {n : Listing} {i : ℕ} → Lets kind count t₀ t₁ l m i → i < count
+    → t₂ ≡ sets t₁ (m .records * 3) (numbersOut (entryOf m)) → n ≡ behindMarks kind 1 m → Lets kind count t₀ t₂ l n (i + 1)
+unfolding behindMarks runNext
+lets-step {kind} {count} {t₀} {t₁} {t₂} {l} m {n} {i} s h e d =
+    subst (λ (x : Listing). Lets kind count t₀ t₂ l x (i + 1)) (sym d)
+    (record {
+      stored =
+          s .stored
+          ∙ ap (sets t₁ (m .records * 3)) (marks-first kind count i h (entryOf m))
+          ∙ sets-append t₁ (m .records * 3) (numbersOut (entryOf m)) (marksOut kind (count - (i + 1)) (entryNext kind (entryOf m)))
+          ∙ ap₂ (λ (t : List ℕ) (at : ℕ). sets t at (marksOut kind (count - (i + 1)) (entryNext kind (entryOf m)))) (sym e) next;
+      behind = s .behind ∙ behind-first kind count i h m;
+      as-long = ap length e ∙ length-sets t₁ (m .records * 3) (numbersOut (entryOf m)) ∙ s .as-long;
+      passed = omega arith;
+      records = omega (arith, s .records);
+      ended = end-marks kind 1 m ∙ s .ended;
+    })
+  where
+    next : m .records * 3 + 3 ≡ (m .records + 1) * 3
+    next = omega arith
+
+-- where none is left all is stored
+pub lets-end : {kind count : ℕ} {t₀ t₁ : List ℕ} {l : Listing} (m : Listing) {i : ℕ} → Lets kind count t₀ t₁ l m i → count ≤ i
+    → (t₁ ≡ sets t₀ (l .records * 3) (marksOut kind count (entryOf l))) × (m ≡ behindMarks kind count l)
+unfolding runOut
+lets-end {kind} {count} {t₀} {t₁} {l} m {i} s h =
+    (sym (s .stored ∙ ap (λ (n : ℕ). sets t₁ (m .records * 3) (marksOut kind n (entryOf m))) none-left), behind-none kind (count - i) m none-left ∙ sym (s .behind))
+  where
+    none-left : count - i ≡ 0
+    none-left = omega arith
+
+-- ---- a separator
+
+-- a terminator ends a value, and another separator ends none yet
+pub terminator-numbers : (l : Listing) (kind : ℕ) → kind ≡ 0 → separatorNumbers l kind ≡ numbersOut (entryOf l)
+unfolding separatorNumbers
+terminator-numbers l kind z = if-true (leb kind 0) (numbersOut (entryOf l)) [] (le-leb kind 0 (omega arith))
+
+pub no-numbers : (l : Listing) (kind : ℕ) → (kind ≡ 0 → ⊥) → separatorNumbers l kind ≡ []
+unfolding separatorNumbers
+no-numbers l kind z = if-false (leb kind 0) (numbersOut (entryOf l)) [] (lt-leb kind 0 (omega arith))
+
+-- ---- a byte of a value
+
+-- the records that it lets out: those of elements, and behind them those of components
+pub byte-stored : (t₀ : List ℕ) {t₁ t₂ : List ℕ} (l o : Listing) → t₁ ≡ sets t₀ (l .records * 3) (marksOut 1 (l .elements) (entryOf l))
+    → o ≡ behindMarks 1 (l .elements) l → t₂ ≡ sets t₁ (o .records * 3) (marksOut 2 (l .components) (entryOf o))
+    → t₂ ≡ sets t₀ (l .records * 3) (byteNumbers l)
+unfolding behindMarks byteNumbers
+byte-stored t₀ {t₁} {t₂} l o p d q =
+    q
+    ∙ ap (λ (x : Listing). sets t₁ (x .records * 3) (marksOut 2 (l .components) (entryOf x))) d
+    ∙ ap₂ (λ (t : List ℕ) (at : ℕ). sets t at (marksOut 2 (l .components) (entryBehind 1 (l .elements) (entryOf l)))) p next
+    ∙ sym (sets-append t₀ (l .records * 3) (marksOut 1 (l .elements) (entryOf l)) (marksOut 2 (l .components) (entryBehind 1 (l .elements) (entryOf l))))
+  where
+    next : (l .records + l .elements) * 3 ≡ l .records * 3 + length (marksOut 1 (l .elements) (entryOf l))
+    next = omega (arith, marks-length 1 (l .elements) (entryOf l))
+
+-- ---- the whole list
+
+-- What the rest of the tokens comes to, stored from here, gives the whole, in the byte buffer and in the table; and there is room for
+-- a value and a byte for each byte of the input that is left.
+pub record Stored (b₀ b₁ t₀ t₁ : List ℕ) (whole : List Token) (l : Listing) (rest : List Token) (left room : ℕ) : Type 0 where
+  pub bytes : Goes b₀ b₁ 0 (end l) (bytesOf whole) (bytesOf rest)
+  pub table : Goes t₀ t₁ 0 (l .records * 3) (tableOf whole) (tableRest l rest)
+  pub many : values l + left ≤ room
+  pub long : end l + left ≤ room
+
+pub stored-start : {l : Listing} (b t : List ℕ) (ts : List Token) (left room : ℕ) → l ≡ fresh → length (bytesOf ts) ≤ length b → length (tableOf ts) ≤ length t
+    → left ≤ room → Stored b b t t ts l ts left room
+unfolding tableOf
+stored-start b t ts left room d p q h =
+    subst (λ (x : Listing). Stored b b t t ts x ts left room) (sym d)
+    (record {
+      bytes = record { stored = refl; fits = omega arith; as-long = refl };
+      table = record { stored = refl; fits = omega arith; as-long = refl };
+      many = omega arith;
+      long = omega arith;
+    })
+
+module _ {b₀ b₁ t₀ t₁ : List ℕ} {whole : List Token} (l : Listing) {ts : List Token} {left room : ℕ} (g : Stored b₀ b₁ t₀ t₁ whole l ts left room) where
+  -- a byte of a value
+  module _ {b from place : ℕ} {rest : List Token} (e : ts ≡ byte b from place ∷ rest) where
+    bytes-first : bytesOf ts ≡ (b ∷ []) ++ bytesOf rest
+    unfolding bytesOf byteOf gather
+    bytes-first = ap bytesOf e
+
+    table-first : tableRest l ts ≡ byteNumbers l ++ tableRest (behindByte l) rest
+    table-first = ap (tableRest l) e ∙ table-byte l rest b from place
+
+    pub byte-fits : end l < length b₁
+    byte-fits = omega (arith, front-fits (b ∷ []) (bytesOf rest) (g .bytes) bytes-first)
+
+    pub records-fit : values l * 3 ≤ length t₁
+    unfolding behindByte behindMarks
+    records-fit = omega (arith, front-fits (byteNumbers l) (tableRest (behindByte l) rest) (g .table) table-first, records-byte l)
+
+    pub stored-byte : {b₂ t₂ : List ℕ} {m : Listing} {less : ℕ} → b₂ ≡ sets b₁ (end l) (b ∷ []) → t₂ ≡ sets t₁ (l .records * 3) (byteNumbers l)
+        → m ≡ behindByte l → less < left → Stored b₀ b₂ t₀ t₂ whole m rest less room
+    stored-byte {b₂} {t₂} {m} {less} p q d h =
+        subst (λ (x : Listing). Stored b₀ b₂ t₀ t₂ whole x rest less room) (sym d)
+        (record {
+          bytes = goes-step (b ∷ []) (bytesOf rest) (g .bytes) bytes-first p (end-byte l);
+          table = goes-step (byteNumbers l) (tableRest (behindByte l) rest) (g .table) table-first q (omega (arith, records-byte l));
+          many = omega (arith, g .many, values-byte l);
+          long = omega (arith, g .long, end-byte l);
+        })
+
+  -- a separator
+  module _ {kind place : ℕ} {rest : List Token} (e : ts ≡ separator kind place ∷ rest) where
+    numbers-first : tableRest l ts ≡ separatorNumbers l kind ++ tableRest (behindSeparator l kind) rest
+    numbers-first = ap (tableRest l) e ∙ table-separator l rest kind place
+
+    pub separator-fits : l .records * 3 + length (separatorNumbers l kind) ≤ length t₁
+    separator-fits = front-fits (separatorNumbers l kind) (tableRest (behindSeparator l kind) rest) (g .table) numbers-first
+
+    pub stored-separator : {t₂ : List ℕ} {m : Listing} {less : ℕ} → t₂ ≡ sets t₁ (l .records * 3) (separatorNumbers l kind)
+        → m ≡ behindSeparator l kind → less < left → Stored b₀ b₁ t₀ t₂ whole m rest less room
+    unfolding bytesOf byteOf gather
+    stored-separator {t₂} {m} {less} q d h =
+        subst (λ (x : Listing). Stored b₀ b₁ t₀ t₂ whole x rest less room) (sym d)
+        (record {
+          bytes = goes-step [] (bytesOf rest) (g .bytes) (ap bytesOf e) refl (omega (arith, end-separator l kind));
+          table = goes-step (separatorNumbers l kind) (tableRest (behindSeparator l kind) rest) (g .table) numbers-first q (omega (arith, records-separator l kind));
+          many = omega (arith, g .many, values-separator l kind);
+          long = omega (arith, g .long, end-separator l kind);
+        })
+
+  -- a stray release character stores nothing
+  pub stored-fault : {place : ℕ} {rest : List Token} {less : ℕ} → ts ≡ fault place ∷ rest → less < left → Stored b₀ b₁ t₀ t₁ whole l rest less room
+  unfolding tableRest emitted bytesOf byteOf gather
+  stored-fault {place} {rest} e h = record {
+    bytes = subst (λ (bs : List ℕ). Goes b₀ b₁ 0 (end l) (bytesOf whole) bs) (ap bytesOf e) (g .bytes);
+    table = subst (λ (ns : List ℕ). Goes t₀ t₁ 0 (l .records * 3) (tableOf whole) ns) (ap (tableRest l) e) (g .table);
+    many = omega (arith, g .many);
+    long = omega (arith, g .long);
+  }
+
+  -- at the end all is stored
+  pub stored-end : ts ≡ [] → (b₁ ≡ sets b₀ 0 (bytesOf whole)) × (t₁ ≡ sets t₀ 0 (tableOf whole))
+  unfolding tableRest numbersFrom readMarks emitted bytesOf gather
+  stored-end e =
+      (sym (g .bytes .stored ∙ ap (λ (us : List Token). sets b₁ (end l) (bytesOf us)) e), sym (g .table .stored ∙ ap (λ (us : List Token). sets t₁ (l .records * 3) (tableRest l us)) e))

@@ -1,0 +1,100 @@
+// The value list of a body stored in a lent byte buffer and a lent table (paper 01, "Operations":
+// Read). It promises every byte and every number of both at exit: the value bytes of the body's tokens
+// end to end, and the table that these come to; what is not stored keeps its value.
+ghost use mathlib.Core.Path.{_≡_};
+ghost use mathlib.Core.List.{_∷_, []};
+ghost use Prim.Native.Nat.{_+_, _*_, _≤_, _<_};
+ghost use lib.ListN.{length};
+ghost use lib.Seq.{sets};
+ghost use Rattle.reading.specs.Values.{bytesOf};
+ghost use Rattle.reading.proofs.Steps.{tokensAt};
+ghost use Rattle.tallying.specs.Marks.{numbersOut};
+ghost use Rattle.tallying.specs.Tally.{entryOf, values, end, marksOut, behindMarks, behindByte, byteNumbers, behindSeparator, separatorNumbers, tableOf};
+use characters::Characters;
+use scanner::Lexed;
+use scanner::lex;
+use tallying::Listing;
+use tallying::behind_marks;
+use tallying::start_of_list;
+use tallying::with_one_more;
+use tallying::with_separator;
+
+// Stores the record of the value that is open.
+fn put_record(table: &mut [u32], l: Listing)
+    requires { ⌜ (l .records * 3 + 3 ≤ length (now table)) × (l .records ≤ 32000) × (end l ≤ 32000) ⌝ }
+    ensures { λ _. ⌜ now (table .exit) ≡ sets (now (table .entry)) (l .records * 3) (numbersOut (entryOf l)) ⌝ }
+{
+    let at = l.records * 3;
+    table[at] = l.kind;
+    table[at + 1] = l.start as u32;
+    table[at + 2] = l.size as u32;
+}
+
+// Stores a record for each of so many separators of one kind that are let out.
+fn put_marks(table: &mut [u32], l: Listing, kind: u32, count: usize) -> Listing
+    requires { ⌜ ((l .records + count) * 3 ≤ length (now table)) × (l .records + count ≤ 32000) × (end l ≤ 32000) ⌝ }
+    ensures { λ r. ⌜ (now (table .exit) ≡ sets (now (table .entry)) (l .records * 3) (marksOut kind count (entryOf l))) × (r ≡ behindMarks kind count l) ⌝ }
+{
+    let mut m = l;
+    let mut i = 0;
+    while i < count {
+        put_record(table, m);
+        m = behind_marks(m, kind, 1);
+        i += 1;
+    }
+    m
+}
+
+// Stores a byte of a value, and the records that it lets out.
+fn put_value_byte(buffer: &mut [u8], table: &mut [u32], l: Listing, b: u8) -> Listing
+    requires { ⌜ (end l < length (now buffer)) × (values l * 3 ≤ length (now table)) × (values l ≤ 32000) × (end l ≤ 32000) ⌝ }
+    ensures { λ r. ⌜ (now (buffer .exit) ≡ sets (now (buffer .entry)) (end l) (b ∷ [])) × (now (table .exit) ≡ sets (now (table .entry)) (l .records * 3) (byteNumbers l)) × (r ≡ behindByte l) ⌝ }
+{
+    let at = l.start + l.size;
+    buffer[at] = b;
+    let elements = put_marks(table, l, 1, l.elements);
+    with_one_more(put_marks(table, elements, 2, l.components))
+}
+
+// A terminator stores the record of the value that it ends; another separator is held back.
+fn put_separator(table: &mut [u32], l: Listing, kind: u8) -> Listing
+    requires { ⌜ (l .records * 3 + length (separatorNumbers l kind) ≤ length (now table)) × (values l ≤ 32000) × (end l ≤ 32000) ⌝ }
+    ensures { λ r. ⌜ (now (table .exit) ≡ sets (now (table .entry)) (l .records * 3) (separatorNumbers l kind)) × (r ≡ behindSeparator l kind) ⌝ }
+{
+    if kind == 0 {
+        put_record(table, l);
+        return with_separator(l, kind);
+    }
+    with_separator(l, kind)
+}
+
+// Stores the values of the body that begins at `start`.
+pub fn put_values(buffer: &mut [u8], table: &mut [u32], s: &[u8], c: Characters, start: usize)
+    requires { ⌜ (length (now s) ≤ 32000) × (length (bytesOf (tokensAt c (now s) start)) ≤ length (now buffer)) × (length (tableOf (tokensAt c (now s) start)) ≤ length (now table)) ⌝ }
+    ensures { λ _. ⌜ (now (buffer .exit) ≡ sets (now (buffer .entry)) 0 (bytesOf (tokensAt c (now (s .entry)) start))) × (now (table .exit) ≡ sets (now (table .entry)) 0 (tableOf (tokensAt c (now (s .entry)) start))) ⌝ }
+{
+    let mut l = start_of_list();
+    let mut at = start;
+    loop {
+        match lex(s, c, at) {
+            Lexed::Byte {
+                byte,
+                place: _,
+                next,
+            } => {
+                l = put_value_byte(buffer, table, l, byte);
+                at = next;
+            }
+            Lexed::Separator { kind, next } => {
+                l = put_separator(table, l, kind);
+                at = next;
+            }
+            Lexed::Stray { next } => {
+                at = next;
+            }
+            Lexed::End => {
+                return;
+            }
+        }
+    }
+}
