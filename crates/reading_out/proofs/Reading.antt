@@ -74,10 +74,11 @@ characters-of s e = ap (λ (x : Interchange). x .characters) e
 -- ---- what is answered, and what the buffers hold
 
 -- a text stored at the front, and the rest as it was
-pub front-stored : (buffer after new : List ℕ) → length new ≤ length buffer → after ≡ sets buffer 0 new → after ≡ storedIn buffer new
+front-stored : (buffer : List ℕ) {new text after : List ℕ} → new ≡ text → length new ≤ length buffer → after ≡ sets buffer 0 text → after ≡ storedIn buffer new
 unfolding storedIn
-front-stored buffer after new h e =
+front-stored buffer {new} w h e =
     e
+    ∙ ap (sets buffer 0) (sym w)
     ∙ sets-eq new buffer 0 (omega (arith, zero-add (length new)))
     ∙ ap (λ (k : ℕ). new ++ drop k buffer) (zero-add (length new))
 
@@ -143,10 +144,11 @@ module _ (buffer table s : List ℕ) where
           ∙ ap (refuse BufferShort) (sym f))
 
       -- both are stored
-      pub list-stored : {m : ℕ} (bytesAfter tableAfter : List ℕ) → m ≡ length (valueTable s) → m ≤ length table
-          → bytesAfter ≡ sets buffer 0 (valueBytes s) → tableAfter ≡ sets table 0 (valueTable s) → Reads (Values n m) bytesAfter tableAfter
+      pub list-stored : {m : ℕ} {bytes numbers bytesAfter tableAfter : List ℕ} → m ≡ length (valueTable s) → m ≤ length table
+          → valueBytes s ≡ bytes → valueTable s ≡ numbers → bytesAfter ≡ sets buffer 0 bytes → tableAfter ≡ sets table 0 numbers
+          → Reads (Values n m) bytesAfter tableAfter
       unfolding read readBytes readTable toldListed maybe unlessRefused orElse
-      list-stored {m} bytesAfter tableAfter f k p q =
+      list-stored {m} f k v w p q =
           let passed : readRefusal buffer table s ≡ none =
           by-lengths (le-ltb (length buffer) (length (valueBytes s)) (omega (arith, e, h))) (le-ltb (length table) (length (valueTable s)) (omega (arith, f, k)))
           in
@@ -155,9 +157,9 @@ module _ (buffer table s : List ℕ) where
                 ap₂ (λ (x y : ℕ). given (x ∷ y ∷ [])) e f
                 ∙ sym (ap (maybe (given (length (valueBytes s) ∷ length (valueTable s) ∷ [])) refused) passed);
             bytes =
-                front-stored buffer bytesAfter (valueBytes s) (omega (arith, e, h)) p
+                front-stored buffer v (omega (arith, e, h)) p
                 ∙ sym (ap (λ (o : Option Refusal). unlessRefused o (storedIn buffer (valueBytes s)) buffer) passed);
             numbers =
-                front-stored table tableAfter (valueTable s) (omega (arith, f, k)) q
+                front-stored table w (omega (arith, f, k)) q
                 ∙ sym (ap (λ (o : Option Refusal). unlessRefused o (storedIn table (valueTable s)) table) passed);
           }

@@ -1,8 +1,6 @@
 -- `reading_out::store_list` meets its contract: 14 answers for the byte buffer, then for the table, or both are stored. Assumes nothing.
-use mathlib.Core.Path.{sym, ap, _∙_}
-use mathlib.Core.List.{List}
+use mathlib.Core.Path.{ap, _∙_}
 use native.Mathlib.Omega.{arith}
-use lib.Seq.{sets}
 use Rattle.answers.specs.Answers.{toldListed}
 use Rattle.judging.proofs.Stages.{accepted-opening}
 use Rattle.reading_out.proofs.Reading.{bytes-are, table-is, bytes-needed, numbers-needed, characters-of, bytes-refused, table-refused, list-stored}
@@ -66,10 +64,8 @@ returns-3 c =
     let t = c .before .before .before .before .before .before .before .before .before .before .before .tally-of .ensures in
     let e = c .before .before .before .before .put-values .ensures in
     let n =
-    list-stored buffer table s a (bytes-needed s a d p (t .0)) (c .before .before .before .before .before .before .before .before .before .if1 .left) (c .before .before .before .before .put-values .last .0) (c .before .before .before .before .put-values .last .1 .0)
-    (numbers-needed s a d p (t .1)) (c .before .before .before .before .before .before .before .if2 .left)
-    (e .0 ∙ ap (sets buffer 0) (sym (bytes-are s a d p)))
-    (e .1 ∙ ap (sets table 0) (sym (table-is s a d p))) in
+    list-stored buffer table s a (bytes-needed s a d p (t .0)) (c .before .before .before .before .before .before .before .before .before .if1 .left) (numbers-needed s a d p (t .1)) (c .before .before .before .before .before .before .before .if2 .left)
+    (bytes-are s a d p) (table-is s a d p) (e .0) (e .1) in
     (n .says, n .bytes, n .numbers)
 
 pub store-list-spec : {M : Type 1} → statement M
