@@ -19,7 +19,7 @@ use Rattle.emitting.proofs.Putting.{Goes, goes-step, front-fits}
 use Rattle.tallying.specs.declared.Listing.{Listing}
 use Rattle.tallying.specs.Marks.{runOut, runNext, numbersOut, entryNext, readMarks, numbersFrom}
 use Rattle.tallying.specs.Tally.{entryOf, listing, fresh, values, end, marksOut, entryBehind, behindMarks, behindByte, byteNumbers, behindSeparator, separatorNumbers, tableRest, tableOf}
-use Rattle.tallying.proofs.Steps.{behind-none, marks-length, records-marks, end-marks, table-byte, table-separator, records-byte, end-byte, values-byte, records-separator, end-separator, values-separator}
+use Rattle.tallying.proofs.Steps.{behind-none, marks-length, records-marks, end-marks, table-byte, table-separator, records-byte, end-byte, records-separator, end-separator, Room, room-start, room-byte, room-separator, room-fault}
 
 -- ---- records
 
@@ -132,13 +132,11 @@ byte-stored t₀ {t₁} {t₂} l o p d q =
 
 -- ---- the whole list
 
--- What the rest of the tokens comes to, stored from here, gives the whole, in the byte buffer and in the table; and there is room for
--- a value and a byte for each byte of the input that is left.
+-- what the rest of the tokens comes to, stored from here, gives the whole, in the byte buffer and in the table
 pub record Stored (b₀ b₁ t₀ t₁ : List ℕ) (whole : List Token) (l : Listing) (rest : List Token) (left room : ℕ) : Type 0 where
   pub bytes : Goes b₀ b₁ 0 (end l) (bytesOf whole) (bytesOf rest)
   pub table : Goes t₀ t₁ 0 (l .records * 3) (tableOf whole) (tableRest l rest)
-  pub many : values l + left ≤ room
-  pub long : end l + left ≤ room
+  pub enough : Room l left room
 
 pub stored-start : {l : Listing} (b t : List ℕ) (ts : List Token) (left room : ℕ) → l ≡ fresh → length (bytesOf ts) ≤ length b → length (tableOf ts) ≤ length t
     → left ≤ room → Stored b b t t ts l ts left room
@@ -148,8 +146,7 @@ stored-start b t ts left room d p q h =
     (record {
       bytes = record { stored = refl; fits = omega arith; as-long = refl };
       table = record { stored = refl; fits = omega arith; as-long = refl };
-      many = omega arith;
-      long = omega arith;
+      enough = room-start left room h;
     })
 
 module _ {b₀ b₁ t₀ t₁ : List ℕ} {whole : List Token} (l : Listing) {ts : List Token} {left room : ℕ} (g : Stored b₀ b₁ t₀ t₁ whole l ts left room) where
@@ -176,8 +173,7 @@ module _ {b₀ b₁ t₀ t₁ : List ℕ} {whole : List Token} (l : Listing) {ts
         (record {
           bytes = goes-step (b ∷ []) (bytesOf rest) (g .bytes) bytes-first p (end-byte l);
           table = goes-step (byteNumbers l) (tableRest (behindByte l) rest) (g .table) table-first q (omega (arith, records-byte l));
-          many = omega (arith, g .many, values-byte l);
-          long = omega (arith, g .long, end-byte l);
+          enough = room-byte l (g .enough) h;
         })
 
   -- a separator
@@ -196,8 +192,7 @@ module _ {b₀ b₁ t₀ t₁ : List ℕ} {whole : List Token} (l : Listing) {ts
         (record {
           bytes = goes-step [] (bytesOf rest) (g .bytes) (ap bytesOf e) refl (omega (arith, end-separator l kind));
           table = goes-step (separatorNumbers l kind) (tableRest (behindSeparator l kind) rest) (g .table) numbers-first q (omega (arith, records-separator l kind));
-          many = omega (arith, g .many, values-separator l kind);
-          long = omega (arith, g .long, end-separator l kind);
+          enough = room-separator l (g .enough) h kind;
         })
 
   -- a stray release character stores nothing
@@ -206,8 +201,7 @@ module _ {b₀ b₁ t₀ t₁ : List ℕ} {whole : List Token} (l : Listing) {ts
   stored-fault {place} {rest} e h = record {
     bytes = subst (λ (bs : List ℕ). Goes b₀ b₁ 0 (end l) (bytesOf whole) bs) (ap bytesOf e) (g .bytes);
     table = subst (λ (ns : List ℕ). Goes t₀ t₁ 0 (l .records * 3) (tableOf whole) ns) (ap (tableRest l) e) (g .table);
-    many = omega (arith, g .many);
-    long = omega (arith, g .long);
+    enough = room-fault l (g .enough) h;
   }
 
   -- at the end all is stored

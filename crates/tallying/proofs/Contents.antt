@@ -14,13 +14,14 @@ use Rattle.reading.specs.Tokens.{Token, byte, separator, fault, ends, segments}
 use Rattle.reading.specs.Values.{byteOf, bytesOf, endedBy, endsInside}
 use Rattle.reading.specs.Trimming.{contentsOf}
 use Rattle.reading.specs.Spelling.{Bytes, SegmentList, spellByte, spellValue, spellElement, spellSegment, spell}
-use Rattle.operations.specs.ValueList.{Item, listElement, listSegment, listOf, listBytes}
+use Rattle.operations.specs.ValueList.{Item, listElement, listSegment, listOf, listBytes, tableFrom, listTable}
 use Rattle.spelling.specs.Bodies.{shapedSegment, Shaped}
 use Rattle.emission.specs.Emission.{letOut, emitted}
 use Rattle.emission.proofs.Cases.{known}
 use Rattle.emission.proofs.Spelled.{spelled-emitted}
 use Rattle.tallying.specs.Marks.{marks, readMarks, itemOut, itemNext, itemGrow, itemsFrom}
-use Rattle.tallying.proofs.Marks.{read-byte, read-mark}
+use Rattle.tallying.specs.Tally.{tableRest, tableOf}
+use Rattle.tallying.proofs.Marks.{read-byte, read-mark, table-read}
 
 abbrev item : ℕ → Bytes → Item
 item kind value = record { kind = kind; value = value }
@@ -154,3 +155,12 @@ contents-bytes ts h a s = ap listBytes (contents-items ts h a s) ∙ held ts h a
         → listBytes (itemsFrom (item 0 []) false (emitted marks 0 0 ts)) ≡ bytesOf ts
     held [] h a = refl
     held (t ∷ ts) h a = tokens-hold (t ∷ ts) (not-false (endedBy 0 (t ∷ ts)) h) a 0 0 (item 0 [])
+
+-- ---- the table of the values
+
+-- the table of the contents' values is the table of the tokens
+pub contents-table : (ts : List Token) → endsInside ts ≡ false → all known ts ≡ true → Shaped (map contentsOf (segments ts))
+    → listTable (listOf (map contentsOf (segments ts))) ≡ tableOf ts
+unfolding listTable tableOf tableRest
+contents-table ts h a s =
+    ap (tableFrom 0) (contents-items ts h a s) ∙ table-read 0 (item 0 []) false (emitted marks 0 0 ts)

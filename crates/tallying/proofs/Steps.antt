@@ -143,58 +143,62 @@ module _ (l : Listing) where
     pub values-separator : values (behindSeparator l kind) ≤ values l + 1
     values-separator = by-separator (λ m ns. values m ≤ values l + 1) (omega arith) (omega arith) (omega arith)
 
--- ---- the whole tally
+-- ---- room
 
--- all is what is listed and what follows, and there is room for a value and a byte for each byte that is left
-pub record Tallied (whole : List Token) (l : Listing) (rest : List Token) (left room : ℕ) : Type 0 where
-  pub numbers : length (tableOf whole) ≡ 3 * l .records + length (tableRest l rest)
-  pub bytes : length (bytesOf whole) ≡ end l + length (bytesOf rest)
+-- there is room for what is listed or held back, and for a value and a byte more for each byte of the input that is left
+pub record Room (l : Listing) (left room : ℕ) : Type 0 where
   pub many : values l + left ≤ room
   pub long : end l + left ≤ room
 
+pub room-start : (left room : ℕ) → left ≤ room → Room fresh left room
+room-start left room h = record { many = omega arith; long = omega arith }
+
+module _ (l : Listing) {left room less : ℕ} (r : Room l left room) (h : less < left) where
+  pub room-byte : Room (behindByte l) less room
+  room-byte = record { many = omega (arith, r .many, values-byte l); long = omega (arith, r .long, end-byte l) }
+
+  pub room-separator : (kind : ℕ) → Room (behindSeparator l kind) less room
+  room-separator kind = record { many = omega (arith, r .many, values-separator l kind); long = omega (arith, r .long, end-separator l kind) }
+
+  pub room-fault : Room l less room
+  room-fault = record { many = omega (arith, r .many); long = omega (arith, r .long) }
+
+-- ---- the whole tally
+
+-- all is what is listed and what follows
+pub record Tallied (whole : List Token) (l : Listing) (rest : List Token) (left room : ℕ) : Type 0 where
+  pub numbers : length (tableOf whole) ≡ 3 * l .records + length (tableRest l rest)
+  pub bytes : length (bytesOf whole) ≡ end l + length (bytesOf rest)
+  pub enough : Room l left room
+
 pub tallied-start : (ts : List Token) (left room : ℕ) → left ≤ room → Tallied ts fresh ts left room
 unfolding tableOf
-tallied-start ts left room h = record { numbers = omega arith; bytes = omega arith; many = omega arith; long = omega arith }
+tallied-start ts left room h = record { numbers = omega arith; bytes = omega arith; enough = room-start left room h }
 
 module _ {whole : List Token} (l : Listing) {ts : List Token} {left room : ℕ} (t : Tallied whole l ts left room)
     {m : Listing} {rest : List Token} {less : ℕ} (h : less < left) where
+  -- what a token puts out, and how far the end of the open value moves, is what the rest lacks
+  moved : (n : Listing) (front : List ℕ) (bytes : ℕ) → m ≡ n → tableRest l ts ≡ front ++ tableRest n rest → 3 * n .records ≡ 3 * l .records + length front
+      → length (bytesOf ts) ≡ bytes + length (bytesOf rest) → end n ≡ end l + bytes → Room n less room → Tallied whole m rest less room
+  moved n front bytes d w r b e enough =
+      subst (λ (x : Listing). Tallied whole x rest less room) (sym d)
+      (record {
+        numbers = omega (arith, t .numbers, ap length w, length-append front (tableRest n rest), r);
+        bytes = omega (arith, t .bytes, b, e);
+        enough = enough;
+      })
+
   pub tallied-byte : {b from place : ℕ} → ts ≡ byte b from place ∷ rest → m ≡ behindByte l → Tallied whole m rest less room
   unfolding bytesOf byteOf gather
   tallied-byte {b} {from} {place} e d =
-      subst (λ (x : Listing). Tallied whole x rest less room) (sym d)
-      (record {
-        numbers =
-            omega (
-              arith,
-              t .numbers,
-              ap (λ (us : List Token). length (tableRest l us)) e,
-              ap length (table-byte l rest b from place),
-              length-append (byteNumbers l) (tableRest (behindByte l) rest),
-              records-byte l,
-            );
-        bytes = omega (arith, t .bytes, ap (λ (us : List Token). length (bytesOf us)) e, end-byte l);
-        many = omega (arith, t .many, values-byte l);
-        long = omega (arith, t .long, end-byte l);
-      })
+      moved (behindByte l) (byteNumbers l) 1 d (ap (tableRest l) e ∙ table-byte l rest b from place) (records-byte l)
+      (omega (arith, ap (λ (us : List Token). length (bytesOf us)) e)) (end-byte l) (room-byte l (t .enough) h)
 
   pub tallied-separator : {kind place : ℕ} → ts ≡ separator kind place ∷ rest → m ≡ behindSeparator l kind → Tallied whole m rest less room
   unfolding bytesOf byteOf gather
   tallied-separator {kind} {place} e d =
-      subst (λ (x : Listing). Tallied whole x rest less room) (sym d)
-      (record {
-        numbers =
-            omega (
-              arith,
-              t .numbers,
-              ap (λ (us : List Token). length (tableRest l us)) e,
-              ap length (table-separator l rest kind place),
-              length-append (separatorNumbers l kind) (tableRest (behindSeparator l kind) rest),
-              records-separator l kind,
-            );
-        bytes = omega (arith, t .bytes, ap (λ (us : List Token). length (bytesOf us)) e, end-separator l kind);
-        many = omega (arith, t .many, values-separator l kind);
-        long = omega (arith, t .long, end-separator l kind);
-      })
+      moved (behindSeparator l kind) (separatorNumbers l kind) 0 d (ap (tableRest l) e ∙ table-separator l rest kind place) (records-separator l kind)
+      (omega (arith, ap (λ (us : List Token). length (bytesOf us)) e)) (omega (arith, end-separator l kind)) (room-separator l (t .enough) h kind)
 
 -- a stray release character changes nothing
 pub tallied-fault : {whole : List Token} (l : Listing) {ts : List Token} {left room : ℕ} → Tallied whole l ts left room
@@ -203,8 +207,7 @@ unfolding tableRest emitted bytesOf byteOf gather
 tallied-fault l t h e = record {
   numbers = t .numbers ∙ ap (λ (us : List Token). 3 * l .records + length (tableRest l us)) e;
   bytes = t .bytes ∙ ap (λ (us : List Token). end l + length (bytesOf us)) e;
-  many = omega (arith, t .many);
-  long = omega (arith, t .long);
+  enough = room-fault l (t .enough) h;
 }
 
 -- at the end all is listed

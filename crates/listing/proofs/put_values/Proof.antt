@@ -4,7 +4,7 @@ use Prim.Native.Nat.{ℕ, _-_, _≤_}
 use native.Mathlib.Omega.{arith}
 use lib.ListN.{length}
 use borrow.Author.Needs.{needs}
-use Rattle.reading.specs.Tokens.{tokensAt}
+use Rattle.reading.proofs.Steps.{tokensAt}
 use Rattle.scanner.proofs.Lexing.{lexes-as}
 use Rattle.tallying.specs.Tally.{values, end}
 use Rattle.listing.proofs.Storing.{Stored, stored-start, byte-fits, records-fit, stored-byte, separator-fits, stored-separator, stored-fault, stored-end}
@@ -39,8 +39,8 @@ put-value-byte-requires c κs =
     let l = lexes-as (c .before .before .before .before .before .before .before .before .before .before .before .args .c) (c .before .before .before .before .before .before .before .before .before .before .before .args .s .now) (c .before .before .before .before .before .before .loop .at) (c .before .before .before .before .before .lex .ensures) (c .before .before .before .byte .given .1) in
     let g = c .before .before .before .before .before .before .loop .inv in
     let short = c .before .before .before .before .before .before .before .before .before .before .before .pre .0 in
-    let many : values (c .before .before .before .before .before .before .loop .l) ≤ 32000 = omega (arith, g .many) in
-    let long : end (c .before .before .before .before .before .before .loop .l) ≤ 32000 = omega (arith, g .long) in
+    let many : values (c .before .before .before .before .before .before .loop .l) ≤ 32000 = omega (arith, g .enough .many) in
+    let long : end (c .before .before .before .before .before .before .loop .l) ≤ 32000 = omega (arith, g .enough .long) in
     (byte-fits (c .before .before .before .before .before .before .loop .l) g (l .0), records-fit (c .before .before .before .before .before .before .loop .l) g (l .0), many, long)
 
 loop-less : tie.Need-loop-less Inv-loop μ-loop
@@ -60,8 +60,8 @@ put-separator-requires c κs =
     let l = lexes-as (c .before .before .before .before .before .before .before .before .before .before .args .c) (c .before .before .before .before .before .before .before .before .before .before .args .s .now) (c .before .before .before .before .before .loop .at) (c .before .before .before .before .lex .ensures) (c .before .before .kind .given .1) in
     let g = c .before .before .before .before .before .loop .inv in
     let short = c .before .before .before .before .before .before .before .before .before .before .pre .0 in
-    let many : values (c .before .before .before .before .before .loop .l) ≤ 32000 = omega (arith, g .many) in
-    let long : end (c .before .before .before .before .before .loop .l) ≤ 32000 = omega (arith, g .long) in
+    let many : values (c .before .before .before .before .before .loop .l) ≤ 32000 = omega (arith, g .enough .many) in
+    let long : end (c .before .before .before .before .before .loop .l) ≤ 32000 = omega (arith, g .enough .long) in
     (separator-fits (c .before .before .before .before .before .loop .l) g (l .0), many, long)
 
 loop-less-2 : tie.Need-loop-less-2 Inv-loop μ-loop

@@ -5,7 +5,7 @@ use mathlib.Core.Path.{_≡_, refl, sym, ap, subst, _∙_}
 use native.Mathlib.Omega.{arith}
 use lib.ListN.{length}
 use borrow.Author.Needs.{needs}
-use Rattle.reading.specs.Tokens.{tokensAt}
+use Rattle.reading.proofs.Steps.{tokensAt}
 use Rattle.scanner.proofs.Lexing.{lexes-as}
 use Rattle.tallying.specs.declared.Listing.{Listing}
 use Rattle.tallying.specs.Tally.{fresh}
