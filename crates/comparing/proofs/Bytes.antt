@@ -15,15 +15,15 @@ use Rattle.lists.proofs.Texts.{same-eq}
 
 -- ---- bits
 
--- the differing bits of two numbers are none exactly where the numbers are the same
+-- two numbers that differ in no bit are the same
 no-difference : (x y : ℕ) → bitXor x y ≡ 0 → x ≡ y
 no-difference x y e = let sum = xor-add-and x y in let l = and-le-l x y in let r = and-le-r x y in omega arith
 
--- bits gathered from two numbers are none exactly where neither has any
+-- where no bit is gathered from two numbers, neither has any
 neither : (d x : ℕ) → bitOr d x ≡ 0 → (d ≡ 0) × (x ≡ 0)
 neither d x e = let sum = or-add-and d x in let l = and-le-l d x in let r = and-le-r d x in (omega arith, omega arith)
 
--- a byte's difference gathered: none yet, and none here
+-- what is gathered is none exactly where it was none before and the two bytes are the same
 pub gathered : (d x y : ℕ) → (eqb d 0 && eqb x y) ≡ eqb (bitOr d (bitXor x y)) 0
 gathered d x y = step (eqb d 0) refl (eqb x y) refl
   where

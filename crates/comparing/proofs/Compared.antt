@@ -14,14 +14,14 @@ use Rattle.lists.specs.Lists.{if_then_else_, same, maybe}
 use Rattle.refusals.specs.declared.Fault.the-variants.{NormalTooLong, BufferShort}
 use Rattle.refusals.specs.declared.Refusal.{Refusal}
 use Rattle.refusals.specs.Refusals.{met, placeIf, lowest, orElse, answering}
-use Rattle.refusals.proofs.Order.{number-tells}
 use Rattle.refusals.proofs.Stages.{met-none, answering-append, answering-none}
 use Rattle.verdict.specs.Contents.{normalForm}
 use Rattle.verdict.specs.Places.{isOver, normalTooLong}
 use Rattle.verdict.specs.Stages.{laterStages, stages, refusalOf}
 use Rattle.answers.specs.declared.Compared.{Compared}
 use Rattle.answers.specs.declared.Compared.the-variants.{Same, Different, FirstRefused, SecondRefused}
-use Rattle.answers.specs.Answers.{Answer, given, refusedInput, toldCompared}
+use Rattle.answers.specs.Answers.{Answer, given, refused, refusedInput, toldCompared}
+use Rattle.judging.proofs.Told.{refused-tells}
 use Rattle.operations.specs.Judge.{shortFor, storedIn, unlessRefused, normaliseRefusal, normaliseBuffer}
 use Rattle.operations.specs.Compare.{isAccepted, areSame, compare}
 
@@ -154,10 +154,9 @@ abbrev value : ℕ → Answer → ℕ
 value k a = getD (a .values) k 0
 
 -- what is said of a refusal and its input determines the refusal
-refused-tells : (which : ℕ) (r q : Refusal) → refusedInput which r ≡ refusedInput which q → r ≡ q
-unfolding refusedInput
-refused-tells which r q e =
-    ap₂ (λ f p. record { fault = f; place = p }) (number-tells (r .fault) (q .fault) (ap (λ (a : Answer). a .number) e)) (ap (value 1) e)
+refusal-tells : (which : ℕ) (r q : Refusal) → refusedInput which r ≡ refusedInput which q → r ≡ q
+unfolding refused refusedInput
+refusal-tells which r q e = refused-tells r q (ap (λ (a : Answer). record { number = a .number; values = drop 1 (a .values) }) e)
 
 pub compared-tells : (a b : Compared) → toldCompared a ≡ toldCompared b → a ≡ b
 unfolding toldCompared given refusedInput
@@ -171,9 +170,9 @@ compared-tells Different (FirstRefused q) e = absurd (omega (arith, ap values e)
 compared-tells Different (SecondRefused q) e = absurd (omega (arith, ap values e))
 compared-tells (FirstRefused r) Same e = absurd (omega (arith, ap values e))
 compared-tells (FirstRefused r) Different e = absurd (omega (arith, ap values e))
-compared-tells (FirstRefused r) (FirstRefused q) e = ap FirstRefused (refused-tells 1 r q e)
+compared-tells (FirstRefused r) (FirstRefused q) e = ap FirstRefused (refusal-tells 1 r q e)
 compared-tells (FirstRefused r) (SecondRefused q) e = absurd (omega (arith, ap (value 0) e))
 compared-tells (SecondRefused r) Same e = absurd (omega (arith, ap values e))
 compared-tells (SecondRefused r) Different e = absurd (omega (arith, ap values e))
 compared-tells (SecondRefused r) (FirstRefused q) e = absurd (omega (arith, ap (value 0) e))
-compared-tells (SecondRefused r) (SecondRefused q) e = ap SecondRefused (refused-tells 2 r q e)
+compared-tells (SecondRefused r) (SecondRefused q) e = ap SecondRefused (refusal-tells 2 r q e)

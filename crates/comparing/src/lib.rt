@@ -1,6 +1,7 @@
 // Compare and Keep (paper 01, "Operations"). Compare promises, for any bytes, the answer that
 // `operations` gives; Keep which of the two slices it hands back and which part of it. Two
-// interchanges that are accepted are compared by their normal forms, which two arrays on the stack take.
+// interchanges that are accepted are compared by their normal forms, for which two arrays take
+// 64,000 bytes of stack.
 ghost use mathlib.Core.Path.{_≡_};
 ghost use mathlib.Core.Option.{none};
 ghost use Prim.Native.Nat.{_≤_};
@@ -16,7 +17,7 @@ use answers::Compared;
 use answers::Interchange;
 use answers::Judged;
 
-// The first `count` bytes of both are the same. No byte ends the loop early: differences are gathered.
+// The first `count` bytes of both are the same. No byte ends the loop: the bits that differ are gathered.
 fn equal(a: &[u8], b: &[u8], count: usize) -> bool
     requires { ⌜ (count ≤ length (now a)) × (count ≤ length (now b)) ⌝ }
     ensures { λ r. ⌜ r ≡ same (take count (now (a .entry))) (take count (now (b .entry))) ⌝ }
@@ -68,6 +69,7 @@ fn compare_second(first: &[u8], second: &[u8], i: Interchange) -> Compared
     }
 }
 
+// "1st is judged first".
 pub fn compare(first: &[u8], second: &[u8]) -> Compared
     ensures { λ r. ⌜ toldCompared r ≡ compareOf (now (first .entry)) (now (second .entry)) ⌝ }
 {
@@ -77,6 +79,7 @@ pub fn compare(first: &[u8], second: &[u8]) -> Compared
     }
 }
 
+// Both are accepted, and their normal forms are equal.
 fn are_same(first: &[u8], second: &[u8]) -> bool
     ensures { λ r. ⌜ r ≡ areSame (now (first .entry)) (now (second .entry)) ⌝ }
 {
@@ -88,6 +91,7 @@ fn are_same(first: &[u8], second: &[u8]) -> bool
     }
 }
 
+// The shorter of two that are the same, the first where equally long; else no byte of the first.
 pub fn keep<'a>(first: &'a [u8], second: &'a [u8]) -> &'a [u8]
     ensures { λ r. ⌜ Handed (keepOf (now (first .entry)) (now (second .entry))) (first .entry) (second .entry) r ⌝ }
 {
