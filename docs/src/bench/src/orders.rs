@@ -1,6 +1,6 @@
 //! Seeded interchanges of orders, each accepted: what a mailbox holds on a
 //! plain day. Most have the standard's service characters, some others; a few
-//! values have released characters, and a few segments have ends to trim.
+//! values have released characters. One sender in four leaves empty ends.
 
 use second::generator::{Draft, Random};
 use second::level::Level;
@@ -97,16 +97,21 @@ fn order_segment(random: &mut Random, line: usize, released: bool) -> Segment {
 struct Maker<'a> {
     random: &'a mut Random,
     released: bool,
+    pads: bool,
     segments: Vec<Segment>,
     bytes: usize,
 }
 
 impl Maker<'_> {
-    /// Adds the segment, now and then with empty ends.
-    fn put(&mut self, mut segment: Segment, may_pad: bool) {
-        if may_pad && self.random.chance(4) {
+    /// Adds a segment of the order, now and then with empty ends.
+    fn put_padded(&mut self, mut segment: Segment) {
+        if self.pads && self.random.chance(15) {
             segment.extend([value(""), element(":")]);
         }
+        self.put(segment);
+    }
+
+    fn put(&mut self, segment: Segment) {
         self.bytes += segment.iter().flatten().map(|value| value.len() + 1).sum::<usize>();
         self.segments.push(segment);
     }
@@ -115,31 +120,28 @@ impl Maker<'_> {
     fn message(&mut self, target: usize) {
         let reference = figures(self.random, 8);
         let first = self.segments.len();
-        self.put(vec![value("UNH"), value(&reference), element("ORDERS:D:96A:UN")], false);
+        self.put(vec![value("UNH"), value(&reference), element("ORDERS:D:96A:UN")]);
         let order = vec![value("BGM"), value("220"), value(figures(self.random, 9)), value("9")];
-        self.put(order, true);
+        self.put_padded(order);
         while self.bytes + 60 < target {
             let line = self.segments.len() - first;
             let segment = order_segment(self.random, line, self.released);
-            self.put(segment, true);
+            self.put_padded(segment);
         }
         let count = self.segments.len() - first + 1;
-        self.put(vec![value("UNT"), value(count.to_string()), value(&reference)], false);
+        self.put(vec![value("UNT"), value(count.to_string()), value(&reference)]);
     }
 
     fn interchange(&mut self, target: usize) {
         let reference = figures(self.random, 10);
-        self.put(
-            vec![
-                value("UNB"),
-                element("UNOA:2"),
-                element("5790000000012:14"),
-                element("4012345000009:14"),
-                element("261115:0842"),
-                value(&reference),
-            ],
-            false,
-        );
+        self.put(vec![
+            value("UNB"),
+            element("UNOA:2"),
+            element("5790000000012:14"),
+            element("4012345000009:14"),
+            element("261115:0842"),
+            value(&reference),
+        ]);
         let messages = self.random.between(1, 4);
         if self.random.chance(15) {
             self.group(messages, target);
@@ -147,16 +149,16 @@ impl Maker<'_> {
             (1..=messages).for_each(|number| self.message(target * number / messages));
         }
         let count = if self.segments[1][0][0] == b"UNG" { 1 } else { messages };
-        self.put(vec![value("UNZ"), value(count.to_string()), value(&reference)], false);
+        self.put(vec![value("UNZ"), value(count.to_string()), value(&reference)]);
     }
 
     fn group(&mut self, messages: usize, target: usize) {
         let reference = figures(self.random, 6);
         let mut header = vec![value("UNG"), value("ORDERS"), value("5790000000012")];
         header.extend([value("4012345000009"), element("261115:0842"), value(&reference)]);
-        self.put(header, false);
+        self.put(header);
         (1..=messages).for_each(|number| self.message(target * number / messages));
-        self.put(vec![value("UNE"), value(messages.to_string()), value(&reference)], false);
+        self.put(vec![value("UNE"), value(messages.to_string()), value(&reference)]);
     }
 }
 
@@ -169,7 +171,8 @@ pub fn order(random: &mut Random, target: usize) -> Vec<u8> {
         _ => (INFORMATION_SEPARATORS, false),
     };
     let released = characters.release.is_some();
-    let mut maker = Maker { random, released, segments: Vec::new(), bytes: 0 };
+    let pads = random.chance(25);
+    let mut maker = Maker { random, released, pads, segments: Vec::new(), bytes: 0 };
     maker.interchange(target);
     Draft { characters, advice, level: Level::A, segments: maker.segments }.spelled()
 }
