@@ -19,7 +19,7 @@ use Rattle.measuring.specs.declared.Measure.{Measure}
 use Rattle.measuring.specs.Measure.{behindSeparator}
 use Rattle.operations.specs.ValueList.{Item, closed, segmentsListed, trimList}
 use Rattle.trimming.specs.Kinds.{firstKind}
-use Rattle.composing.specs.Composing.{endText, valueText, behindValue, behindItem, itemText, composed, adviceFront, composedText}
+use Rattle.composing.specs.Composing.{firstMeasure, endText, valueText, behindValue, behindItem, itemText, composed, adviceFront, composedText}
 use Rattle.composing.proofs.Tokens.{valueByte, endKind, itemTokens, tokensBehind, item-tokens, contents-listed, tokens-whole, tokens-known}
 
 module _ (c : Characters) where
@@ -80,9 +80,8 @@ module _ (c : Characters) where
       → composedText c items ≡ interchange c (trimList (segmentsListed items))
   unfolding composedText adviceFront interchange adviceOf spelledOut emitted endKind
   composed-written items h =
-      let start : Measure = record { total = 8; elements = 0; components = 0 } in
       ap (λ (l : List ℕ). adviceFront c ++ l)
-      (sym (composed-emitted start items)
+      (sym (composed-emitted firstMeasure items)
       ∙ ap (λ (kind : ℕ). emitted c 0 0 (separator (endKind kind) 0 ∷ itemTokens items)) h
       ∙ ap (λ (l : List ℕ). c .terminator ∷ l)
       (sym (spelled-emitted c (itemTokens items) (tokens-whole items) (tokens-known items)) ∙ ap (spell c) (contents-listed items)))

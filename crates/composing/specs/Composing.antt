@@ -2,7 +2,7 @@
 -- it, and goes where what it would separate is empty to the end. Assumes nothing.
 use Prim.Native.Nat.{ℕ, _+_}
 use mathlib.Core.List.{List, [], _∷_, _++_}
-use lib.Dec.{leb}
+use lib.Dec.{leb, ltb}
 use lib.ListN.{length}
 use Rattle.lists.specs.Lists.{if_then_else_, text}
 use Rattle.characters.specs.declared.Characters.{Characters}
@@ -10,7 +10,14 @@ use Rattle.reading.specs.Spelling.{Bytes, spellValue}
 use Rattle.emission.specs.Emission.{letOut}
 use Rattle.measuring.specs.declared.Measure.{Measure}
 use Rattle.measuring.specs.Measure.{behindSeparator}
-use Rattle.operations.specs.ValueList.{Item}
+use Rattle.operations.specs.ValueList.{Item, valueIn}
+use Rattle.value_lists.specs.declared.Record.{Record}
+use Rattle.value_lists.specs.Records.{entryOf}
+
+-- The advice ends with the terminator, which the first record, a new segment, stores as it would end a segment before it: so
+-- the records are stored from the advice's last byte on.
+abbrev pub firstMeasure : Measure
+firstMeasure = record { total = 8; elements = 0; components = 0 }
 
 module _ (c : Characters) where
   -- what the kind of a record stores at once: a new segment ends the one before it
@@ -41,11 +48,18 @@ module _ (c : Characters) where
   composed m [] = c .terminator ∷ []
   composed m (l ∷ ls) = itemText m l ++ composed (behindItem m l) ls
 
-  -- The advice ends with the terminator, which the first record, a new segment, stores as it would end a segment before it: so
-  -- the records are stored from the advice's last byte on.
+  -- the advice without its last byte
   unfoldable pub adviceFront : List ℕ
   adviceFront = text "UNA" ++ c .component ∷ c .element ∷ c .mark ∷ c .release ∷ c .reserved ∷ []
 
   -- the text of a value list
   unfoldable pub composedText : List Item → List ℕ
-  composedText items = adviceFront ++ composed (record { total = 8; elements = 0; components = 0 }) items
+  composedText items = adviceFront ++ composed firstMeasure items
+
+-- a record that was read, with its value
+abbrev pub itemOf : Bytes → Record → Item
+itemOf bytes r = record { kind = r .kind; value = valueIn bytes (entryOf r) }
+
+-- a length, 32,001 standing for any above 32,000
+unfoldable pub capped : ℕ → ℕ
+capped n = if ltb 32000 n then 32001 else n
