@@ -106,17 +106,17 @@ fn put_value(buffer: &mut [u8], at: usize, c: Characters, value: &[u8]) -> usize
 }
 
 // Stores what is held back and a value behind it; an empty value leaves it held back.
-fn put_held(buffer: &mut [u8], m: Measure, c: Characters, value: &[u8]) -> Measure
-    requires { ⌜ m .total + length (valueText c m (now value)) ≤ length (now buffer) ⌝ }
-    ensures { λ r. ⌜ (now (buffer .exit) ≡ sets (now (buffer .entry)) (m .total) (valueText c m (now (value .entry)))) × (r ≡ behindValue c m (now (value .entry))) ⌝ }
+fn put_held(buffer: &mut [u8], kept: Measure, c: Characters, value: &[u8]) -> Measure
+    requires { ⌜ kept .total + length (valueText c kept (now value)) ≤ length (now buffer) ⌝ }
+    ensures { λ r. ⌜ (now (buffer .exit) ≡ sets (now (buffer .entry)) (kept .total) (valueText c kept (now (value .entry)))) × (r ≡ behindValue c kept (now (value .entry))) ⌝ }
 {
     if value.len() == 0 {
-        return m;
+        return kept;
     }
-    let components = m.total + m.elements;
-    let at = components + m.components;
-    fill(buffer, m.total, m.elements, c.element);
-    fill(buffer, components, m.components, c.component);
+    let components = kept.total + kept.elements;
+    let at = components + kept.components;
+    fill(buffer, kept.total, kept.elements, c.element);
+    fill(buffer, components, kept.components, c.component);
     Measure {
         total: put_value(buffer, at, c, value),
         elements: 0,
