@@ -1,0 +1,4 @@
+pub mod Tokens
+pub mod Composed
+pub mod Lengths
+pub mod Stored

@@ -1,0 +1,143 @@
+// The checks of a value list that is lent to Write (paper 01, refusals 15 and 16): a byte buffer of
+// values and a table of three numbers a value. It promises, for each, the refusal that answers: that
+// of the lowest record which fails. What is written of a list that passes is left to others.
+ghost use mathlib.Core.Path.{_≡_};
+ghost use mathlib.Core.Bool.{true};
+ghost use Prim.Native.Nat.{_+_, _≤_};
+ghost use lib.ListN.{length};
+ghost use Rattle.lists.specs.Lists.{any};
+ghost use Rattle.characters.specs.Characters.{isService};
+ghost use Rattle.refusals.specs.declared.Fault.the-variants.{BadList, NeedsRelease};
+ghost use Rattle.refusals.specs.Refusals.{met, lowest, outcome};
+ghost use Rattle.operations.specs.ValueList.{entries, valueIn};
+ghost use Rattle.operations.specs.Write.{numbersWhere, badEntry, badList, lacksRelease};
+ghost use Rattle.value_lists.specs.Records.{entryOf, recordAt, firstRecord, wellListed};
+use characters::Characters;
+use refusals::Fault;
+use refusals::Outcome;
+use refusals::Refusal;
+
+fn failed(fault: Fault, place: usize) -> Outcome
+    ensures { λ r. ⌜ r ≡ Outcome.Failed (record { fault = fault; place = place }) ⌝ }
+{
+    Outcome::Failed(Refusal { fault, place })
+}
+
+// ---- records
+
+// Three numbers of a table: the kind, the start and the length of a value.
+pub struct Record {
+    pub kind: u32,
+    pub start: u32,
+    pub size: u32,
+}
+
+// The record that begins at a place of the table.
+pub fn record_at(table: &[u32], at: usize) -> Record
+    requires { ⌜ at + 3 ≤ length (now table) ⌝ }
+    ensures { λ r. ⌜ entryOf r ≡ recordAt (now (table .entry)) at ⌝ }
+{
+    Record {
+        kind: table[at],
+        start: table[at + 1],
+        size: table[at + 2],
+    }
+}
+
+// The value of a record.
+pub fn value_of(bytes: &[u8], r: Record) -> &[u8]
+    requires { ⌜ r .start + r .size ≤ length (now bytes) ⌝ }
+    ensures { λ value. ⌜ now value ≡ valueIn (now (bytes .entry)) (entryOf r) ⌝ }
+{
+    let start = r.start as usize;
+    let end = start + r.size as usize;
+    &bytes[start..end]
+}
+
+// ---- 15
+
+// The kind is above 2, or the value does not end within the bytes.
+fn is_bad(bytes: &[u8], r: Record) -> bool
+    ensures { λ bad. ⌜ bad ≡ badEntry (now (bytes .entry)) (entryOf r) ⌝ }
+{
+    if 2 < r.kind {
+        return true;
+    }
+    bytes.len() < r.start as usize + r.size as usize
+}
+
+fn check_records(bytes: &[u8], table: &[u32]) -> Outcome
+    ensures { λ r. ⌜ r ≡ outcome (firstRecord BadList (badEntry (now (bytes .entry))) 0 (entries (now (table .entry)))) ⌝ }
+{
+    let mut at = 0;
+    let mut n = 0;
+    while 2 < table.len() - at {
+        if is_bad(bytes, record_at(table, at)) {
+            return failed(Fault::BadList, n);
+        }
+        at += 3;
+        n += 1;
+    }
+    Outcome::Passed
+}
+
+// What refusal 15 comes to.
+pub fn check_list(bytes: &[u8], table: &[u32]) -> Outcome
+    ensures { λ r. ⌜ r ≡ outcome (lowest (met BadList (badList (now (bytes .entry)) (now (table .entry))))) ⌝ }
+{
+    if 96000 < table.len() {
+        return failed(Fault::BadList, 0);
+    }
+    if table.len() % 3 != 0 {
+        return failed(Fault::BadList, 0);
+    }
+    if table.len() == 0 {
+        return Outcome::Passed;
+    }
+    if table[0] != 0 {
+        return failed(Fault::BadList, 0);
+    }
+    check_records(bytes, table)
+}
+
+// ---- 16
+
+fn holds_service(c: Characters, value: &[u8]) -> bool
+    ensures { λ r. ⌜ r ≡ any (isService c) (now (value .entry)) ⌝ }
+{
+    let mut i = 0;
+    while i < value.len() {
+        if storing::is_service(c, value[i]) {
+            return true;
+        }
+        i += 1;
+    }
+    false
+}
+
+fn lacks_release(c: Characters, value: &[u8]) -> bool
+    ensures { λ r. ⌜ r ≡ lacksRelease c (now (value .entry)) ⌝ }
+{
+    if c.release != b' ' {
+        return false;
+    }
+    holds_service(c, value)
+}
+
+// What refusal 16 comes to, for a list that refusal 15 passed.
+pub fn check_release(c: Characters, bytes: &[u8], table: &[u32]) -> Outcome
+    requires { ⌜ wellListed (now bytes) (now table) ≡ true ⌝ }
+    ensures { λ r. ⌜ r ≡ outcome (lowest (met NeedsRelease (numbersWhere (λ e. lacksRelease c (valueIn (now (bytes .entry)) e)) 0 (entries (now (table .entry)))))) ⌝ }
+{
+    let mut at = 0;
+    let mut n = 0;
+    while 2 < table.len() - at {
+        let r = record_at(table, at);
+        if lacks_release(c, value_of(bytes, r)) {
+            return failed(Fault::NeedsRelease, n);
+        }
+        at += 3;
+        n += 1;
+    }
+    Outcome::Passed
+}
