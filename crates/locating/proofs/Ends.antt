@@ -1,15 +1,14 @@
 -- Where tokens do not end inside a segment, every value in them is ended; and what is found among them lies before their end.
 -- Assumes nothing.
-use Prim.Native.Nat.{ℕ, zero, suc, _-_, _+_, _≤_, _<_}
-use mathlib.Core.Path.{_≡_, refl, sym, ap, _∙_}
-use mathlib.Core.Bool.{Bool, true, false, not, false≢true}
+use Prim.Native.Nat.{ℕ, zero, suc}
+use mathlib.Core.Path.{_≡_, refl}
+use mathlib.Core.Bool.{Bool, true, false}
 use mathlib.Core.List.{List, [], _∷_}
-use native.Mathlib.Omega.{arith}
 use lib.Dec.{lit≤}
 use borrow.Author.Tests.{not-false}
 use Rattle.lists.specs.Lists.{if_then_else_, isEmpty, lastOr, through}
 use Rattle.lists.proofs.Pieces.{beyond}
-use Rattle.reading.specs.Tokens.{Token, ends, placeOf, start}
+use Rattle.reading.specs.Tokens.{Token, ends, placeOf}
 use Rattle.reading.specs.Values.{endPlace, endedBy, endsInside}
 use Rattle.elements.proofs.Elements.{ends-more}
 use Rattle.fields.specs.Reading.{valueEnd}

@@ -2,3 +2,4 @@ pub mod Ends
 pub mod Trimmed
 pub mod Values
 pub mod Locating
+pub mod Told

@@ -2,16 +2,16 @@
 -- Assumes nothing.
 use Prim.Native.Nat.{ℕ, _+_, _-_, _≤_}
 use mathlib.Core.Path.{_≡_, refl, sym, ap, ap₂, subst, _∙_}
-use mathlib.Core.List.{List, [], _∷_, map}
+use mathlib.Core.List.{List, [], _∷_}
 use mathlib.Core.Option.{Option, none, some}
 use native.Mathlib.Omega.{arith}
 use native.Mathlib.Nat.{zero-add, add-sub-cancel-left, min-eq-left}
 use lib.ListN.{length, take, drop, length-take, length-drop}
 use denote.Ref.{RefT, ptr, now}
-use Rattle.lists.specs.Lists.{through, at, onto, cut, trimEnd, maybe}
+use Rattle.lists.specs.Lists.{through, at, cut, trimEnd, maybe}
 use Rattle.lists.proofs.Pieces.{cut-first}
 use Rattle.characters.specs.declared.Characters.{Characters}
-use Rattle.characters.specs.Characters.{charactersOf, bodyStart}
+use Rattle.characters.specs.Characters.{bodyStart}
 use Rattle.refusals.specs.declared.Refusal.{Refusal}
 use Rattle.reading.specs.Tokens.{Token, ends, Segment, segments}
 use Rattle.reading.specs.Values.{Value, elementsOf}

@@ -11,7 +11,7 @@ use Rattle.lists.specs.Lists.{if_then_else_, isEmpty, all, through, at, onto, c
 use Rattle.lists.proofs.Texts.{if-true, if-false}
 use Rattle.lists.proofs.Pieces.{beyond, cut-first}
 use Rattle.lists.proofs.Ends.{trimEnd-map}
-use Rattle.reading.specs.Tokens.{Token, ends, Segment}
+use Rattle.reading.specs.Tokens.{Token, ends}
 use Rattle.reading.specs.Values.{Value, byteOf, bytesOf, valueOf, valuesOf, elementsOf}
 use Rattle.reading.specs.Trimming.{trimElement, isIdle, trimSegment, trimmed, valueAt}
 use Rattle.elements.specs.Elements.{elementFrom}

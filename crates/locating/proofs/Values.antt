@@ -14,12 +14,12 @@ use Rattle.lists.specs.Lists.{if_then_else_, isEmpty, through, gather}
 use Rattle.lists.proofs.Texts.{if-true, if-false}
 use Rattle.characters.specs.declared.Characters.{Characters}
 use Rattle.reading.specs.Tokens.{Token, ends, placeOf, start}
-use Rattle.reading.specs.Values.{Value, bytesOf, endPlace, valueOf, endsInside}
+use Rattle.reading.specs.Values.{Value, bytesOf, endPlace, valueOf}
 use Rattle.reading.specs.Trimming.{trimmed, valueAt}
 use Rattle.reading.proofs.Steps.{tokensAt, at-end}
 use Rattle.scanner.specs.Scan.{segmentAt}
 use Rattle.scanner.proofs.Segments.{stands}
-use Rattle.elements.specs.Elements.{elementFrom, ElementAt}
+use Rattle.elements.specs.Elements.{ElementAt}
 use Rattle.fields.specs.Reading.{valueEnd}
 use Rattle.placing.specs.Placing.{pieceFrom, holdsByte, ComponentAt, EndsAt}
 use Rattle.placing.proofs.Placing.{element-from}

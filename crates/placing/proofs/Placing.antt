@@ -6,7 +6,7 @@ use mathlib.Core.Bool.{Bool, true, false, not}
 use mathlib.Core.List.{List, [], _∷_}
 use native.Mathlib.Omega.{arith}
 use native.Mathlib.Numerals.{sub-one}
-use lib.ListN.{length, drop}
+use lib.ListN.{drop}
 use lib.Dec.{leb}
 use Rattle.lists.specs.Lists.{if_then_else_, isEmpty, through, onto, cut, gather}
 use Rattle.lists.proofs.Texts.{if-true, if-false}
