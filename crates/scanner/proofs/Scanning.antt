@@ -1,18 +1,26 @@
--- One step of `scanned`, for each token that the scanner can find. Assumes nothing.
+-- One step of `scanned`, for each token that the scanner can find; and what follows a segment that `scanned` sees end. Assumes nothing.
 use Prim.Native.Nat.{ℕ, _≤_, _<_}
-use mathlib.Core.Path.{_≡_, refl, sym, ap, _∙_}
-use mathlib.Core.List.{List}
+use mathlib.Core.Path.{_≡_, refl, sym, ap, _∙_, subst}
+use mathlib.Core.List.{List, [], _∷_}
+use mathlib.Core.Bool.{Bool, true, false}
 use native.Mathlib.Omega.{arith}
 use lib.Dec.{leb}
 use borrow.Author.Tests.{le-leb, lt-leb}
+use Rattle.lists.specs.Lists.{if_then_else_}
 use Rattle.lists.proofs.Texts.{if-true, if-false}
+use Rattle.lists.proofs.Pieces.{beyond}
 use Rattle.characters.specs.declared.Characters.{Characters}
-use Rattle.reading.specs.Tokens.{tokensAt}
+use Rattle.reading.specs.Tokens.{Token, byte, separator, fault, ends, tokensAt}
 use Rattle.scanner.specs.declared.Lexed.the-variants.{Byte, Separator, Stray, End}
-use Rattle.scanner.specs.Scan.{Scanning, ended, stray, unended, scanned}
+use Rattle.scanner.specs.declared.Scanned.{Scanned}
+use Rattle.scanner.specs.Scan.{Scanning, ended, stray, unended, scanned, Scans}
 use Rattle.scanner.proofs.Lexing.{Lexes}
 
 module _ (c : Characters) (s : List ℕ) (at : ℕ) where
+  -- what a match on the scan's answer shows
+  pub scans-as : {r answer : Scanned} → Scans c s at answer → answer ≡ r → Scans c s at r
+  scans-as h e = subst (λ q. Scans c s at q) e h
+
   pub scan-byte : {b place next : ℕ} → Lexes c s at (Byte b place next) → scanned (tokensAt c s at) ≡ scanned (tokensAt c s next)
   unfolding scanned
   scan-byte l = ap scanned (l .0)
@@ -38,3 +46,26 @@ module _ (c : Characters) (s : List ℕ) (at : ℕ) where
   pub scan-end : Lexes c s at End → scanned (tokensAt c s at) ≡ unended
   unfolding scanned
   scan-end l = ap scanned (l .0)
+
+-- what follows the terminator that a scan found, and something else where it found none
+behind : Scanning → List Token → List Token
+behind (ended rest) other = rest
+behind (stray place) other = other
+behind unended other = other
+
+-- a scan that finds a terminator finds the first
+scanned-behind : (ts : List Token) → behind (scanned ts) (beyond (ends 0) ts) ≡ beyond (ends 0) ts
+unfolding scanned beyond ends behind
+scanned-behind [] = refl
+scanned-behind (byte b from place ∷ ts) = scanned-behind ts
+scanned-behind (fault place ∷ ts) = refl
+scanned-behind (separator kind place ∷ ts) = step (leb kind 0) (scanned-behind ts)
+  where
+    step : (b : Bool) → behind (scanned ts) (beyond (ends 0) ts) ≡ beyond (ends 0) ts
+        → behind (if b then ended ts else scanned ts) (if b then ts else beyond (ends 0) ts) ≡ (if b then ts else beyond (ends 0) ts)
+    step true ih = refl
+    step false ih = ih
+
+pub ended-beyond : (ts : List Token) {rest : List Token} → scanned ts ≡ ended rest → rest ≡ beyond (ends 0) ts
+unfolding behind
+ended-beyond ts e = ap (λ (found : Scanning). behind found (beyond (ends 0) ts)) (sym e) ∙ scanned-behind ts

@@ -115,6 +115,16 @@ pub fn scan(s: &[u8], c: Characters, from: usize) -> Scanned
 pub fn segment_end(s: &[u8], c: Characters, from: usize) -> usize
     ensures { λ r. ⌜ Skips (ends 0) c (now (s .entry)) from r ⌝ }
 {
+    match scan(s, c, from) {
+        Scanned::Ended { next } => next,
+        _ => segment_end_past(s, c, from),
+    }
+}
+
+// The same where a stray release character, which `scan` stops at, may stand before the terminator.
+fn segment_end_past(s: &[u8], c: Characters, from: usize) -> usize
+    ensures { λ r. ⌜ Skips (ends 0) c (now (s .entry)) from r ⌝ }
+{
     let mut at = from;
     loop {
         match lex(s, c, at) {

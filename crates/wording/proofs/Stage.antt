@@ -91,10 +91,6 @@ module _ (size : ℕ) (g : Segment) where
   segment-ended e d = rw (e, d)
 
 module _ (c : Characters) (s : List ℕ) (at : ℕ) where
-  -- what a match on the scanner's answer shows
-  pub scans-as : {r answer : Scanned} → Scans c s at answer → answer ≡ r → Scans c s at r
-  scans-as h e = subst (λ q. Scans c s at q) e h
-
   -- behind the last byte nothing is refused
   pub worded-end : (size : ℕ) → length s ≤ at → worded size (tokensAt c s at) ≡ none
   unfolding worded firstIn

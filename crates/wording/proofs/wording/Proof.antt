@@ -9,7 +9,8 @@ use borrow.Author.Tests.{not-true, not-false}
 use Rattle.refusals.specs.Refusals.{outcome}
 use Rattle.reading.specs.Tokens.{tokensAt}
 use Rattle.machines.specs.Walks.{worded}
-use Rattle.wording.proofs.Stage.{scans-as, worded-end, worded-stray, worded-unended, worded-broken, worded-next}
+use Rattle.scanner.proofs.Scanning.{scans-as}
+use Rattle.wording.proofs.Stage.{worded-end, worded-stray, worded-unended, worded-broken, worded-next}
 use Rattle.wording.proofs.wording.Statement.{statement}
 use Rattle.wording.proofs.wording.Tie as tie
 
