@@ -5,10 +5,10 @@ use mathlib.Core.List.{List, [], _∷_, _++_}
 use native.Mathlib.Omega.{arith}
 use native.Mathlib.Numerals.{add-one, add-two}
 use lib.Dec.{leb}
-use lib.ListN.{length, set, length-append}
+use lib.ListN.{length, set}
 use lib.Seq.{sets, length-sets}
 use borrow.Author.Tests.{le-leb, lt-leb}
-use Rattle.lists.specs.Lists.{if_then_else_, gather}
+use Rattle.lists.specs.Lists.{gather}
 use Rattle.lists.proofs.Texts.{if-true, if-false}
 use Rattle.reading.specs.Tokens.{Token, byte, separator, fault}
 use Rattle.reading.specs.Values.{byteOf, bytesOf}
@@ -19,7 +19,7 @@ use Rattle.emitting.proofs.Putting.{Goes, goes-step, front-fits}
 use Rattle.tallying.specs.declared.Listing.{Listing}
 use Rattle.tallying.specs.Marks.{runOut, runNext, numbersOut, entryNext, readMarks, numbersFrom}
 use Rattle.tallying.specs.Tally.{entryOf, listing, fresh, values, end, marksOut, entryBehind, behindMarks, behindByte, byteNumbers, behindSeparator, separatorNumbers, tableRest, tableOf}
-use Rattle.tallying.proofs.Steps.{behind-none, marks-length, records-marks, end-marks, table-byte, table-separator, records-byte, end-byte, records-separator, end-separator, Room, room-start, room-byte, room-separator, room-fault}
+use Rattle.tallying.proofs.Steps.{behind-none, marks-length, end-marks, table-byte, table-separator, records-byte, end-byte, records-separator, end-separator, Room, room-start, room-byte, room-separator, room-fault}
 
 -- ---- records
 

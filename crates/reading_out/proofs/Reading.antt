@@ -1,8 +1,8 @@
 -- What is stored is the value list, with the rest of both buffers as it was; and what is answered. Assumes nothing.
 use Prim.Native.Nat.{ℕ, _≤_, _<_}
 use mathlib.Core.Path.{_≡_, refl, sym, ap, ap₂, _∙_}
-use mathlib.Core.Bool.{Bool, true, false}
-use mathlib.Core.List.{List, [], _∷_, _++_, map}
+use mathlib.Core.Bool.{Bool, false}
+use mathlib.Core.List.{List, [], _∷_, _++_}
 use mathlib.Core.Option.{Option, none, some}
 use native.Mathlib.Nat.{zero-add}
 use native.Mathlib.Omega.{arith}
@@ -11,14 +11,12 @@ use lib.Seq.{sets, sets-eq}
 use lib.Dec.{ltb}
 use borrow.Author.Tests.{lt-ltb, le-ltb}
 use Rattle.lists.specs.Lists.{if_then_else_, maybe}
-use Rattle.lists.proofs.Texts.{if-true, if-false}
 use Rattle.characters.specs.declared.Characters.{Characters}
 use Rattle.characters.specs.Characters.{charactersOf, bodyStart, body}
 use Rattle.refusals.specs.declared.Fault.the-variants.{BufferShort}
 use Rattle.refusals.specs.declared.Refusal.{Refusal}
-use Rattle.refusals.specs.Refusals.{Stage, lowest, orElse, answering}
+use Rattle.refusals.specs.Refusals.{lowest, orElse, answering}
 use Rattle.refusals.proofs.Stages.{answering-append}
-use Rattle.reading.specs.Tokens.{Token}
 use Rattle.reading.specs.Values.{bytesOf, endsInside}
 use Rattle.reading.proofs.Steps.{tokensAt}
 use Rattle.verdict.specs.Contents.{bodyTokens, segmentsOf, contents}
@@ -36,7 +34,6 @@ use Rattle.answers.specs.declared.Listed.{Listed}
 use Rattle.answers.specs.declared.Listed.the-variants.{Values, Refused}
 use Rattle.answers.specs.Answers.{given, refused, toldListed}
 use Rattle.operations.specs.Judge.{interchangeOf, shortFor, storedIn, unlessRefused}
-use Rattle.operations.specs.ValueList.{listOf, listBytes, listTable}
 use Rattle.operations.specs.Read.{valueBytes, valueTable, readRefusal, read, readBytes, readTable}
 
 -- ---- the value list of an accepted interchange

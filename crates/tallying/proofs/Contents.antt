@@ -2,13 +2,13 @@
 -- read as the value list of the body's contents, whose bytes are all the value bytes of the body. Assumes nothing.
 use Prim.Native.Nat.{ℕ, zero, suc, _+_, _≤_}
 use native.Mathlib.Omega.{arith}
-use mathlib.Core.Path.{_≡_, refl, sym, ap, ap₂, _∙_}
-use mathlib.Core.Bool.{Bool, true, false, not, false≢true}
+use mathlib.Core.Path.{_≡_, refl, sym, ap, _∙_}
+use mathlib.Core.Bool.{true, false, not, false≢true}
 use mathlib.Core.List.{List, [], _∷_, _++_, map, append-nil, append-assoc}
 use lib.Dec.{leb}
 use lib.ListN.{replicate}
 use borrow.Author.Tests.{not-false, leb-true}
-use Rattle.lists.specs.Lists.{if_then_else_, isEmpty, all, lastOr, behind, joined, gather}
+use Rattle.lists.specs.Lists.{isEmpty, all, lastOr, behind, joined, gather}
 use Rattle.lists.proofs.Texts.{and-left, and-right}
 use Rattle.reading.specs.Tokens.{Token, byte, separator, fault, ends, segments}
 use Rattle.reading.specs.Values.{byteOf, bytesOf, endedBy, endsInside}
@@ -16,7 +16,7 @@ use Rattle.reading.specs.Trimming.{contentsOf}
 use Rattle.reading.specs.Spelling.{Bytes, SegmentList, spellByte, spellValue, spellElement, spellSegment, spell}
 use Rattle.operations.specs.ValueList.{Item, listElement, listSegment, listOf, listBytes, tableFrom, listTable}
 use Rattle.spelling.specs.Bodies.{shapedSegment, Shaped}
-use Rattle.emission.specs.Emission.{letOut, emitted}
+use Rattle.emission.specs.Emission.{emitted}
 use Rattle.emission.proofs.Cases.{known}
 use Rattle.emission.proofs.Spelled.{spelled-emitted}
 use Rattle.tallying.specs.Marks.{marks, readMarks, itemOut, itemNext, itemGrow, itemsFrom}

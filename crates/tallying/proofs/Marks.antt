@@ -1,7 +1,7 @@
 -- How a text of marks is read: a value's byte grows what is open, a run of marks puts out as many. Assumes nothing.
 use Prim.Native.Nat.{ℕ, zero, suc, _+_, _<_}
 use native.Mathlib.Omega.{arith}
-use mathlib.Core.Path.{_≡_, refl, sym, ap, ap₂, _∙_}
+use mathlib.Core.Path.{_≡_, refl, sym, ap, _∙_}
 use mathlib.Core.Bool.{Bool, true, false, _||_}
 use mathlib.Core.List.{List, [], _∷_, _++_, append-assoc}
 use lib.Dec.{leb, eqb}
@@ -12,7 +12,7 @@ use Rattle.lists.proofs.Texts.{or-none-left, or-none-right, if-true, if-false}
 use Rattle.characters.specs.Characters.{isService, serviceCharacters, released}
 use Rattle.reading.specs.Spelling.{spellByte}
 use Rattle.operations.specs.ValueList.{Item, tableFrom}
-use Rattle.tallying.specs.Marks.{marks, readMarks, runOut, runNext, itemOut, itemNext, itemGrow, itemsFrom, numbersOut, entryNext, entryGrow, numbersFrom}
+use Rattle.tallying.specs.Marks.{marks, readMarks, runOut, runNext, itemNext, itemGrow, itemsFrom, numbersFrom}
 
 -- a byte that is no mark and no release character
 plain : (b : ℕ) → isService marks b ≡ false → (leb b 2 ≡ false) × (eqb b 3 ≡ false)

@@ -1,6 +1,6 @@
 -- One step of the listing puts out the front of the table that is left, and moves its places on by that much. Assumes nothing.
 use Prim.Native.Nat.{ℕ, zero, suc, _+_, _*_, _≤_, _<_}
-use mathlib.Core.Path.{_≡_, refl, sym, ap, ap₂, subst, _∙_}
+use mathlib.Core.Path.{_≡_, refl, sym, ap, subst, _∙_}
 use mathlib.Core.Bool.{Bool, true, false}
 use mathlib.Core.List.{List, [], _∷_, _++_, append-assoc}
 use native.Mathlib.Omega.{arith}
@@ -12,10 +12,10 @@ use Rattle.reading.specs.Tokens.{Token, byte, separator, fault}
 use Rattle.reading.specs.Values.{byteOf, bytesOf}
 use Rattle.reading.specs.Spelling.{spellByte}
 use Rattle.operations.specs.ValueList.{Entry}
-use Rattle.emission.specs.Emission.{letOut, emitted}
+use Rattle.emission.specs.Emission.{emitted}
 use Rattle.tallying.specs.declared.Listing.{Listing}
 use Rattle.tallying.specs.Marks.{marks, readMarks, runOut, runNext, numbersOut, entryNext, entryGrow, numbersFrom}
-use Rattle.tallying.specs.Tally.{entryOf, listing, fresh, values, end, marksOut, entryBehind, behindMarks, grown, behindByte, byteNumbers, behindSeparator, separatorNumbers, tableRest, tableOf}
+use Rattle.tallying.specs.Tally.{entryOf, listing, fresh, values, end, marksOut, entryBehind, behindMarks, behindByte, byteNumbers, behindSeparator, separatorNumbers, tableRest, tableOf}
 use Rattle.tallying.proofs.Marks.{read-byte, read-run}
 
 -- ---- marks that are let out

@@ -2,7 +2,6 @@
 -- stored at the start, give, and the listing behind them is the same. What is left falls. Assumes nothing.
 use Prim.Native.Nat.{_-_}
 use native.Mathlib.Omega.{arith}
-use borrow.Author.Needs.{needs}
 use Rattle.listing.proofs.Storing.{Lets, lets-start, lets-step, lets-end}
 use Rattle.listing.proofs.put_marks.Statement.{statement}
 use Rattle.listing.proofs.put_marks.Tie as tie

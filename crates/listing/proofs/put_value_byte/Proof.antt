@@ -1,7 +1,6 @@
 -- `listing::put_value_byte` meets its contract: the byte is stored, and then the records of what is let out. Assumes nothing.
 use mathlib.Core.Path.{refl, ap, _∙_}
 use native.Mathlib.Omega.{arith}
-use lib.Seq.{length-sets}
 use Rattle.tallying.specs.declared.Listing.{Listing}
 use Rattle.tallying.specs.Tally.{end, behindMarks, grown, behindByte}
 use Rattle.tallying.proofs.Steps.{records-marks, end-marks}

@@ -1,6 +1,6 @@
 -- `listing::put_values` meets its contract. The loop's invariant: what the tokens from `at` on come to, stored from here, gives the whole,
 -- in the byte buffer and in the table; it fits. What is left of the input falls. Assumes nothing.
-use Prim.Native.Nat.{ℕ, _-_, _≤_}
+use Prim.Native.Nat.{_-_, _≤_}
 use native.Mathlib.Omega.{arith}
 use lib.ListN.{length}
 use borrow.Author.Needs.{needs}

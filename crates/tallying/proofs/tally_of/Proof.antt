@@ -1,14 +1,13 @@
 -- `tallying::tally_of` meets its contract. The loop's invariant: what is listed and what the tokens from `at` on come to is the whole,
 -- and there is at most a value and a byte of a value for each byte passed. What is left of the input falls. Assumes nothing.
-use Prim.Native.Nat.{ℕ, _+_, _*_, _-_, _≤_}
-use mathlib.Core.Path.{_≡_, refl, sym, ap, subst, _∙_}
+use Prim.Native.Nat.{_-_}
+use mathlib.Core.Path.{sym, subst}
 use native.Mathlib.Omega.{arith}
 use lib.ListN.{length}
 use borrow.Author.Needs.{needs}
 use Rattle.reading.proofs.Steps.{tokensAt}
 use Rattle.scanner.proofs.Lexing.{lexes-as}
 use Rattle.tallying.specs.declared.Listing.{Listing}
-use Rattle.tallying.specs.Tally.{fresh}
 use Rattle.tallying.proofs.Steps.{Tallied, tallied-start, tallied-byte, tallied-separator, tallied-fault, tallied-end}
 use Rattle.tallying.proofs.tally_of.Statement.{statement}
 use Rattle.tallying.proofs.tally_of.Tie as tie

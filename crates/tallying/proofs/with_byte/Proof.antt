@@ -1,5 +1,4 @@
 -- `tallying::with_byte` meets its contract: the elements are let out, then the components, then the byte is added. Assumes nothing.
-use Prim.Native.Nat.{ℕ}
 use mathlib.Core.Path.{ap, _∙_}
 use native.Mathlib.Omega.{arith}
 use borrow.Author.Needs.{needs}
