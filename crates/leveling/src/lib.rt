@@ -58,8 +58,7 @@ fn first_outside(s: &[u8], c: Characters, classes: &[u8; 256], level: u8, start:
     loop {
         match lex(s, c, at) {
             Lexed::Byte { byte, place, next } => {
-                let i = byte as usize;
-                if classes[i] < level {
+                if class_of(classes, byte) < level {
                     return Outcome::Failed(Refusal {
                         fault: Fault::OutsideLevel,
                         place,

@@ -1,15 +1,12 @@
 -- `leveling::first_outside` meets its contract. The loop's invariant: what the walk answers from the start it answers from `at`.
 -- What is left of the input falls. Assumes nothing.
-use Prim.Native.Nat.{ℕ, _-_}
+use Prim.Native.Nat.{_-_}
 use mathlib.Core.Path.{_≡_, refl, sym, ap, _∙_}
-use mathlib.Core.List.{List}
 use native.Mathlib.Omega.{arith}
-use lib.ListN.{length, getD}
+use lib.ListN.{length}
 use borrow.Author.Needs.{needs}
 use Rattle.refusals.specs.Refusals.{outcome}
 use Rattle.reading.specs.Tokens.{tokensAt}
-use Rattle.levels.specs.Levels.{classOf, classTable}
-use Rattle.levels.proofs.Table.{class-at}
 use Rattle.machines.specs.Walks.{leveled}
 use Rattle.scanner.proofs.Lexing.{lexes-as}
 use Rattle.leveling.proofs.Steps.{level-inside, level-outside, level-separator, level-fault, level-end}
@@ -31,17 +28,13 @@ lex-requires c κs = search needs
 enum-known-byte : tie.Need-enum-known-byte Inv-loop μ-loop
 enum-known-byte c = search needs
 
-cast-i : tie.Need-cast-i Inv-loop μ-loop
-cast-i c = search needs
-
-element-copy-out-if1 : tie.Need-element-copy-out-if1 Inv-loop μ-loop
-element-copy-out-if1 c = search needs
+class-of-requires : tie.Need-class-of-requires Inv-loop μ-loop
+class-of-requires c κs = search needs
 
 returns : tie.Need-returns Inv-loop μ-loop
 unfolding outcome
 returns c =
     let l = lexes-as (c .before .before .before .before .before .before .before .before .args .c) (c .before .before .before .before .before .before .before .before .args .s .now) (c .before .before .before .before .before .before .loop .at) (c .before .before .before .before .before .lex .ensures) (c .before .before .before .byte .given .1) in
-    let k : getD (c .before .before .before .before .before .before .before .before .args .classes .now) (c .before .before .before .byte .given .0 .0) 0 ≡ classOf (c .before .before .before .byte .given .0 .0) = ap (λ (t : List ℕ). getD t (c .before .before .before .byte .given .0 .0) 0) (c .before .before .before .before .before .before .before .before .pre) ∙ class-at (c .before .before .before .byte .given .0 .0) (omega arith) in
     ap outcome (sym (c .before .before .before .before .before .before .loop .inv ∙ level-outside _ (l .0) (omega arith)))
 
 loop-less : tie.Need-loop-less Inv-loop μ-loop
@@ -50,7 +43,6 @@ loop-less c = let l = lexes-as (c .before .before .before .before .before .befor
 loop-again : tie.Need-loop-again Inv-loop μ-loop
 loop-again c =
     let l = lexes-as (c .before .before .before .before .before .before .before .before .args .c) (c .before .before .before .before .before .before .before .before .args .s .now) (c .before .before .before .before .before .before .loop .at) (c .before .before .before .before .before .lex .ensures) (c .before .before .before .byte .given .1) in
-    let k : getD (c .before .before .before .before .before .before .before .before .args .classes .now) (c .before .before .before .byte .given .0 .0) 0 ≡ classOf (c .before .before .before .byte .given .0 .0) = ap (λ (t : List ℕ). getD t (c .before .before .before .byte .given .0 .0) 0) (c .before .before .before .before .before .before .before .before .pre) ∙ class-at (c .before .before .before .byte .given .0 .0) (omega arith) in
     c .before .before .before .before .before .before .loop .inv ∙ level-inside _ (l .0) (omega arith)
 
 enum-known-next : tie.Need-enum-known-next Inv-loop μ-loop
@@ -87,8 +79,7 @@ first-outside-spec =
     loop-holds
     lex-requires
     enum-known-byte
-    cast-i
-    element-copy-out-if1
+    class-of-requires
     returns
     loop-less
     loop-again
