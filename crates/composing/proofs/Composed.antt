@@ -4,12 +4,10 @@ use mathlib.Core.Path.{_≡_, refl, sym, ap, _∙_}
 use mathlib.Core.Bool.{Bool, true, false}
 use mathlib.Core.List.{List, [], _∷_, _++_, map, append-assoc}
 use lib.Dec.{leb}
-use lib.ListN.{length}
 use Rattle.lists.specs.Lists.{if_then_else_, gather}
 use Rattle.characters.specs.declared.Characters.{Characters}
 use Rattle.characters.specs.Characters.{adviceOf, spelledOut}
-use Rattle.reading.specs.Tokens.{Token, separator, segments}
-use Rattle.reading.specs.Trimming.{contentsOf}
+use Rattle.reading.specs.Tokens.{Token, separator}
 use Rattle.reading.specs.Spelling.{Bytes, spellByte, spellValue, spell}
 use Rattle.verdict.specs.Contents.{interchange}
 use Rattle.emission.specs.Emission.{letOut, emitted}

@@ -13,12 +13,11 @@ use Rattle.lists.specs.Lists.{if_then_else_, gather}
 use Rattle.lists.proofs.Texts.{if-true, if-false}
 use Rattle.characters.specs.declared.Characters.{Characters}
 use Rattle.reading.specs.Spelling.{Bytes, spellByte, spellValue}
-use Rattle.emission.specs.Emission.{letOut}
 use Rattle.emission.proofs.Cases.{by-spelling}
 use Rattle.emitting.proofs.Putting.{let-out-length}
 use Rattle.measuring.specs.declared.Measure.{Measure}
 use Rattle.measuring.specs.Measure.{behindSeparator}
-use Rattle.operations.specs.ValueList.{Item, Entry, entries, valueIn, listedIn}
+use Rattle.operations.specs.ValueList.{Item, Entry, valueIn, listedIn}
 use Rattle.value_lists.specs.declared.Record.{Record}
 use Rattle.value_lists.specs.Records.{entryOf, recordAt}
 use Rattle.value_lists.proofs.Records.{read-next, records-end}
@@ -166,10 +165,6 @@ module _ (c : Characters) where
 pub capped-over : (n : ℕ) → 32000 < n → 32001 ≡ capped n
 unfolding capped
 capped-over n h = sym (if-true (ltb 32000 n) 32001 n (lt-ltb 32000 n h))
-
-pub capped-within : (n : ℕ) → n ≤ 32000 → n ≡ capped n
-unfolding capped
-capped-within n h = sym (if-false (ltb 32000 n) 32001 n (le-ltb 32000 n h))
 
 pub capped-last : (n : ℕ) → n ≤ 32001 → n ≡ capped n
 unfolding capped

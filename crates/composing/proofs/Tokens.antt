@@ -3,7 +3,7 @@
 use Prim.Native.Nat.{ℕ}
 use mathlib.Core.Path.{_≡_, refl, sym, ap, fun-ext, _∙_}
 use mathlib.Core.Bool.{Bool, true, false, not, _&&_}
-use mathlib.Core.List.{List, [], _∷_, _++_, map, append-nil, append-assoc, map-map}
+use mathlib.Core.List.{List, [], _∷_, _++_, map, append-nil, map-map}
 use lib.Dec.{leb}
 use lib.Seq.{append-snoc}
 use native.Mathlib.Omega.{arith}
@@ -11,10 +11,10 @@ use borrow.Author.Tests.{not-true, leb-true, le-leb}
 use Rattle.lists.specs.Lists.{if_then_else_, isEmpty, all, lastOr, onto, cut, gather}
 use Rattle.lists.proofs.Texts.{and-left, and-right}
 use Rattle.lists.proofs.Pieces.{None}
-use Rattle.reading.specs.Tokens.{Token, byte, separator, fault, ends, Segment, segments}
+use Rattle.reading.specs.Tokens.{Token, byte, separator, ends, segments}
 use Rattle.reading.specs.Values.{byteOf, bytesOf, valueOf, valuesOf, elementsOf, endedBy, endsInside}
 use Rattle.reading.specs.Trimming.{trimSegment, contentsOf}
-use Rattle.reading.specs.Spelling.{Bytes, SegmentList}
+use Rattle.reading.specs.Spelling.{Bytes}
 use Rattle.emission.proofs.Cases.{known}
 use Rattle.operations.specs.ValueList.{Item, closed, closes, segmentsListed, trimList}
 use Rattle.spelling.specs.Bodies.{wordsOf}

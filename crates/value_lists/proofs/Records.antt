@@ -1,10 +1,10 @@
 -- Laws of a table's records: three numbers are the next one, the first that fails answers, and what holds of a good list.
 -- Assumes nothing.
-use Prim.Native.Nat.{ℕ, suc, _+_, _-_, _%_, _≤_, _<_}
+use Prim.Native.Nat.{ℕ, suc, _+_, _%_, _≤_, _<_}
 use mathlib.Core.Path.{_≡_, refl, sym, ap, ap₂, _∙_}
-use mathlib.Core.Bool.{Bool, true, false, not, _&&_, _||_, false≢true}
+use mathlib.Core.Bool.{Bool, true, false, not, _&&_, _||_}
 use mathlib.Core.List.{List, [], _∷_, _++_}
-use mathlib.Core.Option.{Option, none, some, Option·some-ne-none}
+use mathlib.Core.Option.{none, some, Option·some-ne-none}
 use native.Mathlib.Numerals.{add-one}
 use native.Mathlib.Omega.{arith}
 use lib.ListN.{length, drop, getD, length-drop}
@@ -16,9 +16,8 @@ use Rattle.lists.proofs.Texts.{if-true, if-false, and-left, and-right, or-none-
 use Rattle.refusals.specs.declared.Fault.{Fault}
 use Rattle.refusals.specs.declared.Fault.the-variants.{BadList}
 use Rattle.refusals.specs.declared.Refusal.{Refusal}
-use Rattle.refusals.specs.Refusals.{number, met, placeIf, isLower, lowerOf, lowest}
+use Rattle.refusals.specs.Refusals.{met, placeIf, isLower, lowerOf, lowest}
 use Rattle.refusals.proofs.Order.{key, not-lower}
-use Rattle.refusals.proofs.Stages.{met-append}
 use Rattle.machines.specs.Walks.{refuse}
 use Rattle.operations.specs.ValueList.{Entry, entries}
 use Rattle.operations.specs.Write.{numbersWhere, badTable, badEntry, badList}

@@ -5,7 +5,7 @@ use mathlib.Core.Bool.{Bool, true, false, not, _&&_, _||_}
 use mathlib.Core.List.{List, [], _∷_, _++_, map, append-nil}
 use mathlib.Core.Option.{Option, none, some, Option·some-ne-none}
 use native.Mathlib.Omega.{arith}
-use lib.ListN.{length, take, drop, replicate, length-replicate, length-drop}
+use lib.ListN.{length, take, drop, replicate, length-replicate}
 use lib.Seq.{sets, sets-eq, length-sets, take-at, drop-length}
 use lib.Dec.{eqb, ltb}
 use borrow.Author.Tests.{lt-ltb, le-ltb, ltb-false, eqb-true, ne-eqb, eq-eqb, not-false}
@@ -16,9 +16,8 @@ use Rattle.characters.specs.Characters.{sixBytes, usable, adviceOf, badAdvice}
 use Rattle.refusals.specs.declared.Fault.{Fault}
 use Rattle.refusals.specs.declared.Fault.the-variants.{TooLong, UnusableAdvice, NoOpening, StrayRelease, UnendedSegment, BrokenTag, ForeignLevel, OutsideLevel, MisplacedSegment, BadControl, ReferenceDiffers, CountWrong, NormalTooLong, BufferShort, BadList, NeedsRelease}
 use Rattle.refusals.specs.declared.Refusal.{Refusal}
-use Rattle.refusals.specs.declared.Outcome.{Outcome}
 use Rattle.refusals.specs.declared.Outcome.the-variants as outcome-as
-use Rattle.refusals.specs.Refusals.{number, Stage, met, placeIf, lowest, lowerOf, orElse, answering, outcome}
+use Rattle.refusals.specs.Refusals.{number, Stage, met, lowest, orElse, answering, outcome}
 use Rattle.refusals.proofs.Stages.{answering-first}
 use Rattle.machines.specs.Walks.{refuse}
 use Rattle.machines.proofs.Rows.{lowest-if}
@@ -34,11 +33,11 @@ use Rattle.answers.specs.declared.Stored.the-variants.{Length, Refused}
 use Rattle.answers.specs.Answers.{Answer, given, refused, accepted, toldJudged, toldStored}
 use Rattle.operations.specs.Judge.{interchangeOf, judge, shortFor, storedIn, unlessRefused}
 use Rattle.operations.specs.ValueList.{Entry, entries, valueIn, listedIn, segmentsListed, trimList}
-use Rattle.operations.specs.Write.{badTable, badEntry, badList, unusableBytes, needsRelease, writtenText, writeRefusal, write, writeOutput}
+use Rattle.operations.specs.Write.{badTable, badList, unusableBytes, needsRelease, writtenText, writeRefusal, write, writeOutput}
 use Rattle.trimming.specs.Kinds.{firstKind}
 use Rattle.forms.proofs.Openings.{advice-good}
 use Rattle.value_lists.proofs.Records.{table-bad, table-good, none-bad}
-use Rattle.value_lists.specs.Records.{wellListed, firstRecord}
+use Rattle.value_lists.specs.Records.{wellListed}
 use Rattle.composing.specs.Composing.{composedText, capped}
 use Rattle.composing.proofs.Lengths.{capped-tells, capped-tells-over}
 use Rattle.composing.proofs.Composed.{composed-written}

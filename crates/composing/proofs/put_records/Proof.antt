@@ -1,11 +1,11 @@
 -- `composing::put_records` meets its contract. The loop's invariant: what is left of the records, stored from here, gives what all of
 -- them, stored at the start, give; and a record holds back at most one separator. What is left of the table falls. Assumes nothing.
 use Prim.Native.Nat.{_+_, _*_, _-_, _≤_}
-use mathlib.Core.Path.{_≡_, refl, ap, _∙_}
+use mathlib.Core.Path.{_≡_, refl, ap}
 use mathlib.Core.Bool.{true}
 use native.Mathlib.Omega.{arith}
-use lib.ListN.{length, drop, length-set}
 use borrow.Author.Needs.{needs}
+use lib.ListN.{length, drop, length-set}
 use Rattle.emitting.proofs.Putting.{Goes}
 use Rattle.measuring.specs.declared.Measure.{Measure}
 use Rattle.measuring.specs.Measure.{held}
@@ -36,7 +36,7 @@ sub-loop : tie.Need-sub-loop Inv-loop μ-loop
 sub-loop c = omega arith
 
 record-at-requires : tie.Need-record-at-requires Inv-loop μ-loop
-record-at-requires c κs = let fits : c .before .before .loop .at + 3 ≤ length (c .before .before .before .before .before .before .args .table .now) = omega arith in fits
+record-at-requires c κs = search needs
 
 put-record-requires : tie.Need-put-record-requires Inv-loop μ-loop
 put-record-requires c κs =

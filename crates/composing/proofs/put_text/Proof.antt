@@ -1,7 +1,5 @@
 -- `composing::put_text` meets its contract: the advice, and the records from its last byte on. Assumes nothing.
-use Prim.Native.Nat.{_+_, _≤_}
 use native.Mathlib.Omega.{arith}
-use lib.ListN.{length}
 use borrow.Author.Needs.{needs}
 use Rattle.characters.specs.Characters.{adviceOf}
 use Rattle.emitting.proofs.Putting.{stored-length}

@@ -1,17 +1,17 @@
 -- `composing::text_length` meets its contract. The loop's invariant: the text is as long as what is measured and what is left of it,
 -- and a record holds back at most one separator. What is left of the table falls. Assumes nothing.
 use Prim.Native.Nat.{_+_, _*_, _-_, _≤_}
-use mathlib.Core.Path.{_≡_, refl, sym, ap, _∙_}
+use mathlib.Core.Path.{_≡_, ap, _∙_}
 use mathlib.Core.Bool.{true}
 use native.Mathlib.Omega.{arith}
-use lib.ListN.{length, drop}
 use borrow.Author.Needs.{needs}
+use lib.ListN.{length, drop}
 use Rattle.measuring.specs.declared.Measure.{Measure}
 use Rattle.measuring.specs.Measure.{held}
 use Rattle.operations.specs.ValueList.{listedIn}
 use Rattle.value_lists.specs.Records.{wellListed}
 use Rattle.value_lists.proofs.Records.{read-next, good-kind, good-value, good-rest}
-use Rattle.composing.specs.Composing.{composed, composedText, capped, itemOf}
+use Rattle.composing.specs.Composing.{composed, composedText, itemOf}
 use Rattle.composing.proofs.Lengths.{listed-next, listed-end, length-start, length-next, item-holds, composed-end, capped-over, capped-last}
 use Rattle.composing.proofs.text_length.Statement.{statement}
 use Rattle.composing.proofs.text_length.Tie as tie
@@ -34,7 +34,7 @@ sub-loop : tie.Need-sub-loop Inv-loop μ-loop
 sub-loop c = omega arith
 
 record-at-requires : tie.Need-record-at-requires Inv-loop μ-loop
-record-at-requires c κs = let fits : c .before .loop .at + 3 ≤ length (c .before .before .before .before .args .table .now) = omega arith in fits
+record-at-requires c κs = search needs
 
 with-record-requires : tie.Need-with-record-requires Inv-loop μ-loop
 with-record-requires c κs =

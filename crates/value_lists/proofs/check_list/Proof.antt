@@ -1,5 +1,5 @@
 -- `value_lists::check_list` meets its contract: the table as a whole, then record by record. Assumes nothing.
-use mathlib.Core.Path.{_≡_, sym, ap, _∙_}
+use mathlib.Core.Path.{sym, ap, _∙_}
 use native.Mathlib.Omega.{arith}
 use borrow.Author.Needs.{needs}
 use Rattle.refusals.specs.declared.Fault.the-variants.{BadList}

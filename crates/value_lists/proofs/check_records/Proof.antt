@@ -30,7 +30,7 @@ sub-loop : tie.Need-sub-loop Inv-loop μ-loop
 sub-loop c = omega arith
 
 record-at-requires : tie.Need-record-at-requires Inv-loop μ-loop
-record-at-requires c κs = let fits : c .before .loop .at + 3 ≤ length (c .before .before .before .before .args .table .now) = omega arith in fits
+record-at-requires c κs = search needs
 
 is-bad-requires : tie.Need-is-bad-requires Inv-loop μ-loop
 is-bad-requires c κs = search needs

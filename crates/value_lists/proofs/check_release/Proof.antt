@@ -1,7 +1,7 @@
 -- `value_lists::check_release` meets its contract. The loop's invariant: the first record that fails is the first from here on, and
 -- the list from here on is good. What is left of the table falls. Assumes nothing.
 use Prim.Native.Nat.{ℕ, _+_, _-_, _≤_}
-use mathlib.Core.Path.{_≡_, refl, sym, ap, _∙_}
+use mathlib.Core.Path.{_≡_, sym, ap, _∙_}
 use mathlib.Core.Bool.{Bool, true}
 use mathlib.Core.List.{List}
 use native.Mathlib.Omega.{arith}
@@ -12,7 +12,7 @@ use Rattle.refusals.specs.declared.Fault.the-variants.{NeedsRelease}
 use Rattle.refusals.specs.Refusals.{met, lowest, outcome}
 use Rattle.operations.specs.ValueList.{Entry, entries, valueIn}
 use Rattle.operations.specs.Write.{numbersWhere, lacksRelease}
-use Rattle.value_lists.specs.Records.{entryOf, firstRecord, wellListed}
+use Rattle.value_lists.specs.Records.{firstRecord, wellListed}
 use Rattle.value_lists.proofs.Records.{read-next, records-end, first-fails, first-passes, first-none, lowest-first, good-value, good-rest}
 use Rattle.value_lists.proofs.check_release.Statement.{statement}
 use Rattle.value_lists.proofs.check_release.Tie as tie
@@ -38,7 +38,7 @@ sub-loop : tie.Need-sub-loop Inv-loop μ-loop
 sub-loop c = omega arith
 
 record-at-requires : tie.Need-record-at-requires Inv-loop μ-loop
-record-at-requires c κs = let fits : c .before .loop .at + 3 ≤ length (c .before .before .before .before .args .table .now) = omega arith in fits
+record-at-requires c κs = search needs
 
 value-of-requires : tie.Need-value-of-requires Inv-loop μ-loop
 value-of-requires c κs =

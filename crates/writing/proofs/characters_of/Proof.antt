@@ -1,6 +1,5 @@
 -- `writing::characters_of` meets its contract. Assumes nothing.
 use mathlib.Core.Path.{refl}
-use native.Mathlib.Omega.{arith}
 use borrow.Author.Needs.{needs}
 use Rattle.characters.specs.Characters.{sixBytes}
 use Rattle.writing.proofs.characters_of.Statement.{statement}

@@ -1,5 +1,5 @@
 -- `writing::write` meets its contract: 15 answers, or what follows it does. Assumes nothing.
-use mathlib.Core.Path.{_≡_, sym, _∙_}
+use mathlib.Core.Path.{sym, _∙_}
 use lib.ListN.{length}
 use borrow.Author.Needs.{needs}
 use Rattle.characters.specs.Characters.{sixBytes}

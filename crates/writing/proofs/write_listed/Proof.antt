@@ -1,5 +1,5 @@
 -- `writing::write_listed` meets its contract: 2 answers, or what follows it does. Assumes nothing.
-use mathlib.Core.Path.{_≡_, sym, ap, _∙_}
+use mathlib.Core.Path.{sym, ap, _∙_}
 use lib.ListN.{length}
 use borrow.Author.Needs.{needs}
 use Rattle.characters.specs.Characters.{sixBytes, usable}

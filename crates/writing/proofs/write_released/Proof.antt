@@ -1,5 +1,5 @@
 -- `writing::write_released` meets its contract: 16 answers, or what follows it does. Assumes nothing.
-use mathlib.Core.Path.{_≡_, sym, _∙_}
+use mathlib.Core.Path.{sym, _∙_}
 use lib.ListN.{length}
 use borrow.Author.Needs.{needs}
 use Rattle.refusals.specs.declared.Fault.the-variants.{NeedsRelease}
