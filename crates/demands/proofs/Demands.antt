@@ -43,7 +43,7 @@ use Rattle.acceptance.proofs.Tags.{tags-clear}
 use Rattle.acceptance.proofs.Acceptance.{allowed-exactly, list-read}
 use Rattle.acceptance.proofs.Fakes.{x-allowed, empty-not-allowed}
 use Rattle.acceptance.proofs.Same.{compared-same, compared-different, same-self, same-back, same-on, keep-same, keep-other}
-use Rattle.trips.proofs.Theorems.{written-back, read-back}
+use Rattle.trips.proofs.Theorems.{written-back, read-back, located-contents, located-named, part-spelled}
 use Rattle.demands.specs.Demands.{Demands}
 
 -- an input's body passes exactly where 4 and 5 are not met
@@ -154,6 +154,9 @@ demands =
       one-way = file-unique;
       write-read = written-back;
       read-write = read-back;
+      locates = located-contents;
+      names = located-named;
+      hands-back = part-spelled;
       compares = compared-same;
       same-contents = same-contents;
       tells-apart = compared-different;

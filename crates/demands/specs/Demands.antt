@@ -4,7 +4,7 @@ use mathlib.Core.Path.{_≡_}
 use mathlib.Core.Logic.{_↔_, _⊎_, ⊎-elim}
 use mathlib.Core.Bool.{true}
 use mathlib.Core.List.{List, [], _∷_, _++_, map, List·Memᴰ}
-use mathlib.Core.Option.{none, some}
+use mathlib.Core.Option.{none, some, Option·map}
 use lib.ListN.{length, drop}
 use Rattle.lists.specs.Lists.{maybe}
 use Rattle.characters.specs.declared.Characters.{Characters}
@@ -13,7 +13,8 @@ use Rattle.refusals.specs.declared.Fault.{Fault}
 use Rattle.refusals.specs.declared.Refusal.{Refusal}
 use Rattle.refusals.specs.Refusals.{number}
 use Rattle.reading.specs.Tokens.{Segment}
-use Rattle.reading.specs.Spelling.{Bytes, SegmentList, spell}
+use Rattle.reading.specs.Values.{Value}
+use Rattle.reading.specs.Spelling.{Bytes, SegmentList, spellValue, spell}
 use Rattle.control.specs.Control.{countOf, decimal}
 use Rattle.verdict.specs.Contents.{segmentsOf, contents, normalForm}
 use Rattle.verdict.specs.Places.{unusableAdvice, noOpening, strayReleases, unendedSegment, brokenTags, misplacedSegments, badControls, differingReferences, wrongCounts}
@@ -21,6 +22,7 @@ use Rattle.verdict.specs.Stages.{refusalOf}
 use Rattle.answers.specs.Answers.{given, refused, refusedInput}
 use Rattle.operations.specs.Judge.{judge, normaliseRefusal, normalise, normaliseBuffer}
 use Rattle.operations.specs.Compare.{compare, keep, ofFirst, ofSecond}
+use Rattle.operations.specs.Locate.{located, part}
 use Rattle.operations.specs.Read.{read, valueBytes, valueTable}
 use Rattle.operations.specs.Write.{write, writtenText}
 use Rattle.cases.specs.Cases.{x}
@@ -34,7 +36,7 @@ use Rattle.acceptance.specs.Allowed.{Opening, Tagged, Allowed}
 use Rattle.acceptance.specs.Counts.{told}
 use Rattle.acceptance.specs.Refused.{Refused}
 use Rattle.acceptance.specs.Same.{Same}
-use Rattle.trips.specs.Trips.{WrittenBack, ReadBack}
+use Rattle.trips.specs.Trips.{standingAt, WrittenBack, ReadBack, Named}
 
 pub record Demands : Type 0 where
   -- ---- 1. Reading and spelling, under usable characters
@@ -125,6 +127,15 @@ pub record Demands : Type 0 where
   pub read-write : (s buffer numbers service output : List ℕ) → read buffer numbers s .number ≡ 0
       → write service (valueBytes s) (valueTable s) output .number ≡ 0
       → ReadBack s buffer numbers service (writtenText service (valueBytes s) (valueTable s))
+  -- what Locate finds at a position is what stands there in the contents
+  pub locates : (s : List ℕ) (segment element component : ℕ)
+      → standingAt (contents s) segment element component ≡ Option·map (λ v. v .bytes) (located s segment element component)
+  -- in an accepted input it is named where it is spelled: with its release characters taken off, that part is the value
+  pub names : (s : List ℕ) (segment element component : ℕ) → refusalOf s ≡ none
+      → (v : Value) → located s segment element component ≡ some v → Named (charactersOf s) s v
+  -- and the companion hands back that spelling, or zero bytes where nothing stands
+  pub hands-back : (s : List ℕ) (segment element component : ℕ) → refusalOf s ≡ none
+      → part s segment element component ≡ maybe [] (spellValue (charactersOf s)) (standingAt (contents s) segment element component)
   -- ---- 8. Compare and Keep
 
   -- "same" exactly when both are accepted and contents and marks are equal
