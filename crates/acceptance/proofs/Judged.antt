@@ -8,15 +8,12 @@ use mathlib.Core.List.{List, [], _∷_, _++_, map}
 use mathlib.Core.Option.{Option, none, some, Option·none-ne-some, Option·some-injective}
 use native.Mathlib.Omega.{arith}
 use lib.ListN.{length, getD, length-reverse}
-use lib.Dec.{ltb}
-use borrow.Author.Tests.{ltb-true}
 use Rattle.lists.specs.Lists.{maybe}
 use Rattle.characters.specs.Characters.{spelledOut, charactersOf}
 use Rattle.refusals.specs.declared.Fault.{Fault}
-use Rattle.refusals.specs.declared.Fault.the-variants.{TooLong, UnusableAdvice, NoOpening, StrayRelease, UnendedSegment, BrokenTag, ForeignLevel, OutsideLevel, MisplacedSegment, BadControl, ReferenceDiffers, CountWrong, NormalTooLong, BufferShort, BadList, NeedsRelease}
 use Rattle.refusals.specs.declared.Refusal.{Refusal}
 use Rattle.refusals.specs.Refusals.{number}
-use Rattle.refusals.proofs.Order.{number-tells}
+use Rattle.refusals.proofs.Order.{number-not-zero, number-tells}
 use Rattle.segments.specs.declared.Kind.the-variants.{Ung, Unh}
 use Rattle.segments.specs.Tags.{kindOf}
 use Rattle.segments.specs.Order.{segmentsIn, messagesIn, groupsIn}
@@ -31,29 +28,6 @@ use Rattle.acceptance.specs.Counts.{messages, groups, told}
 use Rattle.acceptance.proofs.Acceptance.{list-read, allowed-exactly}
 use Rattle.acceptance.proofs.Stages.{refused-exactly}
 use Rattle.acceptance.proofs.Counts.{number-back, message-headers, group-headers}
-
--- no fault has the number 0
-number-above : (f : Fault) → ltb 0 (number f) ≡ true
-unfolding number
-number-above TooLong = refl
-number-above UnusableAdvice = refl
-number-above NoOpening = refl
-number-above StrayRelease = refl
-number-above UnendedSegment = refl
-number-above BrokenTag = refl
-number-above ForeignLevel = refl
-number-above OutsideLevel = refl
-number-above MisplacedSegment = refl
-number-above BadControl = refl
-number-above ReferenceDiffers = refl
-number-above CountWrong = refl
-number-above NormalTooLong = refl
-number-above BufferShort = refl
-number-above BadList = refl
-number-above NeedsRelease = refl
-
-pub number-not-zero : (f : Fault) → number f ≡ 0 → ⊥
-number-not-zero f e = omega (arith, ltb-true 0 (number f) (number-above f))
 
 abbrev at : Fault → ℕ → Refusal
 at f p = record { fault = f; place = p }

@@ -21,7 +21,7 @@ use Rattle.forms.proofs.Theorems.{same-normal, same-exactly}
 use Rattle.acceptance.specs.Allowed.{Allowed}
 use Rattle.acceptance.specs.Same.{Same, handed}
 use Rattle.acceptance.proofs.Acceptance.{allowed-exactly}
-use Rattle.acceptance.proofs.Judged.{number-not-zero}
+use Rattle.refusals.proofs.Order.{number-not-zero}
 
 -- 1 for "same", 0 for "different"
 abbrev word : Bool → ℕ

@@ -20,25 +20,28 @@ faults =
     TooLong ∷ TooLong ∷ UnusableAdvice ∷ NoOpening ∷ StrayRelease ∷ UnendedSegment ∷ BrokenTag ∷ ForeignLevel ∷ OutsideLevel
     ∷ MisplacedSegment ∷ BadControl ∷ ReferenceDiffers ∷ CountWrong ∷ NormalTooLong ∷ BufferShort ∷ BadList ∷ NeedsRelease ∷ []
 
--- a fault stands at its number, which is below 17
-numbered : (f : Fault) → (getD faults (number f) TooLong ≡ f) × (ltb (number f) 17 ≡ true)
+-- a fault stands at its number, which is below 17 and above 0
+numbered : (f : Fault) → (getD faults (number f) TooLong ≡ f) × (ltb (number f) 17 ≡ true) × (ltb 0 (number f) ≡ true)
 unfolding number faults
-numbered TooLong = (refl, refl)
-numbered UnusableAdvice = (refl, refl)
-numbered NoOpening = (refl, refl)
-numbered StrayRelease = (refl, refl)
-numbered UnendedSegment = (refl, refl)
-numbered BrokenTag = (refl, refl)
-numbered ForeignLevel = (refl, refl)
-numbered OutsideLevel = (refl, refl)
-numbered MisplacedSegment = (refl, refl)
-numbered BadControl = (refl, refl)
-numbered ReferenceDiffers = (refl, refl)
-numbered CountWrong = (refl, refl)
-numbered NormalTooLong = (refl, refl)
-numbered BufferShort = (refl, refl)
-numbered BadList = (refl, refl)
-numbered NeedsRelease = (refl, refl)
+numbered TooLong = (refl, refl, refl)
+numbered UnusableAdvice = (refl, refl, refl)
+numbered NoOpening = (refl, refl, refl)
+numbered StrayRelease = (refl, refl, refl)
+numbered UnendedSegment = (refl, refl, refl)
+numbered BrokenTag = (refl, refl, refl)
+numbered ForeignLevel = (refl, refl, refl)
+numbered OutsideLevel = (refl, refl, refl)
+numbered MisplacedSegment = (refl, refl, refl)
+numbered BadControl = (refl, refl, refl)
+numbered ReferenceDiffers = (refl, refl, refl)
+numbered CountWrong = (refl, refl, refl)
+numbered NormalTooLong = (refl, refl, refl)
+numbered BufferShort = (refl, refl, refl)
+numbered BadList = (refl, refl, refl)
+numbered NeedsRelease = (refl, refl, refl)
+
+pub number-not-zero : (f : Fault) → number f ≡ 0 → ⊥
+number-not-zero f e = omega (arith, ltb-true 0 (number f) (numbered f .2))
 
 -- two faults with the same number are the same
 pub number-tells : (f g : Fault) → number f ≡ number g → f ≡ g

@@ -2,15 +2,14 @@
 // for any bytes, the paper's numbers as the definitions in specs/ lay them out in a struct, and every
 // byte of the buffer at exit. A slice crosses as a pointer and a length; nothing is asked of either.
 ghost use mathlib.Core.Path.{_≡_};
-ghost use Rattle.refusals.specs.Refusals.{number as numberOf};
 ghost use Rattle.answers.specs.Answers.{accepted as acceptedAnswer, refused as refusedAnswer};
 ghost use Rattle.operations.specs.Judge.{judge as judgeOf, normalise as normaliseOf, normaliseBuffer};
 ghost use Rattle.surface.specs.Surface.{verdictOf, writtenOf};
 use answers::Interchange;
 use answers::Judged;
 use answers::Stored;
-use refusals::Fault;
 use refusals::Refusal;
+use reporting::number_of;
 
 // What Judge says. `number` is 0 where the interchange is accepted, and `place` is then 0; where it
 // is refused, `number` and `place` are the refusal's and all else is 0.
@@ -35,30 +34,6 @@ pub struct Verdict {
 pub struct Written {
     pub number: u32,
     pub value: usize,
-}
-
-// The paper's number of a refusal.
-fn number_of(fault: Fault) -> u32
-    ensures { λ r. ⌜ r ≡ numberOf fault ⌝ }
-{
-    match fault {
-        Fault::TooLong => 1,
-        Fault::UnusableAdvice => 2,
-        Fault::NoOpening => 3,
-        Fault::StrayRelease => 4,
-        Fault::UnendedSegment => 5,
-        Fault::BrokenTag => 6,
-        Fault::ForeignLevel => 7,
-        Fault::OutsideLevel => 8,
-        Fault::MisplacedSegment => 9,
-        Fault::BadControl => 10,
-        Fault::ReferenceDiffers => 11,
-        Fault::CountWrong => 12,
-        Fault::NormalTooLong => 13,
-        Fault::BufferShort => 14,
-        Fault::BadList => 15,
-        Fault::NeedsRelease => 16,
-    }
 }
 
 fn verdict_accepted(i: Interchange) -> Verdict
@@ -89,7 +64,7 @@ fn verdict_refused(refusal: Refusal) -> Verdict
 {
     let fault = refusal.fault;
     Verdict {
-        number: number_of(fault),
+        number: number_of(fault) as u32,
         segments: 0,
         messages: 0,
         groups: 0,
@@ -109,7 +84,7 @@ fn written_refused(refusal: Refusal) -> Written
 {
     let fault = refusal.fault;
     Written {
-        number: number_of(fault),
+        number: number_of(fault) as u32,
         value: refusal.place,
     }
 }
