@@ -1,20 +1,18 @@
 -- The parts that Keep and Locate's companion hand back, as the functions name them. Assumes nothing.
 use Prim.Native.Nat.{ℕ, _≤_, _<_}
-use mathlib.Core.Path.{_≡_, refl, sym, ap, _∙_}
+use mathlib.Core.Path.{_≡_, refl, sym, ap}
 use mathlib.Core.Bool.{true, false}
 use mathlib.Core.List.{List, [], _∷_}
 use mathlib.Core.Option.{Option, none, some}
-use lib.Dec.{ltb}
 use lib.ListN.{length}
 use borrow.Author.Tests.{lt-ltb, le-ltb}
-use Rattle.lists.specs.Lists.{if_then_else_, maybe}
+use Rattle.lists.specs.Lists.{maybe}
 use Rattle.reading.specs.Values.{Value}
 use Rattle.refusals.specs.declared.Refusal.{Refusal}
 use Rattle.verdict.specs.Stages.{refusalOf}
 use Rattle.answers.specs.Answers.{given, refused}
 use Rattle.operations.specs.Compare.{areSame, keep}
 use Rattle.operations.specs.Locate.{located, locate, partOffset, partLength}
-use Rattle.surface.specs.declared.Kept.{Kept}
 use Rattle.surface.specs.declared.Location.{Location}
 use Rattle.surface.specs.declared.Part.{Part}
 use Rattle.surface.specs.Verdicts.{value}

@@ -1,6 +1,5 @@
 -- How the other operations' answers are laid out in the structs that cross to C: a number 0 and what
 -- is given, or a refusal's number and place; what is not said is 0. Assumes nothing.
-use Prim.Native.Nat.{ℕ}
 use lib.Dec.{eqb}
 use Rattle.lists.specs.Lists.{if_then_else_, isEmpty}
 use Rattle.answers.specs.Answers.{Answer}
