@@ -80,7 +80,7 @@ pub fn compare(first: &[u8], second: &[u8]) -> Compared
 }
 
 // Both are accepted, and their normal forms are equal.
-fn are_same(first: &[u8], second: &[u8]) -> bool
+pub fn are_same(first: &[u8], second: &[u8]) -> bool
     ensures { λ r. ⌜ r ≡ areSame (now (first .entry)) (now (second .entry)) ⌝ }
 {
     match compare(first, second) {

@@ -1,16 +1,15 @@
 -- The structs that the functions make are those that the answers come to. Assumes nothing.
 use Prim.Native.Nat.{ℕ}
-use mathlib.Core.Path.{_≡_, refl, sym, ap, _∙_}
-use mathlib.Core.Bool.{Bool, false}
+use mathlib.Core.Path.{_≡_, refl}
+use mathlib.Core.Bool.{false}
 use lib.Dec.{eqb}
-use Rattle.lists.specs.Lists.{if_then_else_}
 use Rattle.refusals.specs.declared.Fault.{Fault}
 use Rattle.refusals.specs.declared.Fault.the-variants.{TooLong, UnusableAdvice, NoOpening, StrayRelease, UnendedSegment, BrokenTag, ForeignLevel, OutsideLevel, MisplacedSegment, BadControl, ReferenceDiffers, CountWrong, NormalTooLong, BufferShort, BadList, NeedsRelease}
 use Rattle.refusals.specs.declared.Refusal.{Refusal}
 use Rattle.refusals.specs.Refusals.{number}
-use Rattle.answers.specs.Answers.{refused}
-use Rattle.surface.specs.declared.Verdict.{Verdict}
-use Rattle.surface.specs.Surface.{value, acceptedVerdict, refusedVerdict, verdictOf, writtenOf}
+use Rattle.answers.specs.Answers.{refused, refusedInput}
+use Rattle.surface.specs.Verdicts.{value, refusedVerdict, verdictOf}
+use Rattle.surface.specs.Answered.{writtenOf, comparisonOf, locationOf, listingOf}
 
 -- no refusal has the number 0
 refusal-numbered : (f : Fault) → eqb (number f) 0 ≡ false
@@ -32,31 +31,39 @@ refusal-numbered BufferShort = refl
 refusal-numbered BadList = refl
 refusal-numbered NeedsRelease = refl
 
--- the struct of a refusal's number and place
-unfoldable pub refusal-verdict : ℕ → ℕ → Verdict
-refusal-verdict n place =
-    record {
-      number = n;
-      segments = 0;
-      messages = 0;
-      groups = 0;
-      place = place;
-      length = 0;
-      component = 0;
-      element = 0;
-      mark = 0;
-      release = 0;
-      reserved = 0;
-      terminator = 0;
-    }
+-- ---- what a refusal comes to, from its number and its place
 
--- it is what a refusal comes to
-pub refusal-laid : (r : Refusal) {n : ℕ} → n ≡ number (r .fault) → refusal-verdict n (r .place) ≡ verdictOf (refused r)
-unfolding verdictOf refusedVerdict value refused refusal-verdict
-refusal-laid r e =
-    ap (λ (m : ℕ). refusal-verdict m (r .place)) e
-    ∙ sym (ap (λ (t : Bool). if t then acceptedVerdict (refused r) else refusedVerdict (refused r)) (refusal-numbered (r .fault)))
+module _ (r : Refusal) {n : ℕ} (e : n ≡ number (r .fault)) where
+  pub refused-verdict :
+      record {
+        number = n;
+        segments = 0;
+        messages = 0;
+        groups = 0;
+        place = r .place;
+        length = 0;
+        component = 0;
+        element = 0;
+        mark = 0;
+        release = 0;
+        reserved = 0;
+        terminator = 0;
+      } ≡ verdictOf (refused r)
+  unfolding verdictOf refusedVerdict value refused
+  refused-verdict = rw (e, refusal-numbered (r .fault))
 
-pub refusal-written : (r : Refusal) {n : ℕ} → n ≡ number (r .fault) → record { number = n; value = r .place } ≡ writtenOf (refused r)
-unfolding writtenOf value refused
-refusal-written r e = ap (λ (m : ℕ). record { number = m; value = r .place }) e
+  pub refused-written : record { number = n; place = r .place; length = 0 } ≡ writtenOf (refused r)
+  unfolding writtenOf value refused
+  refused-written = rw (e, refusal-numbered (r .fault))
+
+  pub refused-comparison : (input : ℕ) → record { number = n; input = input; same = 0; place = r .place } ≡ comparisonOf (refusedInput input r)
+  unfolding comparisonOf value refusedInput
+  refused-comparison input = rw (e, refusal-numbered (r .fault))
+
+  pub refused-location : record { number = n; present = 0; place = r .place; offset = 0; length = 0 } ≡ locationOf (refused r)
+  unfolding locationOf value refused
+  refused-location = rw (e, refusal-numbered (r .fault))
+
+  pub refused-listing : record { number = n; place = r .place; bytes = 0; numbers = 0 } ≡ listingOf (refused r)
+  unfolding listingOf value refused
+  refused-listing = rw (e, refusal-numbered (r .fault))

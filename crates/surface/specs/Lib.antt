@@ -1,1 +1,3 @@
-pub mod Surface
+pub mod Verdicts
+pub mod Answered
+pub mod Parts

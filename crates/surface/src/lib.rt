@@ -1,15 +1,23 @@
-// The surface: Judge and Normalise (paper 01, "Operations") for programs in C and Rust. It promises,
-// for any bytes, the paper's numbers as the definitions in specs/ lay them out in a struct, and every
-// byte of the buffer at exit. A slice crosses as a pointer and a length; nothing is asked of either.
+// The surface: all operations of paper 01, "Operations", for programs in C and Rust. It promises, for
+// any bytes and any numbers, the paper's answers as the definitions in specs/ lay them out in structs,
+// and every byte and number of each lent buffer at exit. A slice crosses as a pointer and a length;
+// nothing is asked of what it holds. `laying` makes the structs of the answers.
 ghost use mathlib.Core.Path.{_≡_};
-ghost use Rattle.answers.specs.Answers.{accepted as acceptedAnswer, refused as refusedAnswer};
 ghost use Rattle.operations.specs.Judge.{judge as judgeOf, normalise as normaliseOf, normaliseBuffer};
-ghost use Rattle.surface.specs.Surface.{verdictOf, writtenOf};
-use answers::Interchange;
-use answers::Judged;
-use answers::Stored;
-use refusals::Refusal;
-use reporting::number_of;
+ghost use Rattle.operations.specs.Compare.{compare as compareOf, keep as keepOf};
+ghost use Rattle.operations.specs.Locate.{locate as locateOf};
+ghost use Rattle.operations.specs.Read.{read as readOf, readBytes, readTable};
+ghost use Rattle.operations.specs.Write.{write as writeOf, writeOutput};
+ghost use Rattle.surface.specs.Verdicts.{verdictOf};
+ghost use Rattle.surface.specs.Answered.{writtenOf, comparisonOf, locationOf, listingOf};
+ghost use Rattle.surface.specs.Parts.{keptOf, partOf};
+use laying::comparison_of;
+use laying::listing_of;
+use laying::location_of;
+use laying::verdict_of;
+use laying::written_of;
+
+mod laying;
 
 // What Judge says. `number` is 0 where the interchange is accepted, and `place` is then 0; where it
 // is refused, `number` and `place` are the refusal's and all else is 0.
@@ -29,87 +37,151 @@ pub struct Verdict {
     pub terminator: u8,
 }
 
-// What Normalise says: 0 and how many bytes it stored, or the refusal's number and place.
+// What Normalise and Write say: 0 and how many bytes they stored, or the refusal's number and place.
 #[repr(C)]
 pub struct Written {
     pub number: u32,
-    pub value: usize,
+    pub place: usize,
+    pub length: usize,
 }
 
-fn verdict_accepted(i: Interchange) -> Verdict
-    ensures { λ r. ⌜ r ≡ verdictOf (acceptedAnswer i) ⌝ }
-{
-    let c = i.characters;
-    let segments = i.segments;
-    let messages = i.messages;
-    let groups = i.groups;
-    Verdict {
-        number: 0,
-        segments: segments.0,
-        messages: messages.0,
-        groups: groups.0,
-        place: 0,
-        length: i.length,
-        component: c.component,
-        element: c.element,
-        mark: c.mark,
-        release: c.release,
-        reserved: c.reserved,
-        terminator: c.terminator,
-    }
+// What Compare says: 0, and 1 for "same" or 0 for "different"; or the refusal's number, the input
+// that it speaks of, 1 or 2, and its place.
+#[repr(C)]
+pub struct Comparison {
+    pub number: u32,
+    pub input: u32,
+    pub same: u32,
+    pub place: usize,
 }
 
-fn verdict_refused(refusal: Refusal) -> Verdict
-    ensures { λ r. ⌜ r ≡ verdictOf (refusedAnswer refusal) ⌝ }
-{
-    let fault = refusal.fault;
-    Verdict {
-        number: number_of(fault) as u32,
-        segments: 0,
-        messages: 0,
-        groups: 0,
-        place: refusal.place,
-        length: 0,
-        component: 0,
-        element: 0,
-        mark: 0,
-        release: 0,
-        reserved: 0,
-        terminator: 0,
-    }
+// What Keep hands back: a part of the first input or of the second.
+#[repr(C)]
+pub struct Kept {
+    pub input: u32,
+    pub offset: usize,
+    pub length: usize,
 }
 
-fn written_refused(refusal: Refusal) -> Written
-    ensures { λ r. ⌜ r ≡ writtenOf (refusedAnswer refusal) ⌝ }
-{
-    let fault = refusal.fault;
-    Written {
-        number: number_of(fault) as u32,
-        value: refusal.place,
-    }
+// What Locate says: 0, and 1 with the offset and the spelled length, or 0 where the value is absent;
+// or the refusal's number and place.
+#[repr(C)]
+pub struct Location {
+    pub number: u32,
+    pub present: u32,
+    pub place: usize,
+    pub offset: usize,
+    pub length: usize,
 }
 
-// Judges one interchange: any bytes, any length.
+// What Locate's companion hands back: a part of the input.
+#[repr(C)]
+pub struct Part {
+    pub offset: usize,
+    pub length: usize,
+}
+
+// What Read says: 0 and how many bytes and numbers of the table it stored, or the refusal's number
+// and place.
+#[repr(C)]
+pub struct Listing {
+    pub number: u32,
+    pub place: usize,
+    pub bytes: usize,
+    pub numbers: usize,
+}
+
 #[no_mangle]
 pub extern "C" fn hverolda_judge(input: &[u8]) -> Verdict
     ensures { λ r. ⌜ r ≡ verdictOf (judgeOf (now (input .entry))) ⌝ }
 {
-    match judging::judge(input) {
-        Judged::Accepted(i) => verdict_accepted(i),
-        Judged::Refused(refusal) => verdict_refused(refusal),
-    }
+    verdict_of(judging::judge(input))
 }
 
-// Stores the normal form of one interchange: any bytes, any length, any buffer.
 #[no_mangle]
 pub extern "C" fn hverolda_normalise(buffer: &mut [u8], input: &[u8]) -> Written
     ensures { λ r. ⌜ (r ≡ writtenOf (normaliseOf (now (buffer .entry)) (now (input .entry)))) × (now (buffer .exit) ≡ normaliseBuffer (now (buffer .entry)) (now (input .entry))) ⌝ }
 {
-    match normalising::normalise(buffer, input) {
-        Stored::Length(length) => Written {
-            number: 0,
-            value: length,
-        },
-        Stored::Refused(refusal) => written_refused(refusal),
+    written_of(normalising::normalise(buffer, input))
+}
+
+#[no_mangle]
+pub extern "C" fn hverolda_compare(first: &[u8], second: &[u8]) -> Comparison
+    ensures { λ r. ⌜ r ≡ comparisonOf (compareOf (now (first .entry)) (now (second .entry))) ⌝ }
+{
+    comparison_of(comparing::compare(first, second))
+}
+
+// A slice that is handed back cannot cross, so the part is named: `comparing::keep`'s choice.
+#[no_mangle]
+pub extern "C" fn hverolda_keep(first: &[u8], second: &[u8]) -> Kept
+    ensures { λ r. ⌜ r ≡ keptOf (keepOf (now (first .entry)) (now (second .entry))) ⌝ }
+{
+    if !comparing::are_same(first, second) {
+        return Kept {
+            input: 1,
+            offset: 0,
+            length: 0,
+        };
     }
+    if second.len() < first.len() {
+        return Kept {
+            input: 2,
+            offset: 0,
+            length: second.len(),
+        };
+    }
+    Kept {
+        input: 1,
+        offset: 0,
+        length: first.len(),
+    }
+}
+
+#[no_mangle]
+pub extern "C" fn hverolda_locate(
+    input: &[u8],
+    segment: usize,
+    element: usize,
+    component: usize,
+) -> Location
+    ensures { λ r. ⌜ r ≡ locationOf (locateOf (now (input .entry)) segment element component) ⌝ }
+{
+    location_of(locating::locate(input, segment, element, component))
+}
+
+// Where the value is absent or the input refused, a location's offset and length are 0 too.
+#[no_mangle]
+pub extern "C" fn hverolda_part(
+    input: &[u8],
+    segment: usize,
+    element: usize,
+    component: usize,
+) -> Part
+    ensures { λ r. ⌜ r ≡ partOf (now (input .entry)) segment element component ⌝ }
+{
+    let location = location_of(locating::locate(input, segment, element, component));
+    Part {
+        offset: location.offset,
+        length: location.length,
+    }
+}
+
+#[no_mangle]
+pub extern "C" fn hverolda_read(bytes: &mut [u8], table: &mut [u32], input: &[u8]) -> Listing
+    ensures { λ r. ⌜ (r ≡ listingOf (readOf (now (bytes .entry)) (now (table .entry)) (now (input .entry)))) × (now (bytes .exit) ≡ readBytes (now (bytes .entry)) (now (table .entry)) (now (input .entry))) × (now (table .exit) ≡ readTable (now (bytes .entry)) (now (table .entry)) (now (input .entry))) ⌝ }
+{
+    listing_of(reading_out::read(bytes, table, input))
+}
+
+#[no_mangle]
+pub extern "C" fn hverolda_write(
+    service: &[u8],
+    bytes: &[u8],
+    table: &[u32],
+    output: &mut [u8],
+) -> Written
+    ensures { λ r. ⌜ (r ≡ writtenOf (writeOf (now (service .entry)) (now (bytes .entry)) (now (table .entry)) (now (output .entry)))) × (now (output .exit) ≡ writeOutput (now (service .entry)) (now (bytes .entry)) (now (table .entry)) (now (output .entry))) ⌝ }
+{
+    written_of(writing::write(service, bytes, table, output))
 }

@@ -26,7 +26,8 @@ struct JudgeNumbers {
 #[repr(C)]
 struct NormaliseNumbers {
     number: u32,
-    value: usize,
+    place: usize,
+    length: usize,
 }
 
 extern "C" {
@@ -70,7 +71,7 @@ pub fn normalise(input: &[u8], buffer: &mut [u8]) -> Answer<usize> {
         hverolda_normalise(buffer.as_mut_ptr(), buffer.len(), input.as_ptr(), input.len())
     };
     match told.number {
-        0 => Ok(told.value),
-        number => Err(Refusal { place: told.value, number }),
+        0 => Ok(told.length),
+        number => Err(Refusal { place: told.place, number }),
     }
 }

@@ -1,4 +1,4 @@
--- How the paper's answers are laid out in the structs that cross to C: a number 0 and an accepted
+-- How Judge's answer is laid out in the struct that crosses to C: a number 0 and an accepted
 -- interchange's ten values, or a refusal's number and place. Assumes nothing.
 use Prim.Native.Nat.{ℕ}
 use lib.ListN.{getD}
@@ -6,7 +6,6 @@ use lib.Dec.{eqb}
 use Rattle.lists.specs.Lists.{if_then_else_}
 use Rattle.answers.specs.Answers.{Answer}
 use Rattle.surface.specs.declared.Verdict.{Verdict}
-use Rattle.surface.specs.declared.Written.{Written}
 
 -- the answer's value at a number, from 0
 unfoldable pub value : ℕ → Answer → ℕ
@@ -49,7 +48,3 @@ refusedVerdict a =
 -- what Judge's answer is in a struct
 unfoldable pub verdictOf : Answer → Verdict
 verdictOf a = if eqb (a .number) 0 then acceptedVerdict a else refusedVerdict a
-
--- what Normalise's answer is in a struct
-unfoldable pub writtenOf : Answer → Written
-writtenOf a = record { number = a .number; value = value 0 a }

@@ -1,10 +1,10 @@
--- `surface::verdict_accepted` meets its contract: each field is one of the answer's values. Assumes nothing.
+-- `surface::laying::verdict_accepted` meets its contract: each field is one of the answer's values. Assumes nothing.
 use mathlib.Core.Path.{refl}
 use Rattle.characters.specs.Characters.{spelledOut}
 use Rattle.answers.specs.Answers.{given, accepted}
-use Rattle.surface.specs.Surface.{value, acceptedVerdict, verdictOf}
-use Rattle.surface.proofs.verdict_accepted.Statement.{statement}
-use Rattle.surface.proofs.verdict_accepted.Tie as tie
+use Rattle.surface.specs.Verdicts.{value, acceptedVerdict, verdictOf}
+use Rattle.surface.proofs.laying.verdict_accepted.Statement.{statement}
+use Rattle.surface.proofs.laying.verdict_accepted.Tie as tie
 
 returns : tie.Need-returns
 unfolding verdictOf acceptedVerdict value accepted given spelledOut

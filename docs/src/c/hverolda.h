@@ -1,0 +1,298 @@
+/*
+ * Hverolda for C: judges an EDIFACT interchange (ISO 9735, 1990), reads its values, writes
+ * interchanges, makes a normal form, and says whether two interchanges are the same.
+ *
+ * The archive is target/staticlib/libsurface.a, which `rt staticlib surface` proves and writes, for
+ * x86-64 Linux. It needs nothing but the C library's memset:
+ *
+ *     cc -std=c99 -o mailbox docs/src/c/example.c target/staticlib/libsurface.a
+ *
+ * What is proved. For any bytes and any numbers, each function's answer and every byte and number of
+ * each buffer at exit are what the definitions in crates/surface/specs and crates/operations/specs
+ * say; no function reads or writes outside what it is lent, and each one ends. This header and the
+ * size of the stack are not part of the proof.
+ *
+ * What the caller owes. A slice is a pointer and, right after it, the number of its elements.
+ *   - The pointer is valid for that many elements for the whole call, and they take fewer than 2^63
+ *     bytes. A table's pointer is aligned for uint32_t.
+ *   - All of them hold values: a buffer that is to be written to is initialised first, too.
+ *   - A buffer that is written to overlaps no other argument. Inputs that are only read may overlap,
+ *     or be the same.
+ *   - Nobody else writes to an input, or uses a buffer, during the call.
+ *   - Where the number is 0, nothing is read or written through the pointer, and it may be null.
+ *     Where it is not 0, the pointer may not be null.
+ * Nothing is asked of what the bytes and numbers are.
+ *
+ * Threads. The functions have no state: no globals, no heap, no errno, no input or output. Calls may
+ * run at the same time as long as each keeps to what is owed above.
+ *
+ * Stack. Compare and Keep hold two arrays of 32,000 bytes each, and take some 65,000 bytes in all.
+ * The other functions take less than 2,000. There is no recursion.
+ *
+ * Limits. An input, a written text and a normal form have at most 32,000 bytes, a table at most
+ * 96,000 numbers. So a normal form or a written text fits 32,000 bytes, and what Read stores fits
+ * 32,000 bytes and 96,000 numbers, since each value in the input is followed by a separator or a
+ * terminator.
+ */
+#ifndef HVEROLDA_H
+#define HVEROLDA_H
+
+#include <stddef.h>
+#include <stdint.h>
+
+#ifdef __cplusplus
+extern "C" {
+#endif
+
+/*
+ * Refusals by number, and the place that goes with each. 0 is no refusal.
+ *
+ * A place is an offset in the input (for Write, in the text that it would have written), unless the
+ * line says otherwise. "Start" is that of a segment.
+ */
+enum hverolda_refusal {
+    HVEROLDA_NOT_REFUSED = 0,
+    /* Input or text over 32,000 bytes. Place: 0. */
+    HVEROLDA_TOO_LONG = 1,
+    /* Unusable advice, or shorter than its 9 bytes; Write: not six usable bytes. Place: 0. */
+    HVEROLDA_UNUSABLE_ADVICE = 2,
+    /* The body doesn't begin `UNB` and the element separator. Place: 0, or 9 after an advice. */
+    HVEROLDA_NO_OPENING = 3,
+    /* Release followed by no service character, or by the end. Place: the release character. */
+    HVEROLDA_STRAY_RELEASE = 4,
+    /* The body ends inside a segment. Place: the input's length. */
+    HVEROLDA_UNENDED_SEGMENT = 5,
+    /* Tag rule broken, in a finished segment. Place: the segment's start. */
+    HVEROLDA_BROKEN_TAG = 6,
+    /* Level or version not ours (UNOA or UNOB, 1 or 2). Place: UNB's start. */
+    HVEROLDA_FOREIGN_LEVEL = 7,
+    /* Byte outside the level. Place: that byte. */
+    HVEROLDA_OUTSIDE_LEVEL = 8,
+    /* Segment not allowed there (place: the segment's start); or the end before UNZ (place: the
+       input's length). */
+    HVEROLDA_MISPLACED_SEGMENT = 9,
+    /* Control element (count or reference) of a service segment malformed: a reference is one
+       component of 1 to 14 bytes, a count one of 1 to 6 digits. Place: the segment's start. */
+    HVEROLDA_BAD_CONTROL = 10,
+    /* Trailer's reference differs from its header's. Place: the trailer's start. */
+    HVEROLDA_REFERENCE_DIFFERS = 11,
+    /* Trailer's count wrong. Place: the trailer's start. */
+    HVEROLDA_COUNT_WRONG = 12,
+    /* Normal form over 32,000 bytes. Place: the length that it would have. */
+    HVEROLDA_NORMAL_TOO_LONG = 13,
+    /* Lent buffer too short. Place: the bytes, or table numbers, needed. */
+    HVEROLDA_BUFFER_SHORT = 14,
+    /* Value list: table over 96,000 numbers or not a multiple of 3, or first kind not 0 (place: 0);
+       kind above 2, or start plus length above the number of bytes (place: the lowest such record's
+       number, from 0). */
+    HVEROLDA_BAD_LIST = 15,
+    /* A value holds a service character and there is no release. Place: the lowest such record's
+       number, from 0. */
+    HVEROLDA_NEEDS_RELEASE = 16
+};
+
+/*
+ * What Judge says. Accepted: `number` and `place` are 0, and the rest is told: how many segments,
+ * messages and groups there are, the length of the normal form, and the six service bytes in the
+ * advice's order (a release character that is a space means "none"). Refused: `number` and `place`,
+ * and all else is 0.
+ */
+typedef struct hverolda_verdict {
+    uint32_t number;
+    uint32_t segments;
+    uint32_t messages;
+    uint32_t groups;
+    size_t place;
+    size_t length;
+    uint8_t component;
+    uint8_t element;
+    uint8_t mark;
+    uint8_t release;
+    uint8_t reserved;
+    uint8_t terminator;
+} hverolda_verdict;
+
+/* What Normalise and Write say: `length` bytes were stored; or `number` and `place`. All else is 0. */
+typedef struct hverolda_written {
+    uint32_t number;
+    size_t place;
+    size_t length;
+} hverolda_written;
+
+/*
+ * What Compare says. Both accepted: `same` is 1 or 0, and the rest is 0. Refused: `number` and
+ * `place`, `input` is 1 or 2 for the one that is refused, and `same` is 0.
+ */
+typedef struct hverolda_comparison {
+    uint32_t number;
+    uint32_t input;
+    uint32_t same;
+    size_t place;
+} hverolda_comparison;
+
+/* What Keep hands back: `length` bytes from `offset` on, of input 1 or 2. */
+typedef struct hverolda_kept {
+    uint32_t input;
+    size_t offset;
+    size_t length;
+} hverolda_kept;
+
+/*
+ * What Locate says. Found: `present` is 1, with the offset and the spelled length. Absent: all is 0.
+ * Refused: `number` and `place`, and the rest is 0.
+ */
+typedef struct hverolda_location {
+    uint32_t number;
+    uint32_t present;
+    size_t place;
+    size_t offset;
+    size_t length;
+} hverolda_location;
+
+/* What Part hands back: `length` bytes of the input from `offset` on. */
+typedef struct hverolda_part_found {
+    size_t offset;
+    size_t length;
+} hverolda_part_found;
+
+/*
+ * What Read says: how many bytes and table numbers were stored; or `number` and `place`. All else
+ * is 0.
+ */
+typedef struct hverolda_listing {
+    uint32_t number;
+    size_t place;
+    size_t bytes;
+    size_t numbers;
+} hverolda_listing;
+
+/*
+ * Judge: is this an interchange by the rules?
+ *
+ * Refusals, in the order in which they are asked: 1, 2, 3, (4 5 6), 7, 8, 9, (10 11 12), 13. The
+ * first of these stages that fails answers; within a bracket the lowest place does, then the lowest
+ * number. An interchange is accepted when none is met. These are "Judge's refusals" below.
+ */
+hverolda_verdict hverolda_judge(const uint8_t *input, size_t input_length);
+
+/*
+ * Normalise: stores the normal form, which is the same for all spellings of the same contents under
+ * the same decimal mark.
+ *
+ * Refusals: Judge's, then 14 where `buffer` is too short, with the bytes needed.
+ * Afterwards `buffer` holds the normal form in front and keeps its values beyond; where anything is
+ * refused it keeps all of them.
+ */
+hverolda_written hverolda_normalise(uint8_t *buffer, size_t buffer_length,
+                                    const uint8_t *input, size_t input_length);
+
+/*
+ * Compare: are the two the same, that is, both accepted and their normal forms equal?
+ *
+ * Refusals: Judge's for the first input, then Judge's for the second.
+ */
+hverolda_comparison hverolda_compare(const uint8_t *first, size_t first_length,
+                                     const uint8_t *second, size_t second_length);
+
+/*
+ * Keep: which of two interchanges that are the same to keep: the shorter one, whole; the first where
+ * they are equally long. Where they are not the same, or one is refused: the first, 0 bytes from 0.
+ *
+ * Nothing is refused. Two that are the same are never empty, so `length` is 0 exactly where they are
+ * not the same.
+ */
+hverolda_kept hverolda_keep(const uint8_t *first, size_t first_length,
+                            const uint8_t *second, size_t second_length);
+
+/*
+ * Locate: where is a value spelled in the input? Segments, elements and components are numbered from
+ * 0 in the contents, where empty components and elements at the end are gone; element 0 is the tag.
+ * The spelled length counts the release characters in the value.
+ *
+ * Refusals: Judge's.
+ */
+hverolda_location hverolda_locate(const uint8_t *input, size_t input_length, size_t segment,
+                                  size_t element, size_t component);
+
+/*
+ * Part: the part of the input that Locate finds, as it is spelled there; 0 bytes from 0 where the
+ * value is absent or the input refused.
+ *
+ * Nothing is refused.
+ */
+hverolda_part_found hverolda_part(const uint8_t *input, size_t input_length, size_t segment,
+                                  size_t element, size_t component);
+
+/*
+ * Read: stores the contents as a value list. `bytes` gets the values, without release characters and
+ * end to end; `table` gets three numbers a value: its kind (0 new segment, 1 new element, 2 next
+ * component), its start in `bytes`, and its length.
+ *
+ * Refusals: Judge's, then 14 where `bytes` is too short, with the bytes needed, then 14 where `table`
+ * is too short, with the numbers needed (three a value). The answer does not say which of the two is
+ * short; see "Limits" for sizes that are enough.
+ * Afterwards each buffer holds its part of the list in front and keeps its values beyond; where
+ * anything is refused both keep all of them.
+ */
+hverolda_listing hverolda_read(uint8_t *bytes, size_t bytes_length,
+                               uint32_t *table, size_t table_length,
+                               const uint8_t *input, size_t input_length);
+
+/*
+ * Write: the interchange that a value list says, under six service bytes: component separator,
+ * element separator, decimal mark, release character (a space: none), a space, terminator. The text
+ * is always an advice and the trimmed list. Values in `bytes` may stand in any order and overlap.
+ *
+ * Refusals, in the order in which they are asked: 15, 2, 16, 1, 14 (the bytes needed), then 3 to 13
+ * as Judge would answer for the text: 3, (4 5 6), 7, 8, 9, (10 11 12), 13.
+ * Afterwards `output` holds the text in front and keeps its values beyond. A refused Write leaves
+ * all of `output` zero, so that no half text is sent.
+ */
+hverolda_written hverolda_write(const uint8_t *service, size_t service_length,
+                                const uint8_t *bytes, size_t bytes_length,
+                                const uint32_t *table, size_t table_length,
+                                uint8_t *output, size_t output_length);
+
+#ifdef __cplusplus
+}
+#endif
+
+/* The archive's layout of the structs, held to this compiler's where the language can say it. */
+#if defined(__cplusplus) && __cplusplus >= 201103L
+#define HVEROLDA_HOLDS(fact) static_assert(fact, #fact);
+#elif defined(__STDC_VERSION__) && __STDC_VERSION__ >= 201112L
+#define HVEROLDA_HOLDS(fact) _Static_assert(fact, #fact);
+#else
+#define HVEROLDA_HOLDS(fact)
+#endif
+HVEROLDA_HOLDS(sizeof(size_t) == 8)
+HVEROLDA_HOLDS(sizeof(hverolda_verdict) == 40)
+HVEROLDA_HOLDS(offsetof(hverolda_verdict, groups) == 12)
+HVEROLDA_HOLDS(offsetof(hverolda_verdict, place) == 16)
+HVEROLDA_HOLDS(offsetof(hverolda_verdict, length) == 24)
+HVEROLDA_HOLDS(offsetof(hverolda_verdict, component) == 32)
+HVEROLDA_HOLDS(offsetof(hverolda_verdict, terminator) == 37)
+HVEROLDA_HOLDS(sizeof(hverolda_written) == 24)
+HVEROLDA_HOLDS(offsetof(hverolda_written, place) == 8)
+HVEROLDA_HOLDS(offsetof(hverolda_written, length) == 16)
+HVEROLDA_HOLDS(sizeof(hverolda_comparison) == 24)
+HVEROLDA_HOLDS(offsetof(hverolda_comparison, input) == 4)
+HVEROLDA_HOLDS(offsetof(hverolda_comparison, same) == 8)
+HVEROLDA_HOLDS(offsetof(hverolda_comparison, place) == 16)
+HVEROLDA_HOLDS(sizeof(hverolda_kept) == 24)
+HVEROLDA_HOLDS(offsetof(hverolda_kept, offset) == 8)
+HVEROLDA_HOLDS(offsetof(hverolda_kept, length) == 16)
+HVEROLDA_HOLDS(sizeof(hverolda_location) == 32)
+HVEROLDA_HOLDS(offsetof(hverolda_location, present) == 4)
+HVEROLDA_HOLDS(offsetof(hverolda_location, place) == 8)
+HVEROLDA_HOLDS(offsetof(hverolda_location, offset) == 16)
+HVEROLDA_HOLDS(offsetof(hverolda_location, length) == 24)
+HVEROLDA_HOLDS(sizeof(hverolda_part_found) == 16)
+HVEROLDA_HOLDS(offsetof(hverolda_part_found, length) == 8)
+HVEROLDA_HOLDS(sizeof(hverolda_listing) == 32)
+HVEROLDA_HOLDS(offsetof(hverolda_listing, place) == 8)
+HVEROLDA_HOLDS(offsetof(hverolda_listing, bytes) == 16)
+HVEROLDA_HOLDS(offsetof(hverolda_listing, numbers) == 24)
+#undef HVEROLDA_HOLDS
+
+#endif
