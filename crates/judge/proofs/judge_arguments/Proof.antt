@@ -13,8 +13,8 @@ abbrev μ-loop : tie.MeasureT-loop
 loop-holds : tie.Need-loop-holds Inv-loop μ-loop
 loop-holds c = search needs
 
-judge-argument-requires : tie.Need-judge-argument-requires Inv-loop μ-loop
-judge-argument-requires c κs = search needs
+judge-input-requires : tie.Need-judge-input-requires Inv-loop μ-loop
+judge-input-requires c κs = search needs
 
 add-i : tie.Need-add-i Inv-loop μ-loop
 add-i c = search needs
@@ -35,7 +35,7 @@ judge-arguments-spec =
     Inv-loop
     μ-loop
     loop-holds
-    judge-argument-requires
+    judge-input-requires
     add-i
     loop-less
     loop-again

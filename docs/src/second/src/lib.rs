@@ -18,6 +18,7 @@ pub mod reading;
 pub mod refusal;
 pub mod report_lines;
 pub mod request_stream;
+pub mod respelling;
 pub mod selftest;
 pub mod service_characters;
 pub mod standard_examples;

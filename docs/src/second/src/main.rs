@@ -1,13 +1,13 @@
-//! The command line: `second judge|answers|generate|cases|selftest`.
+//! The command line: `second judge|respell|answers|generate|cases|selftest`.
 
-use std::fs::File;
+use std::fs::{self, File};
 use std::io::{self, BufReader, BufWriter, Read, Write};
 use std::path::Path;
 use std::process::ExitCode;
 
-use second::{cases, generator, operations, report_lines, request_stream, selftest};
+use second::{cases, generator, operations, report_lines, request_stream, respelling, selftest};
 
-const USAGE: &str = "usage: second judge [FILE] | answers [FILE] | \
+const USAGE: &str = "usage: second judge [FILE] | respell SERVICE FILE.. | answers [FILE] | \
                      generate SEED COUNT [KINDS] | cases DIR | selftest";
 
 fn main() -> ExitCode {
@@ -16,6 +16,7 @@ fn main() -> ExitCode {
     let done = match words[..] {
         ["judge"] => judge(None),
         ["judge", file] => judge(Some(file)),
+        ["respell", service, ref files @ ..] => respell(service, files),
         ["answers"] => answers(None),
         ["answers", file] => answers(Some(file)),
         ["generate", seed, count] => generate(seed, count, generator::ALL_KINDS),
@@ -50,6 +51,16 @@ fn judge(file: Option<&str>) -> io::Result<ExitCode> {
     source(file)?.read_to_end(&mut input)?;
     let answer = operations::judge(&input);
     writeln!(io::stdout(), "{}", report_lines::judge_line(&answer))?;
+    Ok(ExitCode::SUCCESS)
+}
+
+fn respell(service: &str, files: &[&str]) -> io::Result<ExitCode> {
+    let mut out = BufWriter::new(io::stdout());
+    for file in files {
+        let lines = respelling::respelled_lines(service.as_bytes(), &fs::read(file)?);
+        out.write_all(&lines)?;
+    }
+    out.flush()?;
     Ok(ExitCode::SUCCESS)
 }
 

@@ -1,9 +1,9 @@
--- What the program's reading of an input promises. Assumes nothing.
+-- What the reading of an input promises. Assumes nothing.
 use Prim.Native.Nat.{ℕ, _≤_}
 use mathlib.Core.List.{List}
 use lib.ListN.{length}
-use Rattle.judge.specs.declared.Input.{Input}
-use Rattle.judge.specs.declared.Input.the-variants.{Bytes, Unreadable}
+use Rattle.inputs.specs.declared.Input.{Input}
+use Rattle.inputs.specs.declared.Input.the-variants.{Bytes, Unreadable}
 
 -- the bytes that were read lie within the buffer
 abbrev pub Fitting : Input → List ℕ → Type 0

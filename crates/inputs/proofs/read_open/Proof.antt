@@ -1,17 +1,17 @@
--- `judge::read_input` meets its contract: what was read lies within the buffer, whose length no read changes.
+-- `inputs::read_open` meets its contract: what was read lies within the buffer, whose length no read changes.
 -- The measure is the room that is left; each turn takes a byte of it, or stops. Assumes nothing.
 use Prim.Native.Nat.{_≤_, _-_}
 use mathlib.Core.Path.{_≡_}
 use lib.ListN.{length}
 use borrow.Author.Needs.{needs}
-use Rattle.judge.proofs.read_input.Statement.{statement}
-use Rattle.judge.proofs.read_input.Tie as tie
+use Rattle.inputs.proofs.read_open.Statement.{statement}
+use Rattle.inputs.proofs.read_open.Tie as tie
 
 abbrev Inv-loop : tie.InvT-loop
-Inv-loop fd buf₀ done₀ buf done = (done ≤ length buf) × (length buf ≡ length buf₀)
+Inv-loop fd name buf₀ done₀ buf done = (done ≤ length buf) × (length buf ≡ length buf₀)
 
 abbrev μ-loop : tie.MeasureT-loop
-μ-loop fd buf₀ done₀ buf done = length buf - done
+μ-loop fd name buf₀ done₀ buf done = length buf - done
 
 loop-holds : tie.Need-loop-holds Inv-loop μ-loop
 loop-holds c = search needs
@@ -27,6 +27,9 @@ part-read-end c = search needs
 
 read-requires : tie.Need-read-requires Inv-loop μ-loop
 read-requires c κs = search needs
+
+fail-requires : tie.Need-fail-requires Inv-loop μ-loop
+fail-requires c κs = search needs
 
 same-length : tie.Need-same-length Inv-loop μ-loop
 same-length c = search needs
@@ -67,8 +70,8 @@ same-length-3 c = search needs
 returns-3 : tie.Need-returns-3 Inv-loop μ-loop
 returns-3 c = search needs
 
-pub read-input-spec : {M : Type 1} → statement M
-read-input-spec =
+pub read-open-spec : {M : Type 1} → statement M
+read-open-spec =
     tie.close
     (tie.spec
     Inv-loop
@@ -78,6 +81,7 @@ read-input-spec =
     part-read-start
     part-read-end
     read-requires
+    fail-requires
     same-length
     returns
     sub-count

@@ -1,0 +1,69 @@
+// The inputs of a program: standard input, or a file that an argument names, read into a lent buffer.
+// It promises that what was read lies within the buffer. Where an input cannot be read, standard error
+// says why. What is done with the bytes is left to the programs.
+ghost use Rattle.inputs.specs.Input.{Fitting};
+use libc::STDIN_FILENO;
+
+// A byte more than the longest interchange, which is enough to see that an input is longer.
+pub const ROOM: usize = 32001;
+
+// Where an input comes from; an argument is known by its number.
+pub enum Source {
+    StandardInput,
+    Argument(usize),
+}
+
+// How many bytes of an input stand at the start of the buffer, unless it could not be read.
+pub enum Input {
+    Bytes(usize),
+    Unreadable,
+}
+
+// Reads until the input ends or the buffer is full.
+fn read_open(fd: i32, name: &[u8], buf: &mut [u8]) -> Input
+    ensures { λ r. ⌜ Fitting r (now (buf .exit)) ⌝ }
+{
+    let mut done = 0;
+    while done < buf.len() {
+        let got = libc::read(fd, &mut buf[done..]);
+        if got < 0 {
+            os::fail(name);
+            return Input::Unreadable;
+        }
+        let more = io::count(got, &buf[done..]);
+        if more == 0 {
+            return Input::Bytes(done);
+        }
+        done += more;
+    }
+    Input::Bytes(done)
+}
+
+fn read_argument(i: usize, buf: &mut [u8]) -> Input
+    ensures { λ r. ⌜ Fitting r (now (buf .exit)) ⌝ }
+{
+    let mut name = io::buffer();
+    let n = os::arg(i, &mut name);
+    if os::errno() != 0 {
+        // Longer than the name of any file: its first bytes are there.
+        os::fail(&name);
+        return Input::Unreadable;
+    }
+    let fd = os::open_read(&name[..n]);
+    if fd < 0 {
+        os::fail(&name[..n]);
+        return Input::Unreadable;
+    }
+    let input = read_open(fd, &name[..n], buf);
+    libc::close(fd);
+    input
+}
+
+pub fn read(source: Source, buf: &mut [u8]) -> Input
+    ensures { λ r. ⌜ Fitting r (now (buf .exit)) ⌝ }
+{
+    match source {
+        Source::StandardInput => read_open(STDIN_FILENO, b"standard input", buf),
+        Source::Argument(i) => read_argument(i, buf),
+    }
+}
