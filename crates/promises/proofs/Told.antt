@@ -2,8 +2,10 @@
 use Prim.Native.Nat.{ℕ}
 use mathlib.Core.Path.{_≡_, refl, sym, ap, ap₂}
 use mathlib.Core.List.{List, [], _∷_}
+use mathlib.Core.Option.{Option, none, some}
 use native.Mathlib.Omega.{arith}
 use lib.ListN.{length, drop, getD}
+use Rattle.lists.specs.Lists.{maybe}
 use Rattle.characters.specs.Characters.{spelledOut}
 use Rattle.refusals.specs.declared.Refusal.{Refusal}
 use Rattle.refusals.specs.Refusals.{number}
@@ -73,6 +75,20 @@ given-input l which r e = number-not-zero (r .fault) (sym (ap (λ (a : Answer). 
 pub different : (i : Interchange) (r : Refusal) → accepted i ≡ refused r → ⊥
 unfolding accepted
 different i r e = given-refused _ r e
+
+-- ---- what an answer says of the refusal, if any
+
+-- what is given was not refused, and is what there was to give
+pub given-is : (values l : List ℕ) (o : Option Refusal) → given l ≡ maybe (given values) refused o → (o ≡ none) × (l ≡ values)
+unfolding maybe given
+given-is values l none e = (refl, ap (λ (a : Answer). a .values) e)
+given-is values l (some r) e = absurd (given-refused l r e)
+
+-- what is refused was refused so
+pub refused-is : (values : List ℕ) (r : Refusal) (o : Option Refusal) → refused r ≡ maybe (given values) refused o → o ≡ some r
+unfolding maybe
+refused-is values r none e = absurd (given-refused values r (sym e))
+refused-is values r (some q) e = ap some (sym (refused-tells r q e))
 
 -- ---- the answers
 
