@@ -7,7 +7,7 @@ use mathlib.Core.Option.{Option, none, some}
 use native.Mathlib.Nat.{le-of-eq}
 use native.Mathlib.Omega.{arith}
 use lib.Dec.{ltb}
-use lib.ListN.{length, take, drop, getD, replicate, length-append, length-replicate}
+use lib.ListN.{length, take, drop, replicate, length-append, length-replicate}
 use lib.Seq.{take-at}
 use borrow.Author.Tests.{ltb-false, le-ltb}
 use Rattle.lists.specs.Lists.{if_then_else_, same, maybe}
@@ -20,8 +20,7 @@ use Rattle.verdict.specs.Places.{isOver, normalTooLong}
 use Rattle.verdict.specs.Stages.{laterStages, stages, refusalOf}
 use Rattle.answers.specs.declared.Compared.{Compared}
 use Rattle.answers.specs.declared.Compared.the-variants.{Same, Different, FirstRefused, SecondRefused}
-use Rattle.answers.specs.Answers.{Answer, given, refused, refusedInput, toldCompared}
-use Rattle.judging.proofs.Told.{refused-tells}
+use Rattle.answers.specs.Answers.{Answer, given, refusedInput, toldCompared}
 use Rattle.operations.specs.Judge.{shortFor, storedIn, unlessRefused, normaliseRefusal, normaliseBuffer}
 use Rattle.operations.specs.Compare.{isAccepted, areSame, compare}
 
@@ -143,36 +142,3 @@ told-same first second r q e d =
     step none none false = refl
     step none (some r) t = refl
     step (some r) b t = refl
-
--- ---- two answers that say the same are the same
-
--- how many values an answer has, and the one at a number
-abbrev values : Answer → ℕ
-values a = length (a .values)
-
-abbrev value : ℕ → Answer → ℕ
-value k a = getD (a .values) k 0
-
--- what is said of a refusal and its input determines the refusal
-refusal-tells : (which : ℕ) (r q : Refusal) → refusedInput which r ≡ refusedInput which q → r ≡ q
-unfolding refused refusedInput
-refusal-tells which r q e = refused-tells r q (ap (λ (a : Answer). record { number = a .number; values = drop 1 (a .values) }) e)
-
-pub compared-tells : (a b : Compared) → toldCompared a ≡ toldCompared b → a ≡ b
-unfolding toldCompared given refusedInput
-compared-tells Same Same e = refl
-compared-tells Same Different e = absurd (omega (arith, ap (value 0) e))
-compared-tells Same (FirstRefused q) e = absurd (omega (arith, ap values e))
-compared-tells Same (SecondRefused q) e = absurd (omega (arith, ap values e))
-compared-tells Different Same e = absurd (omega (arith, ap (value 0) e))
-compared-tells Different Different e = refl
-compared-tells Different (FirstRefused q) e = absurd (omega (arith, ap values e))
-compared-tells Different (SecondRefused q) e = absurd (omega (arith, ap values e))
-compared-tells (FirstRefused r) Same e = absurd (omega (arith, ap values e))
-compared-tells (FirstRefused r) Different e = absurd (omega (arith, ap values e))
-compared-tells (FirstRefused r) (FirstRefused q) e = ap FirstRefused (refusal-tells 1 r q e)
-compared-tells (FirstRefused r) (SecondRefused q) e = absurd (omega (arith, ap (value 0) e))
-compared-tells (SecondRefused r) Same e = absurd (omega (arith, ap values e))
-compared-tells (SecondRefused r) Different e = absurd (omega (arith, ap values e))
-compared-tells (SecondRefused r) (FirstRefused q) e = absurd (omega (arith, ap (value 0) e))
-compared-tells (SecondRefused r) (SecondRefused q) e = ap SecondRefused (refusal-tells 2 r q e)

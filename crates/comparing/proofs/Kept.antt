@@ -1,9 +1,9 @@
 -- What Keep hands back: one of the two lent slices whole, or no byte of the first. Assumes nothing.
 use Prim.Native.Nat.{ℕ, _+_, _≤_, _<_}
-use mathlib.Core.Path.{_≡_, sym, ap, subst, _∙_}
+use mathlib.Core.Path.{_≡_, refl, sym, ap, subst, _∙_}
 use mathlib.Core.Bool.{true, false}
 use mathlib.Core.List.{List, []}
-use native.Mathlib.Nat.{add-zero}
+use native.Mathlib.Nat.{zero-add}
 use lib.Dec.{ltb}
 use lib.ListN.{length}
 use lib.Seq.{take-length}
@@ -12,16 +12,15 @@ use denote.Ref.{RefT, ptr, now}
 use Rattle.lists.specs.Lists.{if_then_else_}
 use Rattle.lists.proofs.Texts.{if-true, if-false}
 use Rattle.operations.specs.Compare.{Part, ofFirst, ofSecond, areSame, keep}
-use Rattle.comparing.specs.Handed.{IsPart, Handed}
+use Rattle.promises.specs.Promises.{IsPart, Handed}
 
 -- a place is its own, no bytes on
-here : (p : ℕ × ℕ) → p ≡ (p .0, p .1 + 0)
-here p = ap (λ (n : ℕ). (p .0, n)) (sym (add-zero (p .1)))
+here : (p : ℕ × ℕ) → p ≡ (p .0, 0 + p .1)
+here p = ap (λ (n : ℕ). (p .0, n)) (sym (zero-add (p .1)))
 
 -- a slice is the part of itself that has all its bytes
 whole : (lent : RefT (List ℕ)) → IsPart lent 0 (length (now lent)) lent
-unfolding IsPart
-whole lent = (here (ptr lent), sym (take-length (now lent)))
+whole lent = record { place = here (ptr lent); long = refl; bytes = sym (take-length (now lent)) }
 
 module _ (first second : RefT (List ℕ)) where
   abbrev kept : Part
@@ -33,10 +32,10 @@ module _ (first second : RefT (List ℕ)) where
   -- the two are not the same
   pub handed-none : (r : RefT (List ℕ)) → areSame (now first) (now second) ≡ false → ptr r ≡ ptr first → now r ≡ []
       → Handed kept first second r
-  unfolding keep Handed IsPart
+  unfolding keep
   handed-none r e p q =
       subst (λ (part : Part). Handed part first second r) (sym (if-false (areSame (now first) (now second)) shorter (ofFirst 0 0) e))
-      (p ∙ here (ptr first), q)
+      (record { place = p ∙ here (ptr first); long = ap length q; bytes = q })
 
   module _ (e : areSame (now first) (now second) ≡ true) where
     same-kept : {part : Part} → shorter ≡ part → kept ≡ part
@@ -45,7 +44,6 @@ module _ (first second : RefT (List ℕ)) where
 
     -- they are, and the second is shorter
     pub handed-second : length (now second) < length (now first) → Handed kept first second second
-    unfolding Handed
     handed-second h =
         subst (λ (part : Part). Handed part first second second)
         (sym (same-kept (if-true (ltb (length (now second)) (length (now first))) (ofSecond 0 (length (now second))) (ofFirst 0 (length (now first))) (lt-ltb (length (now second)) (length (now first)) h))))
@@ -53,15 +51,7 @@ module _ (first second : RefT (List ℕ)) where
 
     -- they are, and it is not
     pub handed-first : length (now first) ≤ length (now second) → Handed kept first second first
-    unfolding Handed
     handed-first h =
         subst (λ (part : Part). Handed part first second first)
         (sym (same-kept (if-false (ltb (length (now second)) (length (now first))) (ofSecond 0 (length (now second))) (ofFirst 0 (length (now first))) (le-ltb (length (now second)) (length (now first)) h))))
         (whole first)
-
--- two slices that are the part point to the same place and have the same bytes
-pub handed-one : (part : Part) (first second r q : RefT (List ℕ)) → Handed part first second r → Handed part first second q
-    → (ptr r ≡ ptr q) × (now r ≡ now q)
-unfolding Handed IsPart
-handed-one (ofFirst offset length) first second r q h k = (h .0 ∙ sym (k .0), h .1 ∙ sym (k .1))
-handed-one (ofSecond offset length) first second r q h k = (h .0 ∙ sym (k .0), h .1 ∙ sym (k .1))

@@ -9,10 +9,9 @@ ghost use lib.ListN.{length, take};
 ghost use Rattle.lists.specs.Lists.{same};
 ghost use Rattle.verdict.specs.Contents.{normalForm};
 ghost use Rattle.verdict.specs.Stages.{refusalOf};
-ghost use Rattle.answers.specs.Answers.{toldCompared};
 ghost use Rattle.operations.specs.Judge.{interchangeOf};
-ghost use Rattle.operations.specs.Compare.{areSame, compare as compareOf, keep as keepOf};
-ghost use Rattle.comparing.specs.Handed.{Handed};
+ghost use Rattle.operations.specs.Compare.{areSame};
+ghost use Rattle.promises.specs.Promises.{Compares, Keeps};
 use answers::Compared;
 use answers::Interchange;
 use answers::Judged;
@@ -46,7 +45,7 @@ fn equal_forms(first: &[u8], second: &[u8], count: usize) -> bool
 // Two interchanges that were accepted.
 fn compare_accepted(first: &[u8], second: &[u8], i: Interchange, j: Interchange) -> Compared
     requires { ⌜ (refusalOf (now first) ≡ none) × (refusalOf (now second) ≡ none) × (i ≡ interchangeOf (now first)) × (j ≡ interchangeOf (now second)) ⌝ }
-    ensures { λ r. ⌜ toldCompared r ≡ compareOf (now (first .entry)) (now (second .entry)) ⌝ }
+    ensures { λ r. ⌜ Compares (now (first .entry)) (now (second .entry)) r ⌝ }
 {
     let count = i.length;
     if count != j.length {
@@ -61,7 +60,7 @@ fn compare_accepted(first: &[u8], second: &[u8], i: Interchange, j: Interchange)
 // The first was accepted.
 fn compare_second(first: &[u8], second: &[u8], i: Interchange) -> Compared
     requires { ⌜ (refusalOf (now first) ≡ none) × (i ≡ interchangeOf (now first)) ⌝ }
-    ensures { λ r. ⌜ toldCompared r ≡ compareOf (now (first .entry)) (now (second .entry)) ⌝ }
+    ensures { λ r. ⌜ Compares (now (first .entry)) (now (second .entry)) r ⌝ }
 {
     match judging::judge(second) {
         Judged::Refused(r) => Compared::SecondRefused(r),
@@ -71,7 +70,7 @@ fn compare_second(first: &[u8], second: &[u8], i: Interchange) -> Compared
 
 // "1st is judged first".
 pub fn compare(first: &[u8], second: &[u8]) -> Compared
-    ensures { λ r. ⌜ toldCompared r ≡ compareOf (now (first .entry)) (now (second .entry)) ⌝ }
+    ensures { λ r. ⌜ Compares (now (first .entry)) (now (second .entry)) r ⌝ }
 {
     match judging::judge(first) {
         Judged::Refused(r) => Compared::FirstRefused(r),
@@ -93,7 +92,7 @@ pub fn are_same(first: &[u8], second: &[u8]) -> bool
 
 // The shorter of two that are the same, the first where equally long; else no byte of the first.
 pub fn keep<'a>(first: &'a [u8], second: &'a [u8]) -> &'a [u8]
-    ensures { λ r. ⌜ Handed (keepOf (now (first .entry)) (now (second .entry))) (first .entry) (second .entry) r ⌝ }
+    ensures { λ r. ⌜ Keeps (first .entry) (second .entry) r ⌝ }
 {
     if !are_same(first, second) {
         return &first[..0];

@@ -8,8 +8,7 @@ ghost use Rattle.verdict.specs.Contents.{bodyTokens, kindsOf};
 ghost use Rattle.verdict.specs.Places.{level as levelIn};
 ghost use Rattle.opening.proofs.Openings.{Opening};
 ghost use Rattle.machines.specs.Walks.{worded};
-ghost use Rattle.answers.specs.Answers.{toldJudged};
-ghost use Rattle.operations.specs.Judge.{judge as judgeOf};
+ghost use Rattle.promises.specs.Promises.{Judges};
 ghost use Rattle.judging.specs.Judging.{judged, fromLength, fromControl, fromOrder, fromBytes, fromLevel, fromWords};
 use answers::Interchange;
 use answers::Judged;
@@ -107,7 +106,7 @@ fn judge_words(s: &[u8], c: Characters, start: usize) -> Judged
 
 // Judges one interchange: any bytes, any length.
 pub fn judge(s: &[u8]) -> Judged
-    ensures { λ r. ⌜ toldJudged r ≡ judgeOf (now (s .entry)) ⌝ }
+    ensures { λ r. ⌜ Judges (now (s .entry)) r ⌝ }
 {
     match opening::opening_of(s) {
         Opened::Refused(r) => Judged::Refused(r),

@@ -2,4 +2,3 @@ pub mod Ends
 pub mod Trimmed
 pub mod Values
 pub mod Locating
-pub mod Told

@@ -30,8 +30,9 @@ use Rattle.answers.specs.declared.Located.{Located}
 use Rattle.answers.specs.declared.Located.the-variants.{At, Absent, Refused}
 use Rattle.answers.specs.Answers.{Answer, given, refused, toldLocated}
 use Rattle.operations.specs.Judge.{interchangeOf}
-use Rattle.operations.specs.Locate.{located, locate, partOffset, partLength, part}
-use Rattle.locating.specs.Locating.{placed, Inside, Part}
+use Rattle.operations.specs.Locate.{located, locate, partOffset, partLength}
+use Rattle.promises.specs.Promises.{HandsBack}
+use Rattle.locating.specs.Locating.{placed, Inside}
 use Rattle.locating.proofs.Ends.{Whole, behind-whole}
 use Rattle.locating.proofs.Trimmed.{at-drop}
 
@@ -107,9 +108,7 @@ found-inside s h e = subst (Inside s) e h
 module _ (whole : RefT (List ℕ)) (segment element component : ℕ) where
   -- what the companion hands back
   abbrev Handed : RefT (List ℕ) → Type 0
-  Handed p =
-      (now p ≡ part (now whole) segment element component)
-      × Part whole p (partOffset (now whole) segment element component) (partLength (now whole) segment element component)
+  Handed p = HandsBack whole segment element component p
 
   -- its offset and its length
   abbrev bounds : ℕ × ℕ
@@ -130,16 +129,14 @@ module _ (whole : RefT (List ℕ)) (segment element component : ℕ) where
   -- so much of the input from there on is handed back
   handed : (o n : ℕ) (p : RefT (List ℕ)) → bounds ≡ (o, n) → o + n ≤ length (now whole) → now p ≡ take n (drop o (now whole))
       → ptr p ≡ (ptr whole .0, o + ptr whole .1) → Handed p
-  unfolding part
   handed o n p e h b q =
       let from = ap (λ (x : ℕ × ℕ). x .0) (sym e) in
-      let long = ap (λ (x : ℕ × ℕ). x .1) (sym e) in (
-        b ∙ ap₂ (λ (k l : ℕ). take k (drop l (now whole))) long from,
-        record {
-          place = q ∙ ap (λ (k : ℕ). (ptr whole .0, k + ptr whole .1)) from;
-          size = ap length b ∙ length-take n (drop o (now whole)) ∙ min-eq-left (omega (arith, length-drop o (now whole))) ∙ long;
-        },
-      )
+      let size = ap (λ (x : ℕ × ℕ). x .1) (sym e) in
+      record {
+        place = q ∙ ap (λ (k : ℕ). (ptr whole .0, k + ptr whole .1)) from;
+        long = ap length b ∙ length-take n (drop o (now whole)) ∙ min-eq-left (omega (arith, length-drop o (now whole))) ∙ size;
+        bytes = b ∙ ap₂ (λ (k l : ℕ). take k (drop l (now whole))) size from;
+      }
 
   module _ (r : Located) (told : toldLocated r ≡ locate (now whole) segment element component) {p : RefT (List ℕ)} where
     -- the part that was found

@@ -1,11 +1,9 @@
--- Where a value stands, as it is answered; and which part of lent bytes is handed back. Assumes nothing.
+-- Where a value stands, as it is answered. Assumes nothing.
 use Prim.Native.Nat.{ℕ, zero, suc, _+_, _≤_}
-use mathlib.Core.Path.{_≡_}
 use mathlib.Core.Bool.{Bool, not}
 use mathlib.Core.List.{List}
 use mathlib.Core.Option.{Option, none, some}
 use lib.ListN.{length}
-use denote.Ref.{RefT, ptr, now}
 use Rattle.lists.specs.Lists.{isEmpty}
 use Rattle.reading.specs.Tokens.{Token}
 use Rattle.reading.specs.Values.{Value}
@@ -29,8 +27,3 @@ abbrev pub Inside : List ℕ → Located → Type 0
 Inside s (At offset size) = offset + size ≤ length s
 Inside s Absent = Unit {0}
 Inside s (Refused r) = Unit {0}
-
--- the part of lent bytes that begins at an offset in them and has a length
-pub record Part (whole part : RefT (List ℕ)) (offset spelled : ℕ) : Type 0 where
-  pub place : ptr part ≡ (ptr whole .0, offset + ptr whole .1)
-  pub size : length (now part) ≡ spelled

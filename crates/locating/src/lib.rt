@@ -7,9 +7,8 @@ ghost use Rattle.reading.specs.Values.{endsInside};
 ghost use Rattle.reading.specs.Trimming.{trimmed, valueAt};
 ghost use Rattle.reading.proofs.Steps.{tokensAt};
 ghost use Rattle.scanner.specs.Scan.{segmentAt};
-ghost use Rattle.answers.specs.Answers.{toldLocated};
-ghost use Rattle.operations.specs.Locate.{locate as locateOf, part as partOf, partOffset, partLength};
-ghost use Rattle.locating.specs.Locating.{staysIn, placed, Inside, Part};
+ghost use Rattle.promises.specs.Promises.{Locates, HandsBack};
+ghost use Rattle.locating.specs.Locating.{staysIn, placed, Inside};
 use answers::Judged;
 use answers::Located;
 use characters::Characters;
@@ -51,7 +50,7 @@ fn value_at(s: &[u8], c: Characters, start: usize, element: usize, component: us
 // Where the value is spelled. Segments, elements and components are numbered from 0; element 0 is
 // the tag.
 pub fn locate(s: &[u8], segment: usize, element: usize, component: usize) -> Located
-    ensures { λ r. ⌜ toldLocated r ≡ locateOf (now (s .entry)) segment element component ⌝ }
+    ensures { λ r. ⌜ Locates (now (s .entry)) segment element component r ⌝ }
     ensures inside { λ r. ⌜ Inside (now (s .entry)) r ⌝ }
 {
     match judging::judge(s) {
@@ -67,8 +66,7 @@ pub fn locate(s: &[u8], segment: usize, element: usize, component: usize) -> Loc
 // The part of the input that `locate` finds, as it is spelled there; zero bytes at the input's start
 // where it finds none.
 pub fn part<'a>(s: &'a [u8], segment: usize, element: usize, component: usize) -> &'a [u8]
-    ensures bytes { λ r. ⌜ now r ≡ partOf (now (s .entry)) segment element component ⌝ }
-    ensures which { λ r. ⌜ Part (s .entry) r (partOffset (now (s .entry)) segment element component) (partLength (now (s .entry)) segment element component) ⌝ }
+    ensures { λ r. ⌜ HandsBack (s .entry) segment element component r ⌝ }
 {
     match locate(s, segment, element, component) {
         Located::At { offset, length } => {

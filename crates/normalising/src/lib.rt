@@ -6,6 +6,7 @@ ghost use mathlib.Core.Option.{none};
 ghost use Rattle.verdict.specs.Stages.{refusalOf};
 ghost use Rattle.answers.specs.Answers.{toldStored};
 ghost use Rattle.operations.specs.Judge.{interchangeOf, normalise as normaliseOf, normaliseBuffer};
+ghost use Rattle.promises.specs.Promises.{Normalises};
 use answers::Interchange;
 use answers::Judged;
 use answers::Stored;
@@ -32,7 +33,7 @@ fn store_form(buffer: &mut [u8], s: &[u8], i: Interchange) -> Stored
 }
 
 pub fn normalise(buffer: &mut [u8], s: &[u8]) -> Stored
-    ensures { λ r. ⌜ (toldStored r ≡ normaliseOf (now (buffer .entry)) (now (s .entry))) × (now (buffer .exit) ≡ normaliseBuffer (now (buffer .entry)) (now (s .entry))) ⌝ }
+    ensures { λ r. ⌜ Normalises (now (buffer .entry)) (now (s .entry)) r (now (buffer .exit)) ⌝ }
 {
     match judging::judge(s) {
         Judged::Refused(r) => Stored::Refused(r),

@@ -30,10 +30,10 @@ use Rattle.judging.proofs.Stages.{accepted-opening, accepted-worded}
 use Rattle.tallying.specs.Tally.{tableOf}
 use Rattle.tallying.proofs.Contents.{contents-bytes, contents-table}
 use Rattle.answers.specs.declared.Interchange.{Interchange}
-use Rattle.answers.specs.declared.Listed.{Listed}
 use Rattle.answers.specs.declared.Listed.the-variants.{Values, Refused}
 use Rattle.answers.specs.Answers.{given, refused, toldListed}
 use Rattle.operations.specs.Judge.{interchangeOf, shortFor, storedIn, unlessRefused}
+use Rattle.promises.specs.Promises.{Reads}
 use Rattle.operations.specs.Read.{valueBytes, valueTable, readRefusal, read, readBytes, readTable}
 
 -- ---- the value list of an accepted interchange
@@ -80,19 +80,14 @@ front-stored buffer {new} w h e =
     ∙ ap (λ (k : ℕ). new ++ drop k buffer) (zero-add (length new))
 
 module _ (buffer table s : List ℕ) where
-  pub record Reads (r : Listed) (bytesAfter tableAfter : List ℕ) : Type 0 where
-    pub says : toldListed r ≡ read buffer table s
-    pub bytes : bytesAfter ≡ readBytes buffer table s
-    pub numbers : tableAfter ≡ readTable buffer table s
-
   -- a refusal answers, and both buffers are unchanged
-  refuses : {r : Refusal} → readRefusal buffer table s ≡ some r → Reads (Refused r) buffer table
+  refuses : {r : Refusal} → readRefusal buffer table s ≡ some r → Reads buffer table s (Refused r) buffer table
   unfolding read readBytes readTable toldListed maybe unlessRefused
-  refuses e = record {
-    says = sym (ap (maybe (given (length (valueBytes s) ∷ length (valueTable s) ∷ [])) refused) e);
-    bytes = sym (ap (λ (o : Option Refusal). unlessRefused o (storedIn buffer (valueBytes s)) buffer) e);
-    numbers = sym (ap (λ (o : Option Refusal). unlessRefused o (storedIn table (valueTable s)) table) e);
-  }
+  refuses e = (
+    sym (ap (maybe (given (length (valueBytes s) ∷ length (valueTable s) ∷ [])) refused) e),
+    sym (ap (λ (o : Option Refusal). unlessRefused o (storedIn buffer (valueBytes s)) buffer) e),
+    sym (ap (λ (o : Option Refusal). unlessRefused o (storedIn table (valueTable s)) table) e),
+  )
 
   -- 14 for the byte buffer, and then 14 for the table
   abbrev shorts : Option Refusal
@@ -106,7 +101,7 @@ module _ (buffer table s : List ℕ) where
       ∙ ap (λ (o : Option Refusal). orElse (answering (stages s)) (orElse (lowest (shortFor (valueBytes s) buffer)) o))
       (orElse-none (lowest (shortFor (valueTable s) table)))
 
-  pub judge-refuses : {r : Refusal} → refusalOf s ≡ some r → Reads (Refused r) buffer table
+  pub judge-refuses : {r : Refusal} → refusalOf s ≡ some r → Reads buffer table s (Refused r) buffer table
   unfolding orElse
   judge-refuses e = refuses (by-stages ∙ ap (λ (o : Option Refusal). orElse o shorts) e)
 
@@ -126,14 +121,14 @@ module _ (buffer table s : List ℕ) where
         ∙ ap (λ (x : Bool). if x then refuse BufferShort (length (valueTable s)) else none) f)
 
     pub bytes-refused : {n : ℕ} → n ≡ length (valueBytes s) → length buffer < n
-        → Reads (Refused (record { fault = BufferShort; place = n })) buffer table
+        → Reads buffer table s (Refused (record { fault = BufferShort; place = n })) buffer table
     unfolding orElse
     bytes-refused {n} e h =
         refuses (by-lengths (lt-ltb (length buffer) (length (valueBytes s)) (omega (arith, e, h))) refl ∙ ap (refuse BufferShort) (sym e))
 
     module _ {n : ℕ} (e : n ≡ length (valueBytes s)) (h : n ≤ length buffer) where
       pub table-refused : {m : ℕ} → m ≡ length (valueTable s) → length table < m
-          → Reads (Refused (record { fault = BufferShort; place = m })) buffer table
+          → Reads buffer table s (Refused (record { fault = BufferShort; place = m })) buffer table
       unfolding orElse
       table-refused {m} f k =
           refuses
@@ -143,20 +138,16 @@ module _ (buffer table s : List ℕ) where
       -- both are stored
       pub list-stored : {m : ℕ} {bytes numbers bytesAfter tableAfter : List ℕ} → m ≡ length (valueTable s) → m ≤ length table
           → valueBytes s ≡ bytes → valueTable s ≡ numbers → bytesAfter ≡ sets buffer 0 bytes → tableAfter ≡ sets table 0 numbers
-          → Reads (Values n m) bytesAfter tableAfter
+          → Reads buffer table s (Values n m) bytesAfter tableAfter
       unfolding read readBytes readTable toldListed maybe unlessRefused orElse
       list-stored {m} f k v w p q =
           let passed : readRefusal buffer table s ≡ none =
           by-lengths (le-ltb (length buffer) (length (valueBytes s)) (omega (arith, e, h))) (le-ltb (length table) (length (valueTable s)) (omega (arith, f, k)))
-          in
-          record {
-            says =
-                ap₂ (λ (x y : ℕ). given (x ∷ y ∷ [])) e f
-                ∙ sym (ap (maybe (given (length (valueBytes s) ∷ length (valueTable s) ∷ [])) refused) passed);
-            bytes =
-                front-stored buffer v (omega (arith, e, h)) p
-                ∙ sym (ap (λ (o : Option Refusal). unlessRefused o (storedIn buffer (valueBytes s)) buffer) passed);
-            numbers =
-                front-stored table w (omega (arith, f, k)) q
-                ∙ sym (ap (λ (o : Option Refusal). unlessRefused o (storedIn table (valueTable s)) table) passed);
-          }
+          in (
+            ap₂ (λ (x y : ℕ). given (x ∷ y ∷ [])) e f
+                ∙ sym (ap (maybe (given (length (valueBytes s) ∷ length (valueTable s) ∷ [])) refused) passed),
+            front-stored buffer v (omega (arith, e, h)) p
+                ∙ sym (ap (λ (o : Option Refusal). unlessRefused o (storedIn buffer (valueBytes s)) buffer) passed),
+            front-stored table w (omega (arith, f, k)) q
+                ∙ sym (ap (λ (o : Option Refusal). unlessRefused o (storedIn table (valueTable s)) table) passed),
+          )

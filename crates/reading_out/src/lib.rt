@@ -5,9 +5,8 @@
 ghost use mathlib.Core.Path.{_≡_};
 ghost use mathlib.Core.Option.{none};
 ghost use Rattle.verdict.specs.Stages.{refusalOf};
-ghost use Rattle.answers.specs.Answers.{toldListed};
 ghost use Rattle.operations.specs.Judge.{interchangeOf};
-ghost use Rattle.operations.specs.Read.{read as readOf, readBytes, readTable};
+ghost use Rattle.promises.specs.Promises.{Reads};
 use answers::Interchange;
 use answers::Judged;
 use answers::Listed;
@@ -27,7 +26,7 @@ fn too_short(needed: usize) -> Listed
 // Stores the value list of an interchange that was accepted.
 fn store_list(buffer: &mut [u8], table: &mut [u32], s: &[u8], i: Interchange) -> Listed
     requires { ⌜ (refusalOf (now s) ≡ none) × (i ≡ interchangeOf (now s)) ⌝ }
-    ensures { λ r. ⌜ (toldListed r ≡ readOf (now (buffer .entry)) (now (table .entry)) (now (s .entry))) × (now (buffer .exit) ≡ readBytes (now (buffer .entry)) (now (table .entry)) (now (s .entry))) × (now (table .exit) ≡ readTable (now (buffer .entry)) (now (table .entry)) (now (s .entry))) ⌝ }
+    ensures { λ r. ⌜ Reads (now (buffer .entry)) (now (table .entry)) (now (s .entry)) r (now (buffer .exit)) (now (table .exit)) ⌝ }
 {
     let c = i.characters;
     let start = opening::body_start(s);
@@ -46,7 +45,7 @@ fn store_list(buffer: &mut [u8], table: &mut [u32], s: &[u8], i: Interchange) ->
 }
 
 pub fn read(buffer: &mut [u8], table: &mut [u32], s: &[u8]) -> Listed
-    ensures { λ r. ⌜ (toldListed r ≡ readOf (now (buffer .entry)) (now (table .entry)) (now (s .entry))) × (now (buffer .exit) ≡ readBytes (now (buffer .entry)) (now (table .entry)) (now (s .entry))) × (now (table .exit) ≡ readTable (now (buffer .entry)) (now (table .entry)) (now (s .entry))) ⌝ }
+    ensures { λ r. ⌜ Reads (now (buffer .entry)) (now (table .entry)) (now (s .entry)) r (now (buffer .exit)) (now (table .exit)) ⌝ }
 {
     match judging::judge(s) {
         Judged::Refused(r) => Listed::Refused(r),

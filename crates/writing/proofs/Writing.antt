@@ -13,11 +13,10 @@ use Rattle.lists.specs.Lists.{if_then_else_, at, maybe}
 use Rattle.lists.proofs.Texts.{or-none-left, or-none-right}
 use Rattle.characters.specs.declared.Characters.{Characters}
 use Rattle.characters.specs.Characters.{sixBytes, usable, adviceOf, badAdvice}
-use Rattle.refusals.specs.declared.Fault.{Fault}
-use Rattle.refusals.specs.declared.Fault.the-variants.{TooLong, UnusableAdvice, NoOpening, StrayRelease, UnendedSegment, BrokenTag, ForeignLevel, OutsideLevel, MisplacedSegment, BadControl, ReferenceDiffers, CountWrong, NormalTooLong, BufferShort, BadList, NeedsRelease}
+use Rattle.refusals.specs.declared.Fault.the-variants.{TooLong, UnusableAdvice, BufferShort, BadList}
 use Rattle.refusals.specs.declared.Refusal.{Refusal}
 use Rattle.refusals.specs.declared.Outcome.the-variants as outcome-as
-use Rattle.refusals.specs.Refusals.{number, Stage, met, lowest, orElse, answering, outcome}
+use Rattle.refusals.specs.Refusals.{Stage, met, lowest, orElse, answering, outcome}
 use Rattle.refusals.proofs.Stages.{answering-first}
 use Rattle.machines.specs.Walks.{refuse}
 use Rattle.machines.proofs.Rows.{lowest-if}
@@ -30,10 +29,12 @@ use Rattle.answers.specs.declared.Judged.{Judged}
 use Rattle.answers.specs.declared.Judged.the-variants as judged-as
 use Rattle.answers.specs.declared.Stored.{Stored}
 use Rattle.answers.specs.declared.Stored.the-variants.{Length, Refused}
-use Rattle.answers.specs.Answers.{Answer, given, refused, accepted, toldJudged, toldStored}
-use Rattle.operations.specs.Judge.{interchangeOf, judge, shortFor, storedIn, unlessRefused}
+use Rattle.answers.specs.Answers.{given, refused, toldStored}
+use Rattle.operations.specs.Judge.{shortFor, storedIn, unlessRefused}
 use Rattle.operations.specs.ValueList.{Entry, entries, valueIn, listedIn, segmentsListed, trimList}
 use Rattle.operations.specs.Write.{badTable, badList, unusableBytes, needsRelease, writtenText, writeRefusal, write, writeOutput}
+use Rattle.promises.specs.Promises.{Judges, Writes}
+use Rattle.judging.proofs.Told.{told-accepted, told-refused}
 use Rattle.trimming.specs.Kinds.{firstKind}
 use Rattle.forms.proofs.Openings.{advice-good}
 use Rattle.value_lists.proofs.Records.{table-bad, table-good, none-bad}
@@ -191,45 +192,21 @@ judged-later c more u h =
     answering-first (met TooLong (tooLong t)) (met UnusableAdvice (unusableAdvice t) ∷ laterStages t) none (text-within t h)
     ∙ answering-first (met UnusableAdvice (unusableAdvice t)) (laterStages t) none advice)
 
--- no refusal has the number 0
-number-some : (f : Fault) → number f ≡ 0 → ⊥
-unfolding number
-number-some TooLong e = omega arith
-number-some UnusableAdvice e = omega arith
-number-some NoOpening e = omega arith
-number-some StrayRelease e = omega arith
-number-some UnendedSegment e = omega arith
-number-some BrokenTag e = omega arith
-number-some ForeignLevel e = omega arith
-number-some OutsideLevel e = omega arith
-number-some MisplacedSegment e = omega arith
-number-some BadControl e = omega arith
-number-some ReferenceDiffers e = omega arith
-number-some CountWrong e = omega arith
-number-some NormalTooLong e = omega arith
-number-some BufferShort e = omega arith
-number-some BadList e = omega arith
-number-some NeedsRelease e = omega arith
-
-module _ (s : List ℕ) (n : ℕ) (kept before : List ℕ) {j : Judged} (e : toldJudged j ≡ judge s) where
+module _ (s : List ℕ) (n : ℕ) (kept before : List ℕ) {j : Judged} (e : Judges s j) where
   -- Judge refuses
   pub judged-refused : {q : Refusal} {r : Stored} {after : List ℕ} → j ≡ judged-as.Refused q → r ≡ Refused q
       → after ≡ replicate (length before) 0 → Written (refusalOf s) n kept before r after
-  unfolding judge toldJudged toldStored maybe unlessRefused refused accepted given
-  judged-refused {q} {r} {after} d t z = step (refusalOf s) (sym (ap toldJudged d) ∙ e)
-    where
-      step : (o : Option Refusal) → refused q ≡ maybe (accepted (interchangeOf s)) refused o → Written o n kept before r after
-      step none k = absurd (number-some (q .fault) (ap (λ (a : Answer). a .number) k))
-      step (some p) k = record { told = ap toldStored t ∙ k; left = z }
+  judged-refused d t z = refused-written n kept before (told-refused s e d) t z
 
   -- Judge accepts
   pub judged-accepted : {i : Interchange} → j ≡ judged-as.Accepted i → Written (refusalOf s) n kept before (Length n) kept
-  unfolding judge toldJudged toldStored maybe unlessRefused refused accepted given
-  judged-accepted {i} d = step (refusalOf s) (sym (ap toldJudged d) ∙ e)
-    where
-      step : (o : Option Refusal) → accepted i ≡ maybe (accepted (interchangeOf s)) refused o → Written o n kept before (Length n) kept
-      step none k = record { told = refl; left = refl }
-      step (some p) k = absurd (number-some (p .fault) (sym (ap (λ (a : Answer). a .number) k)))
+  unfolding toldStored maybe unlessRefused
+  judged-accepted d =
+      let passed = told-accepted s e d .0 in
+      record {
+        told = sym (ap (maybe (given (n ∷ [])) refused) passed);
+        left = sym (ap (λ (o : Option Refusal). unlessRefused o kept (replicate (length before) 0)) passed);
+      }
 
 -- ---- the text
 
@@ -331,6 +308,6 @@ module _ (service bytes table output : List ℕ) where
 pub write-is : (service bytes table output : List ℕ) {r : Stored} {after : List ℕ}
     → Written (answering (met BadList (badList bytes table) ∷ serviceStages service bytes table output))
     (length (textOf (sixBytes service) bytes table)) (storedIn output (textOf (sixBytes service) bytes table)) output r after
-    → (toldStored r ≡ write service bytes table output) × (after ≡ writeOutput service bytes table output)
+    → Writes service bytes table output r after
 unfolding write writeOutput writeRefusal writtenText needsRelease serviceStages releaseStages textStages textOf
 write-is service bytes table output w = (w .told, w .left)

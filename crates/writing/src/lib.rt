@@ -8,9 +8,8 @@ ghost use lib.ListN.{length, take, replicate};
 ghost use Rattle.characters.specs.Characters.{sixBytes, usable};
 ghost use Rattle.refusals.specs.Refusals.{answering};
 ghost use Rattle.verdict.specs.Stages.{refusalOf};
-ghost use Rattle.answers.specs.Answers.{toldStored};
 ghost use Rattle.operations.specs.Judge.{storedIn};
-ghost use Rattle.operations.specs.Write.{write as writeOf, writeOutput};
+ghost use Rattle.promises.specs.Promises.{Writes};
 ghost use Rattle.writing.specs.Writing.{Written, Passed, textOf, textStages, releaseStages, serviceStages};
 use answers::Judged;
 use answers::Stored;
@@ -114,7 +113,7 @@ fn write_listed(service: &[u8], bytes: &[u8], table: &[u32], output: &mut [u8]) 
 
 // Writes the interchange that the value list and the service bytes say: any slices.
 pub fn write(service: &[u8], bytes: &[u8], table: &[u32], output: &mut [u8]) -> Stored
-    ensures { λ r. ⌜ (toldStored r ≡ writeOf (now (service .entry)) (now (bytes .entry)) (now (table .entry)) (now (output .entry))) × (now (output .exit) ≡ writeOutput (now (service .entry)) (now (bytes .entry)) (now (table .entry)) (now (output .entry))) ⌝ }
+    ensures { λ r. ⌜ Writes (now (service .entry)) (now (bytes .entry)) (now (table .entry)) (now (output .entry)) r (now (output .exit)) ⌝ }
 {
     match value_lists::check_list(bytes, table) {
         Outcome::Failed(r) => refuse(output, r),

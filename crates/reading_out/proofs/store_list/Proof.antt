@@ -24,7 +24,7 @@ returns c =
     let d = characters-of s (c .before .before .before .before .before .before .before .before .before .pre .1) in
     let p = c .before .before .before .before .body-start .ensures in
     let n = bytes-refused (c .before .before .before .before .before .before .before .before .before .args .buffer .now) (c .before .before .before .before .before .before .before .before .before .args .table .now) s a (bytes-needed s a d p (c .before .before .before .tally-of .ensures .0)) (c .before .if1 .taken) in
-    (ap toldListed (c .too-short .ensures) ∙ n .says, n .bytes, n .numbers)
+    (ap toldListed (c .too-short .ensures) ∙ n .0, n .1, n .2)
 
 too-short-requires-2 : tie.Need-too-short-requires-2
 too-short-requires-2 c κs = search needs
@@ -39,7 +39,7 @@ returns-2 c =
     let n =
     table-refused (c .before .before .before .before .before .before .before .before .before .before .before .args .buffer .now) (c .before .before .before .before .before .before .before .before .before .before .before .args .table .now) s a (bytes-needed s a d p (t .0)) (c .before .before .before .if1 .left)
     (numbers-needed s a d p (t .1)) (c .before .if2 .taken) in
-    (ap toldListed (c .too-short2 .ensures) ∙ n .says, n .bytes, n .numbers)
+    (ap toldListed (c .too-short2 .ensures) ∙ n .0, n .1, n .2)
 
 put-values-requires : tie.Need-put-values-requires
 put-values-requires c κs =
@@ -63,10 +63,8 @@ returns-3 c =
     let p = c .before .before .before .before .before .before .before .before .before .before .before .before .body-start .ensures in
     let t = c .before .before .before .before .before .before .before .before .before .before .before .tally-of .ensures in
     let e = c .before .before .before .before .put-values .ensures in
-    let n =
     list-stored buffer table s a (bytes-needed s a d p (t .0)) (c .before .before .before .before .before .before .before .before .before .if1 .left) (numbers-needed s a d p (t .1)) (c .before .before .before .before .before .before .before .if2 .left)
-    (bytes-are s a d p) (table-is s a d p) (e .0) (e .1) in
-    (n .says, n .bytes, n .numbers)
+    (bytes-are s a d p) (table-is s a d p) (e .0) (e .1)
 
 pub store-list-spec : {M : Type 1} → statement M
 store-list-spec =
