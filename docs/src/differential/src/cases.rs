@@ -6,11 +6,12 @@ use second::operations;
 use second::refusal::{BUFFER, LONGEST, LONGEST_TABLE};
 use second::request_stream::Request;
 
-use hverolda::surface::{Comparison, Kept, Verdict};
+use hverolda::surface::{Comparison, Kept};
 
 use crate::call::{Answer, Call, Outcome};
 use crate::inputs;
 use crate::lent::filled;
+use crate::limits::{limit, write_limit, Limit, WriteLimit};
 use crate::pairs::{pair, Change, CHANGES};
 use crate::run::{Checked, Run};
 use crate::tables::make_wild;
@@ -34,15 +35,17 @@ pub fn stated(run: &mut Run) -> Checked<()> {
 /// A case at random.
 pub fn any(run: &mut Run) -> Checked<()> {
     match run.random.below(20) {
-        0..=6 => {
+        0..=5 => {
             let kind = run.random.pick(ALL_KINDS.as_bytes());
             let call = request(&mut run.random, kind).into();
             run.check(&call).map(drop)
         }
-        7..=11 => {
+        6..=10 => {
             let input = inputs::input(&mut run.random);
             every_operation(run, input)
         }
+        11 if run.random.chance(75) => known_limit(run),
+        11 => known_write_limit(run),
         12..=16 => {
             let change = run.random.pick(&CHANGES);
             known_pair(run, change)
@@ -53,15 +56,11 @@ pub fn any(run: &mut Run) -> Checked<()> {
 
 /// Every operation that reads an interchange, with buffers of several sizes.
 fn every_operation(run: &mut Run, input: Vec<u8>) -> Checked<()> {
-    let outcome = run.check(&Call::Judge { input: input.clone() })?;
-    let segments = match outcome.answer {
-        Answer::Judge(Verdict { segments, .. }) => segments as usize,
-        _ => 0,
-    };
+    run.check(&Call::Judge { input: input.clone() })?;
     normalised(run, &input)?;
-    read(run, &input)?;
+    let table = read(run, &input)?;
     for _ in 0..3 {
-        let numbers = inputs::numbers(&mut run.random, segments);
+        let numbers = inputs::numbers(&mut run.random, &table);
         run.check(&Call::Locate { numbers, input: input.clone() })?;
         run.check(&Call::Part { numbers, input: input.clone() })?;
     }
@@ -76,41 +75,78 @@ fn two(run: &mut Run, first: Vec<u8>, second: Vec<u8>) -> Checked<()> {
     run.check(&Call::Keep { first, second }).map(drop)
 }
 
-/// The sizes of a buffer where so much is needed, each with its name.
-fn rooms(run: &mut Run, needed: usize) -> [(usize, &'static str); 4] {
+/// The sizes of a buffer, each with its name, where so much is needed.
+fn rooms(run: &mut Run, needed: usize) -> Vec<(usize, &'static str)> {
     let longer = needed + run.random.between(1, 40);
-    [(0, "empty"), (needed.saturating_sub(1), "one short"), (needed, "exact"), (longer, "longer")]
+    match needed {
+        0 => vec![(0, "empty"), (longer, "any")],
+        _ => vec![(0, "empty"), (needed - 1, "one short"), (needed, "exact"), (longer, "longer")],
+    }
 }
 
-fn normalised(run: &mut Run, input: &[u8]) -> Checked<()> {
+/// The normal form, or no bytes where there is none.
+fn normalised(run: &mut Run, input: &[u8]) -> Checked<Vec<u8>> {
     let needed = operations::judge(input).map_or(0, |verdict| verdict.normal_length);
+    let mut form = Vec::new();
     for (room, name) in rooms(run, needed) {
         let buffer = filled(&mut run.random, room);
-        run.check(&Call::Normalise { buffer, input: input.to_vec() })?;
-        if needed > 0 {
-            run.tally.count("normalise buffer", name);
+        let outcome = run.check(&Call::Normalise { buffer, input: input.to_vec() })?;
+        run.tally.count("normalise buffer", name);
+        if name == "exact" {
+            form = outcome.bytes;
         }
     }
-    Ok(())
+    Ok(form)
 }
 
-fn read(run: &mut Run, input: &[u8]) -> Checked<()> {
+/// The table of the contents, or no numbers where there are none.
+fn read(run: &mut Run, input: &[u8]) -> Checked<Vec<u32>> {
     let (mut bytes, mut table) = (vec![0; LONGEST], vec![0; LONGEST_TABLE]);
     let needed = operations::read(input, &mut bytes, &mut table);
     let (byte_count, number_count) = needed.map_or((0, 0), |counts| (counts.bytes, counts.numbers));
+    table.truncate(number_count);
     let (byte_rooms, table_rooms) = (rooms(run, byte_count), rooms(run, number_count));
-    let mut sizes: Vec<_> =
-        (0..3).map(|_| (run.random.pick(&byte_rooms), run.random.pick(&table_rooms))).collect();
-    sizes.push((byte_rooms[2], run.random.pick(&table_rooms)));
-    for ((room, byte_name), (numbers, table_name)) in sizes {
-        let bytes = filled(&mut run.random, room);
-        let table = filled(&mut run.random, numbers);
-        run.check(&Call::Read { bytes, table, input: input.to_vec() })?;
-        if byte_count > 0 {
-            run.tally.count("read bytes", byte_name);
-            run.tally.count("read table", table_name);
-        }
+    for turn in 0..4 {
+        // the byte buffer must do for the table to be looked at
+        let (room, byte_name) = match turn {
+            0 | 1 => byte_rooms[byte_rooms.len() / 2],
+            _ => run.random.pick(&byte_rooms),
+        };
+        let (numbers, table_name) = run.random.pick(&table_rooms);
+        let call = Call::Read {
+            bytes: filled(&mut run.random, room),
+            table: filled(&mut run.random, numbers),
+            input: input.to_vec(),
+        };
+        run.check(&call)?;
+        run.tally.count("read bytes", byte_name);
+        run.tally.count("read table", table_name);
     }
+    Ok(table)
+}
+
+/// An interchange at a limit, with the answer that the paper gives it.
+fn known_limit(run: &mut Run) -> Checked<()> {
+    let Limit { input, verdict, name } = limit(&mut run.random);
+    let known = Outcome::of(Answer::Judge(verdict));
+    run.check_known(&Call::Judge { input: input.clone() }, &known, name)?;
+    run.tally.count("limit", name);
+    every_operation(run, input)
+}
+
+/// A value list at a limit, with the answer that the paper gives it.
+fn known_write_limit(run: &mut Run) -> Checked<()> {
+    let WriteLimit { service, values, table, written, name } = write_limit(&mut run.random);
+    let room = LONGEST + run.random.below(3);
+    let call = Call::Write {
+        service: service.to_vec(),
+        values,
+        table,
+        output: filled(&mut run.random, room),
+    };
+    let outcome = run.check(&call)?;
+    run.known(outcome.answer == Answer::Write(written), &call, name)?;
+    run.tally.count("limit", name);
     Ok(())
 }
 
@@ -125,13 +161,13 @@ fn known_pair(run: &mut Run, change: Change) -> Checked<()> {
         (true, true) => Kept { input: 2, offset: 0, length: second.len() },
     };
     let (one, other) = (first.clone(), second.clone());
-    let call = Call::Compare { first: one, second: other };
-    run.check_known(&call, &Outcome::of(Answer::Compare(comparison)), change.name())?;
-    let (one, other) = (first.clone(), second.clone());
     let call = Call::Keep { first: one, second: other };
     run.check_known(&call, &Outcome::of(Answer::Keep(kept)), change.name())?;
-    normalised(run, &first)?;
-    normalised(run, &second)?;
+    let (one, other) = (first.clone(), second.clone());
+    let call = Call::Compare { first: one, second: other };
+    run.check_known(&call, &Outcome::of(Answer::Compare(comparison)), change.name())?;
+    let equal = normalised(run, &first)? == normalised(run, &second)?;
+    run.known(equal == same, &call, "equal normal forms are to say the same")?;
     run.tally.count("pair", change.name());
     Ok(())
 }
@@ -153,9 +189,7 @@ fn list(run: &mut Run) -> Checked<()> {
         let output = filled(&mut run.random, room);
         let (service, values, table) = (service.clone(), values.clone(), table.clone());
         run.check(&Call::Write { service, values, table, output })?;
-        if needed > 0 {
-            run.tally.count("write output", name);
-        }
+        run.tally.count("write output", name);
     }
     Ok(())
 }

@@ -1,8 +1,8 @@
 //! Inputs of every sort: the second program's (valid, damaged, soups, about
-//! the limits), any bytes, and as many values as an interchange can hold.
+//! the limits) and any bytes; and numbers to locate in them.
 
 use second::generator::{any_input, Random};
-use second::refusal::LONGEST;
+use second::value_list::{NEW_ELEMENT, NEW_SEGMENT, RECORD};
 
 use crate::call::Numbers;
 
@@ -10,9 +10,7 @@ pub fn input(random: &mut Random) -> Vec<u8> {
     match random.below(100) {
         0..=91 => any_input(random),
         92..=94 => any_bytes(random),
-        95..=97 => any_bytes_after_a_beginning(random),
-        98 => references_of(random),
-        _ => most_values(random),
+        _ => any_bytes_after_a_beginning(random),
     }
 }
 
@@ -34,25 +32,6 @@ fn any_bytes_after_a_beginning(random: &mut Random) -> Vec<u8> {
     input
 }
 
-/// A message whose reference has 13 to 15 bytes, each released, and whose
-/// count has 5 to 7 digits.
-fn references_of(random: &mut Random) -> Vec<u8> {
-    let released = random.pick(&["??", "?+", "?:", "?'"]);
-    let reference = released.repeat(random.between(13, 15));
-    let width = random.between(5, 7);
-    format!("UNB+UNOA:1++++1'UNH+{reference}'UNT+{:0width$}+{reference}'UNZ+1+1'", 2).into_bytes()
-}
-
-/// A body of components of no bytes but the last, the normal form of which has
-/// 32,000 bytes or one to three more or less.
-fn most_values(random: &mut Random) -> Vec<u8> {
-    let length = random.between(LONGEST - 3, LONGEST + 3);
-    let separators = random.pick(&[":", "+", "+", ":"]);
-    let (beginning, end) = ("UNA:+.? 'UNB+UNOA:1++++1'UNH+1'FTX", "A'UNT+3+1'UNZ+1+1'");
-    let count = length - beginning.len() - end.len() - 1;
-    format!("{beginning}+{}{end}", separators.repeat(count)).into_bytes()
-}
-
 /// Numbers that no interchange has; the least that 32 bits do not hold is
 /// among them.
 const WILD: [usize; 10] = [
@@ -68,16 +47,32 @@ const WILD: [usize; 10] = [
     32_001,
 ];
 
-/// Numbers of a component of an interchange of so many segments, or near it,
-/// or wild.
-pub fn numbers(random: &mut Random, segments: usize) -> Numbers {
-    let mut numbers = [random.below(segments + 1), random.below(7), random.pick(&[0, 0, 1, 2, 3])];
+/// The numbers of some value of this table.
+fn of_value(random: &mut Random, table: &[u32]) -> Numbers {
+    let last = random.below(table.len() / RECORD);
+    let mut numbers = [0; 3];
+    for (number, record) in table.chunks(RECORD).enumerate().take(last + 1) {
+        numbers = match (number, record[0]) {
+            (0, _) => numbers,
+            (_, NEW_SEGMENT) => [numbers[0] + 1, 0, 0],
+            (_, NEW_ELEMENT) => [numbers[0], numbers[1] + 1, 0],
+            _ => [numbers[0], numbers[1], numbers[2] + 1],
+        };
+    }
+    numbers
+}
+
+/// Numbers of a value that this table of the contents has, or next to it, or
+/// wild.
+pub fn numbers(random: &mut Random, table: &[u32]) -> Numbers {
+    let mut numbers = of_value(random, table);
     let place = random.below(3);
-    match random.below(8) {
+    match random.below(10) {
         0 => numbers[place] = random.pick(&WILD),
         // all but the low 32 bits are wild
         1 => numbers[place] |= random.pick(&[1 << 32, 1 << 63, usize::MAX << 32]),
-        2 => numbers = [0, 1, 2].map(|_| random.pick(&WILD)),
+        2 => numbers = [0; 3].map(|_: usize| random.pick(&WILD)),
+        3 | 4 => numbers[place] += 1,
         _ => {}
     }
     numbers

@@ -11,10 +11,12 @@
 
 mod by_second;
 mod by_surface;
+mod by_wrapper;
 mod call;
 mod cases;
 mod inputs;
 mod lent;
+mod limits;
 mod pairs;
 mod rules;
 mod run;

@@ -8,7 +8,7 @@ use second::generator::Random;
 use crate::call::{Call, Outcome};
 use crate::lent::Lender;
 use crate::tally::Tally;
-use crate::{by_second, by_surface, rules};
+use crate::{by_second, by_surface, by_wrapper, rules};
 
 /// A call on which something is wrong.
 pub struct Disagreement {
@@ -24,7 +24,7 @@ impl fmt::Display for Disagreement {
         write!(f, "call: {}", self.call)?;
         match &self.surface {
             Some(outcome) => write!(f, "surface: {outcome}")?,
-            None => writeln!(f, "surface: no answer to look at")?,
+            None => writeln!(f, "surface: not shown")?,
         }
         write!(f, "second: {}", self.second)
     }
@@ -63,6 +63,9 @@ impl Run {
         if let Err(what) = rules::check(call, &surface) {
             return wrong(&what, Some(surface), second);
         }
+        if surface != by_wrapper::outcome(call) {
+            return wrong("the wrapper says otherwise", Some(surface), second);
+        }
         self.tally.answered(&surface);
         Ok(surface)
     }
@@ -70,11 +73,16 @@ impl Run {
     /// Checks a call whose outcome is also known without either side.
     pub fn check_known(&mut self, call: &Call, known: &Outcome, why: &str) -> Checked<()> {
         let outcome = self.check(call)?;
-        if outcome == *known {
+        self.known(outcome == *known, call, &format!("{why}, so {:?}", known.answer))
+    }
+
+    /// Holds what must hold of a call on which both sides agree.
+    pub fn known(&self, holds: bool, call: &Call, why: &str) -> Checked<()> {
+        if holds {
             return Ok(());
         }
-        let what = format!("both sides agree, and are wrong: {why}");
-        let (call, second) = (call.clone(), known.clone());
-        Err(Box::new(Disagreement { what, call, surface: Some(outcome), second }))
+        let what = format!("both sides agree and are wrong: {why}");
+        let second = by_second::outcome(call);
+        Err(Box::new(Disagreement { what, call: call.clone(), surface: None, second }))
     }
 }

@@ -22,7 +22,7 @@ const REFUSING: [(&str, &[u32]); 7] = [
 
 /// Other things that must occur: answers that are no refusals, sizes of
 /// buffers, and the ways in which two interchanges differ.
-const OTHERS: [(&str, &str); 31] = [
+const OTHERS: [(&str, &str); 45] = [
     ("judge", "accepted"),
     ("normalise", "stored"),
     ("compare", "same"),
@@ -49,6 +49,20 @@ const OTHERS: [(&str, &str); 31] = [
     ("write output", "exact"),
     ("write output", "longer"),
     ("write output", "one short"),
+    ("limit", "a count of 7 digits"),
+    ("limit", "a normal form of 31999 bytes"),
+    ("limit", "a normal form of 32000 bytes"),
+    ("limit", "a normal form of 32001 bytes"),
+    ("limit", "a reference of 14 and a count of 6"),
+    ("limit", "a reference of 15 bytes"),
+    ("limit", "a table of 96000 numbers"),
+    ("limit", "a table over 96000 numbers"),
+    ("limit", "a text of 32000 bytes"),
+    ("limit", "a text of 32001 bytes"),
+    ("limit", "a text with a normal form of 32000 bytes"),
+    ("limit", "a text with a normal form of 32001 bytes"),
+    ("limit", "an input of 32000 bytes"),
+    ("limit", "an input of 32001 bytes"),
     ("pair", "one byte changed"),
     ("pair", "one component changed"),
     ("pair", "the mark changed"),
@@ -156,7 +170,7 @@ impl fmt::Display for Tally {
             writeln!(f, "{what:<18}{counts}")?;
         }
         for ((what, how), count) in &self.others {
-            writeln!(f, "{what:<18}{how:<24}{count:>8}")?;
+            writeln!(f, "{what:<18}{how:<41}{count:>8}")?;
         }
         Ok(())
     }
