@@ -53,7 +53,7 @@ impl fmt::Display for Call {
         }
         match self {
             Call::Read { table, .. } | Call::Write { table, .. } => {
-                writeln!(f, "  table: {table:?}")
+                writeln!(f, "  table, hexadecimal: {table:x?}")
             }
             _ => Ok(()),
         }
@@ -132,7 +132,7 @@ impl fmt::Display for Outcome {
             writeln!(f, "  bytes at exit: {}", Hex(&self.bytes))?;
         }
         if !self.table.is_empty() {
-            writeln!(f, "  table at exit: {:?}", self.table)?;
+            writeln!(f, "  table at exit, hexadecimal: {:x?}", self.table)?;
         }
         Ok(())
     }

@@ -56,9 +56,14 @@ pub fn any(run: &mut Run) -> Checked<()> {
 
 /// Every operation that reads an interchange, with buffers of several sizes.
 fn every_operation(run: &mut Run, input: Vec<u8>) -> Checked<()> {
-    run.check(&Call::Judge { input: input.clone() })?;
-    normalised(run, &input)?;
+    let call = Call::Judge { input: input.clone() };
+    run.check(&call)?;
+    let form = normalised(run, &input)?;
+    let owned = hverolda::normal_form(&input).unwrap_or_default();
+    run.known(owned == form, &call, "the wrapper's normal form is the one stored")?;
     let table = read(run, &input)?;
+    let owned = hverolda::values(&input).unwrap_or_default();
+    run.known(owned.table() == table, &call, "the wrapper's values are those stored")?;
     for _ in 0..3 {
         let numbers = inputs::numbers(&mut run.random, &table);
         run.check(&Call::Locate { numbers, input: input.clone() })?;

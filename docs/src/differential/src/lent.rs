@@ -99,3 +99,40 @@ impl Lender {
         self.random.chance(50)
     }
 }
+
+#[cfg(test)]
+mod tests {
+    use super::*;
+
+    /// Memory for three bytes, one byte of which is changed, so far from them.
+    fn stored_at(offset: isize) -> Lent<u8> {
+        let mut lent = Lender::new(1, false).lend(&[1, 2, 3]);
+        let place = lent.before.checked_add_signed(offset).expect("a byte of the memory");
+        lent.memory[place] ^= 1;
+        lent
+    }
+
+    #[test]
+    fn guards_show_what_was_stored_outside() {
+        for offset in [-8, -1] {
+            assert!(stored_at(offset).exit("it").is_err_and(|what| what.contains("before")));
+        }
+        for offset in [3, 10] {
+            assert!(stored_at(offset).exit("it").is_err_and(|what| what.contains("behind")));
+        }
+    }
+
+    #[test]
+    fn what_is_lent_may_be_changed_unless_it_is_only_read() {
+        let lent = stored_at(0);
+        assert_eq!(lent.exit("it"), Ok(&[0, 2, 3][..]));
+        assert!(lent.unchanged("it").is_err());
+    }
+
+    #[test]
+    fn a_tight_lender_lends_the_whole_allocation() {
+        let lent = Lender::new(1, true).lend(&[1u32, 2, 3]);
+        assert_eq!(*lent.memory, [1, 2, 3]);
+        assert_eq!(lent.unchanged("it"), Ok(()));
+    }
+}

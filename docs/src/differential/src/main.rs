@@ -67,9 +67,12 @@ fn main() -> ExitCode {
         eprint!("differential: seed {seed}, case {case}: {disagreement}");
         return ExitCode::FAILURE;
     }
-    let gaps = run.tally.gaps();
-    if !options.partial && !gaps.is_empty() {
-        eprintln!("differential: seed {seed}, {count} cases: {}", gaps.join("; "));
+    let mut faults = run.tally.strays();
+    if !options.partial {
+        faults.extend(run.tally.gaps());
+    }
+    if !faults.is_empty() {
+        eprintln!("differential: seed {seed}, {count} cases: {}", faults.join("; "));
         return ExitCode::FAILURE;
     }
     if !options.quiet {

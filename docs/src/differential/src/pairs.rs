@@ -164,3 +164,23 @@ fn put_empty_ends(random: &mut Random, draft: &mut Draft) {
         }
     }
 }
+
+#[cfg(test)]
+mod tests {
+    use super::*;
+    use second::operations::{compare, Comparison};
+
+    #[test]
+    fn pairs_are_the_same_or_not_as_they_were_made() {
+        for seed in 0..2_000 {
+            for change in CHANGES {
+                let (first, second) = pair(&mut Random::new(seed), change);
+                let expected = match change {
+                    Change::Respelled => Comparison::Same,
+                    _ => Comparison::Different,
+                };
+                assert_eq!(compare(&first, &second), expected, "{change:?}, seed {seed}");
+            }
+        }
+    }
+}

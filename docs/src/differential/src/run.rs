@@ -73,15 +73,16 @@ impl Run {
     /// Checks a call whose outcome is also known without either side.
     pub fn check_known(&mut self, call: &Call, known: &Outcome, why: &str) -> Checked<()> {
         let outcome = self.check(call)?;
-        self.known(outcome == *known, call, &format!("{why}, so {:?}", known.answer))
+        let why = format!("{why}, so the answer is {:?}", known.answer);
+        self.known(outcome == *known, call, &why)
     }
 
-    /// Holds what must hold of a call on which both sides agree.
+    /// What must hold of a call on which both sides agree.
     pub fn known(&self, holds: bool, call: &Call, why: &str) -> Checked<()> {
         if holds {
             return Ok(());
         }
-        let what = format!("both sides agree and are wrong: {why}");
+        let what = format!("the two agree, and yet it must hold: {why}");
         let second = by_second::outcome(call);
         Err(Box::new(Disagreement { what, call: call.clone(), surface: None, second }))
     }

@@ -103,22 +103,26 @@ impl Tally {
         }
     }
 
-    /// What never occurred and should have, or occurred and cannot.
+    /// What can occur and never did.
     pub fn gaps(&self) -> Vec<String> {
         let mut gaps = Vec::new();
         for (what, numbers) in REFUSING {
-            for number in 1..=16 {
-                let met = self.refusals.contains_key(&(what, number));
-                match (numbers.contains(&number), met) {
-                    (true, false) => gaps.push(format!("{what}: refusal {number} never occurred")),
-                    (false, true) => gaps.push(format!("{what}: gives no refusal {number}")),
-                    _ => {}
-                }
-            }
+            let met = |number: &u32| self.refusals.contains_key(&(what, *number));
+            let never = numbers.iter().filter(|number| !met(number));
+            gaps.extend(never.map(|number| format!("{what}: refusal {number} never occurred")));
         }
         let never = OTHERS.iter().filter(|key| !self.others.contains_key(key));
         gaps.extend(never.map(|(what, how)| format!("{what}: {how} never occurred")));
         gaps
+    }
+
+    /// What occurred and cannot.
+    pub fn strays(&self) -> Vec<String> {
+        let can = |what: &str, number: u32| {
+            REFUSING.iter().any(|(name, numbers)| *name == what && numbers.contains(&number))
+        };
+        let strays = self.refusals.keys().filter(|(what, number)| !can(what, *number));
+        strays.map(|(what, number)| format!("{what} cannot give refusal {number}")).collect()
     }
 
     /// The refusal that occurred least.

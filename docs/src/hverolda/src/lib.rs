@@ -24,6 +24,10 @@
 //! assert_eq!(hverolda::compare(first, second), Ok(hverolda::Comparison::Same));
 //! assert_eq!(hverolda::keep(first, second), first);
 //! ```
+//!
+//! To build it, run `rt staticlib surface` in the root of the project: that
+//! proves the library and writes the archive that this crate links. Where the
+//! archive stands elsewhere, `SURFACE_FOLDER` names its folder.
 
 #![deny(missing_docs)]
 #![deny(unsafe_code)]
