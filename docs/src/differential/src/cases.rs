@@ -6,7 +6,7 @@ use second::operations;
 use second::refusal::{BUFFER, LONGEST, LONGEST_TABLE};
 use second::request_stream::Request;
 
-use hverolda::surface::{Comparison, Kept};
+use hverolda::surface::{Comparison, Kept, Verdict};
 
 use crate::call::{Answer, Call, Outcome};
 use crate::inputs;
@@ -16,10 +16,14 @@ use crate::pairs::{pair, Change, CHANGES};
 use crate::run::{Checked, Run};
 use crate::tables::make_wild;
 
-/// The paper's cases and the standard's examples, with every operation.
+/// The paper's cases and the standard's examples, with the answers that are
+/// stated for them, and with every operation.
 pub fn stated(run: &mut Run) -> Checked<()> {
     let cases = all_cases();
     for case in &cases {
+        let call = Call::Judge { input: case.input.clone() };
+        let line = line(&run.check(&call)?.answer);
+        run.known(line == case.expected, &call, &case.expected)?;
         every_operation(run, case.input.clone())?;
     }
     for stated in all_pairs() {
@@ -27,9 +31,26 @@ pub fn stated(run: &mut Run) -> Checked<()> {
             let case = cases.iter().find(|case| case.name == name);
             case.expect("a pair names two cases").input.clone()
         };
-        two(run, input(&stated.first), input(&stated.second))?;
+        let (first, second) = (input(&stated.first), input(&stated.second));
+        let call = Call::Compare { first: first.clone(), second: second.clone() };
+        let line = line(&run.check(&call)?.answer);
+        run.known(line == stated.expected, &call, &stated.expected)?;
+        two(run, first, second)?;
     }
     Ok(())
+}
+
+/// The line that is stated for an answer of Judge or Compare.
+fn line(answer: &Answer) -> String {
+    match answer {
+        Answer::Judge(Verdict { number: 0, segments, messages, groups, length, .. }) => {
+            format!("accepted {segments} {messages} {groups} {length}")
+        }
+        Answer::Judge(verdict) => format!("refused {} {}", verdict.number, verdict.place),
+        Answer::Compare(Comparison { number: 0, same: 1, .. }) => "same".to_string(),
+        Answer::Compare(Comparison { number: 0, .. }) => "different".to_string(),
+        other => format!("{other:?}"),
+    }
 }
 
 /// A case at random.
