@@ -1,0 +1,221 @@
+//! The cases of a run. Each is a few calls that belong together.
+
+use second::cases::{all_cases, all_pairs};
+use second::generator::{request, ALL_KINDS};
+use second::operations;
+use second::refusal::{BUFFER, LONGEST, LONGEST_TABLE};
+use second::request_stream::Request;
+
+use hverolda::surface::{Comparison, Kept, Verdict};
+
+use crate::call::{Answer, Call, Outcome};
+use crate::inputs;
+use crate::lent::filled;
+use crate::limits::{limit, write_limit, Limit, WriteLimit};
+use crate::pairs::{pair, Change, CHANGES};
+use crate::run::{Checked, Run};
+use crate::tables::make_wild;
+
+/// The paper's cases and the standard's examples, with the answers that are
+/// stated for them, and with every operation.
+pub fn stated(run: &mut Run) -> Checked<()> {
+    let cases = all_cases();
+    for case in &cases {
+        let call = Call::Judge { input: case.input.clone() };
+        let line = line(&run.check(&call)?.answer);
+        run.known(line == case.expected, &call, &case.expected)?;
+        every_operation(run, case.input.clone())?;
+    }
+    for stated in all_pairs() {
+        let input = |name: &str| {
+            let case = cases.iter().find(|case| case.name == name);
+            case.expect("a pair names two cases").input.clone()
+        };
+        let (first, second) = (input(&stated.first), input(&stated.second));
+        let call = Call::Compare { first: first.clone(), second: second.clone() };
+        let line = line(&run.check(&call)?.answer);
+        run.known(line == stated.expected, &call, &stated.expected)?;
+        two(run, first, second)?;
+    }
+    Ok(())
+}
+
+/// The line that is stated for an answer of Judge or Compare.
+fn line(answer: &Answer) -> String {
+    match answer {
+        Answer::Judge(Verdict { number: 0, segments, messages, groups, length, .. }) => {
+            format!("accepted {segments} {messages} {groups} {length}")
+        }
+        Answer::Judge(verdict) => format!("refused {} {}", verdict.number, verdict.place),
+        Answer::Compare(Comparison { number: 0, same: 1, .. }) => "same".to_string(),
+        Answer::Compare(Comparison { number: 0, .. }) => "different".to_string(),
+        other => format!("{other:?}"),
+    }
+}
+
+/// A case at random.
+pub fn any(run: &mut Run) -> Checked<()> {
+    match run.random.below(20) {
+        0..=5 => {
+            let kind = run.random.pick(ALL_KINDS.as_bytes());
+            let call = request(&mut run.random, kind).into();
+            run.check(&call).map(drop)
+        }
+        6..=10 => {
+            let input = inputs::input(&mut run.random);
+            every_operation(run, input)
+        }
+        11 if run.random.chance(75) => known_limit(run),
+        11 => known_write_limit(run),
+        12..=16 => {
+            let change = run.random.pick(&CHANGES);
+            known_pair(run, change)
+        }
+        _ => list(run),
+    }
+}
+
+/// Every operation that reads an interchange, with buffers of several sizes.
+fn every_operation(run: &mut Run, input: Vec<u8>) -> Checked<()> {
+    let call = Call::Judge { input: input.clone() };
+    run.check(&call)?;
+    let form = normalised(run, &input)?;
+    let owned = hverolda::normal_form(&input).unwrap_or_default();
+    run.known(owned == form, &call, "the wrapper's normal form is the one stored")?;
+    let table = read(run, &input)?;
+    let owned = hverolda::values(&input).unwrap_or_default();
+    run.known(owned.table() == table, &call, "the wrapper's values are those stored")?;
+    for _ in 0..3 {
+        let numbers = inputs::numbers(&mut run.random, &table);
+        run.check(&Call::Locate { numbers, input: input.clone() })?;
+        run.check(&Call::Part { numbers, input: input.clone() })?;
+    }
+    let x = second::cases::X.as_bytes().to_vec();
+    two(run, input.clone(), x.clone())?;
+    two(run, x, input.clone())?;
+    two(run, input.clone(), input)
+}
+
+fn two(run: &mut Run, first: Vec<u8>, second: Vec<u8>) -> Checked<()> {
+    run.check(&Call::Compare { first: first.clone(), second: second.clone() })?;
+    run.check(&Call::Keep { first, second }).map(drop)
+}
+
+/// The sizes of a buffer, each with its name, where so much is needed.
+fn rooms(run: &mut Run, needed: usize) -> Vec<(usize, &'static str)> {
+    let longer = needed + run.random.between(1, 40);
+    match needed {
+        0 => vec![(0, "empty"), (longer, "any")],
+        _ => vec![(0, "empty"), (needed - 1, "one short"), (needed, "exact"), (longer, "longer")],
+    }
+}
+
+/// The normal form, or no bytes where there is none.
+fn normalised(run: &mut Run, input: &[u8]) -> Checked<Vec<u8>> {
+    let needed = operations::judge(input).map_or(0, |verdict| verdict.normal_length);
+    let mut form = Vec::new();
+    for (room, name) in rooms(run, needed) {
+        let buffer = filled(&mut run.random, room);
+        let outcome = run.check(&Call::Normalise { buffer, input: input.to_vec() })?;
+        run.tally.count("normalise buffer", name);
+        if name == "exact" {
+            form = outcome.bytes;
+        }
+    }
+    Ok(form)
+}
+
+/// The table of the contents, or no numbers where there are none.
+fn read(run: &mut Run, input: &[u8]) -> Checked<Vec<u32>> {
+    let (mut bytes, mut table) = (vec![0; LONGEST], vec![0; LONGEST_TABLE]);
+    let needed = operations::read(input, &mut bytes, &mut table);
+    let (byte_count, number_count) = needed.map_or((0, 0), |counts| (counts.bytes, counts.numbers));
+    table.truncate(number_count);
+    let (byte_rooms, table_rooms) = (rooms(run, byte_count), rooms(run, number_count));
+    for turn in 0..4 {
+        // the byte buffer must do for the table to be looked at
+        let (room, byte_name) = match turn {
+            0 | 1 => byte_rooms[byte_rooms.len() / 2],
+            _ => run.random.pick(&byte_rooms),
+        };
+        let (numbers, table_name) = run.random.pick(&table_rooms);
+        let call = Call::Read {
+            bytes: filled(&mut run.random, room),
+            table: filled(&mut run.random, numbers),
+            input: input.to_vec(),
+        };
+        run.check(&call)?;
+        run.tally.count("read bytes", byte_name);
+        run.tally.count("read table", table_name);
+    }
+    Ok(table)
+}
+
+/// An interchange at a limit, with the answer that the paper gives it.
+fn known_limit(run: &mut Run) -> Checked<()> {
+    let Limit { input, verdict, name } = limit(&mut run.random);
+    let known = Outcome::of(Answer::Judge(verdict));
+    run.check_known(&Call::Judge { input: input.clone() }, &known, name)?;
+    run.tally.count("limit", name);
+    every_operation(run, input)
+}
+
+/// A value list at a limit, with the answer that the paper gives it.
+fn known_write_limit(run: &mut Run) -> Checked<()> {
+    let WriteLimit { service, values, table, written, name } = write_limit(&mut run.random);
+    let room = LONGEST + run.random.below(3);
+    let call = Call::Write {
+        service: service.to_vec(),
+        values,
+        table,
+        output: filled(&mut run.random, room),
+    };
+    let outcome = run.check(&call)?;
+    run.known(outcome.answer == Answer::Write(written), &call, name)?;
+    run.tally.count("limit", name);
+    Ok(())
+}
+
+/// Two interchanges that are known to be the same or not.
+fn known_pair(run: &mut Run, change: Change) -> Checked<()> {
+    let (first, second) = pair(&mut run.random, change);
+    let same = change == Change::Respelled;
+    let comparison = Comparison { same: same.into(), ..Comparison::default() };
+    let kept = match (same, second.len() < first.len()) {
+        (false, _) => Kept { input: 1, offset: 0, length: 0 },
+        (true, false) => Kept { input: 1, offset: 0, length: first.len() },
+        (true, true) => Kept { input: 2, offset: 0, length: second.len() },
+    };
+    let (one, other) = (first.clone(), second.clone());
+    let call = Call::Keep { first: one, second: other };
+    run.check_known(&call, &Outcome::of(Answer::Keep(kept)), change.name())?;
+    let (one, other) = (first.clone(), second.clone());
+    let call = Call::Compare { first: one, second: other };
+    run.check_known(&call, &Outcome::of(Answer::Compare(comparison)), change.name())?;
+    let equal = normalised(run, &first)? == normalised(run, &second)?;
+    run.known(equal == same, &call, "equal normal forms are to say the same")?;
+    run.tally.count("pair", change.name());
+    Ok(())
+}
+
+/// A value list, now and then with wild numbers, written to outputs of several
+/// sizes.
+fn list(run: &mut Run) -> Checked<()> {
+    let Request::Write { service, values, mut table, .. } = request(&mut run.random, b'W') else {
+        unreachable!("a request of kind W is a Write");
+    };
+    if run.random.chance(30) {
+        make_wild(&mut run.random, &mut table, values.len() as u32);
+    }
+    let needed = match operations::write(&service, &values, &table, &mut []) {
+        Err(refusal) if refusal.number == BUFFER => refusal.place,
+        _ => 0,
+    };
+    for (room, name) in rooms(run, needed) {
+        let output = filled(&mut run.random, room);
+        let (service, values, table) = (service.clone(), values.clone(), table.clone());
+        run.check(&Call::Write { service, values, table, output })?;
+        run.tally.count("write output", name);
+    }
+    Ok(())
+}

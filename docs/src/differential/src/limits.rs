@@ -1,0 +1,169 @@
+//! Interchanges and value lists at the limits, each with the answer that the
+//! paper gives it: 14 bytes of a reference and 6 digits of a count, 32,000
+//! bytes of input, text and normal form, as many values as these can hold, and
+//! 96,000 numbers of a table.
+//!
+//! Paper, clause "Control elements" and refusals 1, 10, 13 and 15.
+
+use hverolda::surface::{Verdict, Written};
+use hverolda::{Kind, ValueList};
+use second::generator::Random;
+use second::refusal::{CONTROL, LIST, LONGEST, LONGEST_TABLE, NORMAL_LENGTH, OVER_LENGTH};
+
+/// An input, Judge's answer, and what it is about.
+pub struct Limit {
+    pub input: Vec<u8>,
+    pub verdict: Verdict,
+    pub name: &'static str,
+}
+
+pub fn limit(random: &mut Random) -> Limit {
+    match random.below(4) {
+        0 => many_values(random),
+        _ => control_elements(random),
+    }
+}
+
+fn accepted(segments: u32, length: usize) -> Verdict {
+    Verdict {
+        segments,
+        messages: 1,
+        length,
+        component: b':',
+        element: b'+',
+        mark: b'.',
+        release: b'?',
+        reserved: b' ',
+        terminator: b'\'',
+        ..Verdict::default()
+    }
+}
+
+fn refused(number: u32, place: usize) -> Verdict {
+    Verdict { number, place, ..Verdict::default() }
+}
+
+/// A reference of 14 or 15 bytes, each released, with a count of 6 digits or 7.
+fn control_elements(random: &mut Random) -> Limit {
+    let (bytes, digits) = (random.between(14, 15), random.between(6, 7));
+    let reference = random.pick(&["??", "?+", "?:", "?'"]).repeat(bytes);
+    let header = format!("UNB+UNOA:1++++1'UNH+{reference}'");
+    let trailer = format!("UNT+{:0digits$}+{reference}'", 2);
+    let input = format!("{header}{trailer}UNZ+1+1'").into_bytes();
+    let (verdict, name) = match (bytes, digits) {
+        (14, 6) => (accepted(4, input.len() + 9), "a reference of 14 and a count of 6"),
+        (14, _) => (refused(CONTROL, header.len()), "a count of 7 digits"),
+        _ => (refused(CONTROL, 16), "a reference of 15 bytes"),
+    };
+    Limit { input, verdict, name }
+}
+
+/// Empty components, or elements, up to a normal form of 32,000 bytes or some
+/// more or less, with the advice and without.
+fn many_values(random: &mut Random) -> Limit {
+    let length = random.between(LONGEST - 1, LONGEST + 1);
+    let advice = random.pick(&["UNA:+.? '", ""]);
+    let (beginning, end) = ("UNB+UNOA:1++++1'UNH+1'FTX+", "A'UNT+3+1'UNZ+1+1'");
+    let count = length - 9 - beginning.len() - end.len();
+    let values = random.pick(&[":", "+"]).repeat(count);
+    let input = format!("{advice}{beginning}{values}{end}").into_bytes();
+    let (verdict, name) = match (length, advice) {
+        (LONGEST, "") => (accepted(5, length), "a normal form of 32000 bytes"),
+        (LONGEST, _) => (accepted(5, length), "an input of 32000 bytes"),
+        (31_999, _) => (accepted(5, length), "a normal form of 31999 bytes"),
+        (_, "") => (refused(NORMAL_LENGTH, length), "a normal form of 32001 bytes"),
+        _ => (refused(OVER_LENGTH, 0), "an input of 32001 bytes"),
+    };
+    Limit { input, verdict, name }
+}
+
+/// Six service bytes, a value list, Write's answer, and what it is about.
+pub struct WriteLimit {
+    pub service: &'static [u8; 6],
+    pub values: Vec<u8>,
+    pub table: Vec<u32>,
+    pub written: Written,
+    pub name: &'static str,
+}
+
+/// The bytes of a text with one empty value in the place of the long one.
+const FRAME: usize = "UNA:+.? 'UNB+UNOA:1++++1'UNH+1'FTX+'UNT+3+1'UNZ+1+1'".len();
+
+/// The interchange of a long value, as a list.
+fn framed(value: &[u8]) -> ValueList {
+    let segments: [&[&[u8]]; 5] = [
+        &[b"UNB", b"UNOA", b"", b"", b"", b"1"],
+        &[b"UNH", b"1"],
+        &[b"FTX", value],
+        &[b"UNT", b"3", b"1"],
+        &[b"UNZ", b"1", b"1"],
+    ];
+    let mut list = ValueList::new();
+    for segment in segments {
+        for (number, value) in segment.iter().enumerate() {
+            list.push(if number == 0 { Kind::NewSegment } else { Kind::NewElement }, value);
+            if *value == b"UNOA" {
+                list.push(Kind::NextComponent, "1");
+            }
+        }
+    }
+    list
+}
+
+fn stored(length: usize) -> Written {
+    Written { length, ..Written::default() }
+}
+
+pub fn write_limit(random: &mut Random) -> WriteLimit {
+    match random.below(3) {
+        0 => long_text(random),
+        1 => long_normal_form(random),
+        _ => long_table(random),
+    }
+}
+
+/// A text of 32,000 bytes, or of one more.
+fn long_text(random: &mut Random) -> WriteLimit {
+    let length = random.between(LONGEST, LONGEST + 1);
+    let list = framed(&vec![b'A'; length - FRAME]);
+    let (written, name) = match length {
+        LONGEST => (stored(length), "a text of 32000 bytes"),
+        _ => (Written { number: OVER_LENGTH, ..stored(0) }, "a text of 32001 bytes"),
+    };
+    let (values, table) = (list.bytes().to_vec(), list.table().to_vec());
+    WriteLimit { service: b":+.? '", values, table, written, name }
+}
+
+/// A shorter text, the plus signs of which are released in the normal form.
+fn long_normal_form(random: &mut Random) -> WriteLimit {
+    let normal = random.between(LONGEST, LONGEST + 1);
+    let signs = random.between(1, 15_000);
+    let mut value = vec![b'+'; signs];
+    value.resize(normal - FRAME - signs, b'A');
+    let list = framed(&value);
+    let (written, name) = match normal {
+        LONGEST => (stored(normal - signs), "a text with a normal form of 32000 bytes"),
+        _ => {
+            let written = Written { number: NORMAL_LENGTH, place: normal, length: 0 };
+            (written, "a text with a normal form of 32001 bytes")
+        }
+    };
+    let (values, table) = (list.bytes().to_vec(), list.table().to_vec());
+    WriteLimit { service: b";*.! ~", values, table, written, name }
+}
+
+/// A table of 96,000 numbers, most of them for empty components at the end, or
+/// of one to three more.
+fn long_table(random: &mut Random) -> WriteLimit {
+    let list = framed(b"A");
+    let mut table = list.table().to_vec();
+    while table.len() < LONGEST_TABLE {
+        table.extend([2, 0, 0]);
+    }
+    table.extend(vec![0; random.pick(&[0, 0, 0, 1, 2, 3])]);
+    let (written, name) = match table.len() {
+        LONGEST_TABLE => (stored(FRAME + 1), "a table of 96000 numbers"),
+        _ => (Written { number: LIST, ..stored(0) }, "a table over 96000 numbers"),
+    };
+    WriteLimit { service: b":+.? '", values: list.bytes().to_vec(), table, written, name }
+}

@@ -1,0 +1,186 @@
+//! Two interchanges of which it is known, by how they were made, whether they
+//! are the same.
+//!
+//! Paper, clauses "Service characters", "From bytes to values" and "Normal
+//! form": the same contents and mark under any usable characters are the same;
+//! one byte, component, trailing space or mark makes a difference.
+
+use second::generator::{any_valid, Draft, Random};
+use second::level::holds;
+use second::service_characters::{from_six, ServiceCharacters};
+
+/// How the second differs from the first.
+#[derive(Clone, Copy, Debug, PartialEq, Eq)]
+pub enum Change {
+    Respelled,
+    Byte,
+    Component,
+    TrailingSpace,
+    Mark,
+}
+
+pub const CHANGES: [Change; 5] =
+    [Change::Respelled, Change::Byte, Change::Component, Change::TrailingSpace, Change::Mark];
+
+impl Change {
+    pub fn name(self) -> &'static str {
+        match self {
+            Change::Respelled => "respelled",
+            Change::Byte => "one byte changed",
+            Change::Component => "one component changed",
+            Change::TrailingSpace => "trailing space",
+            Change::Mark => "the mark changed",
+        }
+    }
+}
+
+/// Two accepted interchanges, the second respelled after this change.
+pub fn pair(random: &mut Random, change: Change) -> (Vec<u8>, Vec<u8>) {
+    let mut draft = any_valid(random);
+    // the sender, which nobody judges, so that there is a byte to change
+    draft.segments[0][2][0].push(b'A');
+    let mut other = draft.clone();
+    match change {
+        Change::Respelled => {}
+        Change::Byte => change_byte(random, &mut other),
+        Change::Component => change_component(random, &mut other),
+        Change::TrailingSpace => {
+            let place = any_place(random, &other);
+            value_at(&mut other, place).push(b' ');
+        }
+        Change::Mark => {
+            other.characters.mark = if other.characters.mark == b'.' { b',' } else { b'.' };
+        }
+    }
+    respell(random, &mut other);
+    (draft.spelled(), other.spelled())
+}
+
+/// Segment, element and component.
+type Place = (usize, usize, usize);
+
+fn value_at(draft: &mut Draft, (segment, element, component): Place) -> &mut Vec<u8> {
+    &mut draft.segments[segment][element][component]
+}
+
+/// Every value that nobody judges: UNB's elements 2 to 4, and all but the tag
+/// of user segments.
+fn places(draft: &Draft) -> Vec<Place> {
+    let mut places = Vec::new();
+    for (number, segment) in draft.segments.iter().enumerate() {
+        let elements = match &segment[0][0][..] {
+            b"UNB" => 2..5,
+            tag if tag.starts_with(b"UN") => 0..0,
+            _ => 1..segment.len(),
+        };
+        for element in elements {
+            places.extend((0..segment[element].len()).map(|value| (number, element, value)));
+        }
+    }
+    places
+}
+
+fn any_place(random: &mut Random, draft: &Draft) -> Place {
+    random.pick(&places(draft))
+}
+
+/// The sender is not empty, so there is one.
+fn place_with_bytes(random: &mut Random, draft: &mut Draft) -> Place {
+    let mut places = places(draft);
+    places.retain(|&place| !value_at(draft, place).is_empty());
+    random.pick(&places)
+}
+
+/// A byte becomes another one of the level.
+fn change_byte(random: &mut Random, draft: &mut Draft) {
+    let place = place_with_bytes(random, draft);
+    let level = draft.level;
+    let value = value_at(draft, place);
+    let number = random.below(value.len());
+    let others: Vec<u8> =
+        (0..=255).filter(|&byte| byte != value[number] && holds(level, byte)).collect();
+    value[number] = random.pick(&others);
+}
+
+/// A component more: behind an element, before a value, or by a separator
+/// inside a value.
+fn change_component(random: &mut Random, draft: &mut Draft) {
+    let place = place_with_bytes(random, draft);
+    let (segment, element, component) = place;
+    let value = value_at(draft, place).clone();
+    let components = &mut draft.segments[segment][element];
+    match random.below(3) {
+        0 => components.push(b"A".to_vec()),
+        1 => components.insert(component, Vec::new()),
+        _ => {
+            let (left, right) = value.split_at(random.below(value.len()));
+            components[component] = left.to_vec();
+            components.insert(component + 1, right.to_vec());
+        }
+    }
+}
+
+/// Spelled under any usable characters with the same mark, and half the time
+/// with empty ends.
+fn respell(random: &mut Random, draft: &mut Draft) {
+    draft.advice = true;
+    loop {
+        draft.characters = any_characters(random, draft.characters.mark);
+        if draft.is_spellable() {
+            break;
+        }
+    }
+    if random.chance(50) {
+        put_empty_ends(random, draft);
+    }
+}
+
+/// Any usable characters with this mark, one time in five without release.
+fn any_characters(random: &mut Random, mark: u8) -> ServiceCharacters {
+    let may_serve: Vec<u8> =
+        (33..=126u8).filter(|byte| !byte.is_ascii_alphanumeric()).chain([28, 29, 31]).collect();
+    loop {
+        let [component, element, terminator, release] = [0; 4].map(|_: u8| random.pick(&may_serve));
+        let release = if random.chance(20) { b' ' } else { release };
+        if let Some(characters) = from_six(&[component, element, mark, release, b' ', terminator]) {
+            return characters;
+        }
+    }
+}
+
+/// Empty components and elements at ends, which trimming takes away; no
+/// component separator may follow a service segment's tag.
+fn put_empty_ends(random: &mut Random, draft: &mut Draft) {
+    for segment in &mut draft.segments {
+        let service = segment[0][0].starts_with(b"UN");
+        for element in segment.iter_mut().skip(usize::from(service)) {
+            if random.chance(20) {
+                element.resize(element.len() + random.between(1, 3), Vec::new());
+            }
+        }
+        if random.chance(20) {
+            let element = vec![Vec::new(); random.between(1, 3)];
+            segment.resize(segment.len() + random.between(1, 3), element);
+        }
+    }
+}
+
+#[cfg(test)]
+mod tests {
+    use super::*;
+    use second::operations::{compare, Comparison};
+
+    #[test]
+    fn pairs_are_the_same_or_not_as_they_were_made() {
+        for seed in 0..2_000 {
+            for change in CHANGES {
+                let (first, second) = pair(&mut Random::new(seed), change);
+                let expected = match change {
+                    Change::Respelled => Comparison::Same,
+                    _ => Comparison::Different,
+                };
+                assert_eq!(compare(&first, &second), expected, "{change:?}, seed {seed}");
+            }
+        }
+    }
+}

@@ -1,0 +1,181 @@
+//! How often each thing occurred, and what must have occurred before a run
+//! says anything.
+
+use std::collections::BTreeMap;
+use std::fmt;
+
+use crate::call::{Answer, Outcome};
+
+/// The operations that refuse, Compare once for each of its inputs, with the
+/// numbers that each can give. Normalise and Read add 14 to Judge's. The text
+/// that Write judges releases what is to be released and ends its last
+/// segment, so that 4 and 5 cannot be met in it.
+const REFUSING: [(&str, &[u32]); 7] = [
+    ("judge", &[1, 2, 3, 4, 5, 6, 7, 8, 9, 10, 11, 12, 13]),
+    ("normalise", &[1, 2, 3, 4, 5, 6, 7, 8, 9, 10, 11, 12, 13, 14]),
+    ("compare, first", &[1, 2, 3, 4, 5, 6, 7, 8, 9, 10, 11, 12, 13]),
+    ("compare, second", &[1, 2, 3, 4, 5, 6, 7, 8, 9, 10, 11, 12, 13]),
+    ("locate", &[1, 2, 3, 4, 5, 6, 7, 8, 9, 10, 11, 12, 13]),
+    ("read", &[1, 2, 3, 4, 5, 6, 7, 8, 9, 10, 11, 12, 13, 14]),
+    ("write", &[1, 2, 3, 6, 7, 8, 9, 10, 11, 12, 13, 14, 15, 16]),
+];
+
+/// Other things that must occur: answers that are no refusals, sizes of
+/// buffers, and the ways in which two interchanges differ.
+const OTHERS: [(&str, &str); 45] = [
+    ("judge", "accepted"),
+    ("normalise", "stored"),
+    ("compare", "same"),
+    ("compare", "different"),
+    ("keep", "the first"),
+    ("keep", "the second"),
+    ("keep", "nothing"),
+    ("locate", "present"),
+    ("locate", "present and empty"),
+    ("locate", "absent"),
+    ("part", "some bytes"),
+    ("part", "no bytes"),
+    ("read", "stored"),
+    ("write", "stored"),
+    ("normalise buffer", "empty"),
+    ("normalise buffer", "exact"),
+    ("normalise buffer", "longer"),
+    ("normalise buffer", "one short"),
+    ("read bytes", "exact"),
+    ("read bytes", "one short"),
+    ("read table", "exact"),
+    ("read table", "one short"),
+    ("write output", "empty"),
+    ("write output", "exact"),
+    ("write output", "longer"),
+    ("write output", "one short"),
+    ("limit", "a count of 7 digits"),
+    ("limit", "a normal form of 31999 bytes"),
+    ("limit", "a normal form of 32000 bytes"),
+    ("limit", "a normal form of 32001 bytes"),
+    ("limit", "a reference of 14 and a count of 6"),
+    ("limit", "a reference of 15 bytes"),
+    ("limit", "a table of 96000 numbers"),
+    ("limit", "a table over 96000 numbers"),
+    ("limit", "a text of 32000 bytes"),
+    ("limit", "a text of 32001 bytes"),
+    ("limit", "a text with a normal form of 32000 bytes"),
+    ("limit", "a text with a normal form of 32001 bytes"),
+    ("limit", "an input of 32000 bytes"),
+    ("limit", "an input of 32001 bytes"),
+    ("pair", "one byte changed"),
+    ("pair", "one component changed"),
+    ("pair", "the mark changed"),
+    ("pair", "respelled"),
+    ("pair", "trailing space"),
+];
+
+#[derive(Default)]
+pub struct Tally {
+    pub calls: u64,
+    refusals: BTreeMap<(&'static str, u32), u64>,
+    others: BTreeMap<(&'static str, &'static str), u64>,
+}
+
+impl Tally {
+    /// Counts something that is no refusal.
+    pub fn count(&mut self, what: &'static str, how: &'static str) {
+        *self.others.entry((what, how)).or_default() += 1;
+    }
+
+    fn refused(&mut self, what: &'static str, number: u32) {
+        *self.refusals.entry((what, number)).or_default() += 1;
+    }
+
+    /// How often this was counted.
+    pub fn of(&self, what: &str, how: &str) -> u64 {
+        let found = self.others.iter().find(|(key, _)| key.0 == what && key.1 == how);
+        found.map_or(0, |(_, count)| *count)
+    }
+
+    /// Counts what came of a call.
+    pub fn answered(&mut self, outcome: &Outcome) {
+        self.calls += 1;
+        let (what, how, number) = told(&outcome.answer);
+        match number {
+            0 => self.count(what, how),
+            number => self.refused(what, number),
+        }
+    }
+
+    /// What can occur and never did.
+    pub fn gaps(&self) -> Vec<String> {
+        let mut gaps = Vec::new();
+        for (what, numbers) in REFUSING {
+            let met = |number: &u32| self.refusals.contains_key(&(what, *number));
+            let never = numbers.iter().filter(|number| !met(number));
+            gaps.extend(never.map(|number| format!("{what}: refusal {number} never occurred")));
+        }
+        let never = OTHERS.iter().filter(|key| !self.others.contains_key(key));
+        gaps.extend(never.map(|(what, how)| format!("{what}: {how} never occurred")));
+        gaps
+    }
+
+    /// What occurred and cannot.
+    pub fn strays(&self) -> Vec<String> {
+        let can = |what: &str, number: u32| {
+            REFUSING.iter().any(|(name, numbers)| *name == what && numbers.contains(&number))
+        };
+        let strays = self.refusals.keys().filter(|(what, number)| !can(what, *number));
+        strays.map(|(what, number)| format!("{what} cannot give refusal {number}")).collect()
+    }
+
+    /// The refusal that occurred least.
+    pub fn rarest(&self) -> String {
+        match self.refusals.iter().min_by_key(|(_, count)| **count) {
+            Some(((what, number), count)) => format!("{what} {number}, {count} times"),
+            None => "none".to_string(),
+        }
+    }
+}
+
+/// The operation, its answer in words, and the number of its refusal or 0.
+fn told(answer: &Answer) -> (&'static str, &'static str, u32) {
+    match answer {
+        Answer::Judge(verdict) => ("judge", "accepted", verdict.number),
+        Answer::Normalise(written) => ("normalise", "stored", written.number),
+        Answer::Compare(comparison) => match (comparison.input, comparison.same) {
+            (0, 0) => ("compare", "different", 0),
+            (0, _) => ("compare", "same", 0),
+            (1, _) => ("compare, first", "refused", comparison.number),
+            _ => ("compare, second", "refused", comparison.number),
+        },
+        Answer::Keep(kept) => match (kept.length, kept.input) {
+            (0, _) => ("keep", "nothing", 0),
+            (_, 1) => ("keep", "the first", 0),
+            _ => ("keep", "the second", 0),
+        },
+        Answer::Locate(location) => match (location.present, location.length) {
+            (0, _) => ("locate", "absent", location.number),
+            (_, 0) => ("locate", "present and empty", 0),
+            _ => ("locate", "present", 0),
+        },
+        Answer::Part(part) if part.length == 0 => ("part", "no bytes", 0),
+        Answer::Part(_) => ("part", "some bytes", 0),
+        Answer::Read(listing) => ("read", "stored", listing.number),
+        Answer::Write(written) => ("write", "stored", written.number),
+    }
+}
+
+/// A line for each operation that refuses with its counts of 1 to 16, then one
+/// for each other thing.
+impl fmt::Display for Tally {
+    fn fmt(&self, f: &mut fmt::Formatter) -> fmt::Result {
+        let numbers: String = (1..=16).map(|number| format!("{number:>8}")).collect();
+        writeln!(f, "{:<18}{numbers}", "refused")?;
+        for (what, _) in REFUSING {
+            let count = |number| self.refusals.get(&(what, number)).copied().unwrap_or(0);
+            let counts: String = (1..=16).map(|number| format!("{:>8}", count(number))).collect();
+            writeln!(f, "{what:<18}{counts}")?;
+        }
+        for ((what, how), count) in &self.others {
+            writeln!(f, "{what:<18}{how:<41}{count:>8}")?;
+        }
+        Ok(())
+    }
+}

@@ -1,0 +1,75 @@
+//! Judges one EDIFACT interchange by the rules of ISO 9735, reads its values,
+//! writes interchanges, makes a normal form, and says whether two interchanges
+//! are the same. The work is done by a library that is proved to do it; this
+//! crate lends it slices and gives its answers the types of Rust.
+//!
+//! Every function takes any bytes, of any length, and answers for each: what
+//! was asked, or a [`Refusal`] with its number and place. None panics on what
+//! it is given, none keeps what it is lent.
+//!
+//! | To | lent buffers | owned |
+//! |---|---|---|
+//! | judge an interchange | [`judge`] | |
+//! | make its normal form | [`normalise`] | [`normal_form`] |
+//! | tell two apart, keep one | [`compare`], [`keep`] | |
+//! | find a component | [`locate`], [`part`] | |
+//! | read all values | [`read`] | [`values`] |
+//! | write an interchange | [`write`] | [`text_of`] |
+//!
+//! ```
+//! let first = b"UNB+UNOA:1+AA+BB+260105:0930+R1'UNH+1+ORDERS:1:901:UN'\
+//!     BGM+220+A?+B'UNT+3+1'UNZ+1+R1'";
+//! let second = b"UNA;*.! ~UNB*UNOA;1*AA*BB*260105;0930*R1~UNH*1*ORDERS;1;901;UN~\
+//!     BGM*220*A+B~UNT*3*1~UNZ*1*R1~";
+//! assert_eq!(hverolda::compare(first, second), Ok(hverolda::Comparison::Same));
+//! assert_eq!(hverolda::keep(first, second), first);
+//! ```
+//!
+//! To build it, run `rt staticlib surface` in the root of the project: that
+//! proves the library and writes the archive that this crate links. Where the
+//! archive stands elsewhere, `SURFACE_FOLDER` names its folder.
+
+#![deny(missing_docs)]
+#![deny(unsafe_code)]
+
+mod comparing;
+mod judging;
+mod locating;
+mod normalising;
+mod reading;
+mod refusal;
+mod value_list;
+mod writing;
+
+#[cfg(feature = "surface")]
+pub mod surface;
+#[cfg(not(feature = "surface"))]
+mod surface;
+
+pub use comparing::{compare, keep, Comparison, ComparisonRefused, Which};
+pub use judging::{judge, Interchange, ServiceCharacters};
+pub use locating::{locate, part};
+pub use normalising::{normal_form, normalise};
+pub use reading::{read, values, Listing};
+pub use refusal::{Fault, Refusal};
+pub use value_list::{Kind, ValueList, Values};
+pub use writing::{text_of, write};
+
+/// The longest input, text and normal form, in bytes (refusals 1 and 13).
+pub const LONGEST: usize = 32_000;
+
+/// The longest table of a value list, in numbers (refusal 15).
+pub const LONGEST_TABLE: usize = 96_000;
+
+/// The example of the paper and its neighbours, for the tests.
+#[cfg(test)]
+mod examples {
+    pub const X: &[u8] = b"UNB+UNOA:1+AA+BB+260105:0930+R1'UNH+1+ORDERS:1:901:UN'\
+        BGM+220+A?+B'UNT+3+1'UNZ+1+R1'";
+    pub const RESPELLED: &[u8] = b"UNA;*.! ~UNB*UNOA;1*AA*BB*260105;0930*R1~\
+        UNH*1*ORDERS;1;901;UN~BGM*220*A+B~UNT*3*1~UNZ*1*R1~";
+    pub const NORMAL: &[u8] = b"UNA:+.? 'UNB+UNOA:1+AA+BB+260105:0930+R1'\
+        UNH+1+ORDERS:1:901:UN'BGM+220+A?+B'UNT+3+1'UNZ+1+R1'";
+    pub const WRONG_COUNT: &[u8] = b"UNB+UNOA:1+AA+BB+260105:0930+R1'UNH+1+ORDERS:1:901:UN'\
+        BGM+220+A?+B'UNT+4+1'UNZ+1+R1'";
+}

@@ -1,0 +1,154 @@
+//! The functions of the crate `surface` as C declares them, and beside each a
+//! function over slices that no caller can misuse. All that is unsafe stands
+//! here.
+//!
+//! A slice crosses as a pointer and a length; one of no bytes has a pointer
+//! too, which is never read.
+
+#![allow(unsafe_code)]
+
+mod layout;
+
+pub use layout::{Comparison, Kept, Listing, Location, Part, Verdict, Written};
+
+extern "C" {
+    /// Judges one interchange.
+    pub fn hverolda_judge(input: *const u8, length: usize) -> Verdict;
+
+    /// Stores the normal form of one interchange.
+    pub fn hverolda_normalise(
+        buffer: *mut u8,
+        room: usize,
+        input: *const u8,
+        length: usize,
+    ) -> Written;
+
+    /// Says whether two interchanges are the same.
+    pub fn hverolda_compare(
+        first: *const u8,
+        first_length: usize,
+        second: *const u8,
+        second_length: usize,
+    ) -> Comparison;
+
+    /// Says which of two interchanges that are the same is to be kept.
+    pub fn hverolda_keep(
+        first: *const u8,
+        first_length: usize,
+        second: *const u8,
+        second_length: usize,
+    ) -> Kept;
+
+    /// Says where a component is spelled.
+    pub fn hverolda_locate(
+        input: *const u8,
+        length: usize,
+        segment: usize,
+        element: usize,
+        component: usize,
+    ) -> Location;
+
+    /// Says which part of the input spells a component.
+    pub fn hverolda_part(
+        input: *const u8,
+        length: usize,
+        segment: usize,
+        element: usize,
+        component: usize,
+    ) -> Part;
+
+    /// Stores the value list of one interchange.
+    pub fn hverolda_read(
+        bytes: *mut u8,
+        bytes_room: usize,
+        table: *mut u32,
+        table_room: usize,
+        input: *const u8,
+        length: usize,
+    ) -> Listing;
+
+    /// Stores the text of a value list.
+    pub fn hverolda_write(
+        service: *const u8,
+        service_length: usize,
+        bytes: *const u8,
+        bytes_length: usize,
+        table: *const u32,
+        table_length: usize,
+        output: *mut u8,
+        room: usize,
+    ) -> Written;
+}
+
+// Each function below passes on the pointer and the length of slices that are
+// lent for the call. The functions are proved, for any bytes and any lengths,
+// to read and write nothing but these slices and to keep no pointer.
+
+/// Judges one interchange.
+pub fn judge(input: &[u8]) -> Verdict {
+    // SAFETY: the pointer and the length are those of a lent slice.
+    unsafe { hverolda_judge(input.as_ptr(), input.len()) }
+}
+
+/// Stores the normal form of one interchange.
+pub fn normalise(input: &[u8], buffer: &mut [u8]) -> Written {
+    // SAFETY: as in `judge`; `buffer` overlaps no other slice, as it is `&mut`.
+    unsafe { hverolda_normalise(buffer.as_mut_ptr(), buffer.len(), input.as_ptr(), input.len()) }
+}
+
+/// Says whether two interchanges are the same.
+pub fn compare(first: &[u8], second: &[u8]) -> Comparison {
+    // SAFETY: as in `judge`; neither slice is written, so they may overlap.
+    unsafe { hverolda_compare(first.as_ptr(), first.len(), second.as_ptr(), second.len()) }
+}
+
+/// Says which of two interchanges that are the same is to be kept.
+pub fn keep(first: &[u8], second: &[u8]) -> Kept {
+    // SAFETY: as in `compare`.
+    unsafe { hverolda_keep(first.as_ptr(), first.len(), second.as_ptr(), second.len()) }
+}
+
+/// Says where a component is spelled.
+pub fn locate(input: &[u8], segment: usize, element: usize, component: usize) -> Location {
+    // SAFETY: as in `judge`; the three numbers may be any.
+    unsafe { hverolda_locate(input.as_ptr(), input.len(), segment, element, component) }
+}
+
+/// Says which part of the input spells a component.
+pub fn part(input: &[u8], segment: usize, element: usize, component: usize) -> Part {
+    // SAFETY: as in `locate`.
+    unsafe { hverolda_part(input.as_ptr(), input.len(), segment, element, component) }
+}
+
+/// Stores the value list of one interchange.
+pub fn read(input: &[u8], bytes: &mut [u8], table: &mut [u32]) -> Listing {
+    let (room, numbers) = (bytes.len(), table.len());
+    // SAFETY: as in `normalise`, for both `&mut` slices.
+    unsafe {
+        hverolda_read(
+            bytes.as_mut_ptr(),
+            room,
+            table.as_mut_ptr(),
+            numbers,
+            input.as_ptr(),
+            input.len(),
+        )
+    }
+}
+
+/// Stores the text of a value list.
+pub fn write(service: &[u8], bytes: &[u8], table: &[u32], output: &mut [u8]) -> Written {
+    // SAFETY: as in `normalise`; the other slices are only read.
+    unsafe {
+        hverolda_write(
+            service.as_ptr(),
+            service.len(),
+            bytes.as_ptr(),
+            bytes.len(),
+            table.as_ptr(),
+            table.len(),
+            output.as_mut_ptr(),
+            output.len(),
+        )
+    }
+}

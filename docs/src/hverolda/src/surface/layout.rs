@@ -1,0 +1,112 @@
+//! What each function of the surface answers: the structs of the crate
+//! `surface`, field for field.
+//!
+//! `number` is 0 where nothing is refused; a field that does not apply is 0.
+
+/// What Judge says.
+#[repr(C)]
+#[derive(Clone, Copy, Debug, Default, PartialEq, Eq)]
+pub struct Verdict {
+    /// The refusal's number.
+    pub number: u32,
+    /// Segments of the interchange.
+    pub segments: u32,
+    /// Messages of the interchange.
+    pub messages: u32,
+    /// Groups of the interchange.
+    pub groups: u32,
+    /// The refusal's place.
+    pub place: usize,
+    /// The length of the normal form.
+    pub length: usize,
+    /// The component separator.
+    pub component: u8,
+    /// The element separator.
+    pub element: u8,
+    /// The decimal mark.
+    pub mark: u8,
+    /// The release character, a space where there is none.
+    pub release: u8,
+    /// The reserved byte, a space.
+    pub reserved: u8,
+    /// The segment terminator.
+    pub terminator: u8,
+}
+
+/// What Normalise and Write say.
+#[repr(C)]
+#[derive(Clone, Copy, Debug, Default, PartialEq, Eq)]
+pub struct Written {
+    /// The refusal's number.
+    pub number: u32,
+    /// The refusal's place.
+    pub place: usize,
+    /// How many bytes were stored.
+    pub length: usize,
+}
+
+/// What Compare says.
+#[repr(C)]
+#[derive(Clone, Copy, Debug, Default, PartialEq, Eq)]
+pub struct Comparison {
+    /// The refusal's number.
+    pub number: u32,
+    /// Which input is refused, 1 or 2.
+    pub input: u32,
+    /// 1 where the two are the same.
+    pub same: u32,
+    /// The refusal's place.
+    pub place: usize,
+}
+
+/// What Keep hands back: a part of one of its two inputs.
+#[repr(C)]
+#[derive(Clone, Copy, Debug, Default, PartialEq, Eq)]
+pub struct Kept {
+    /// Of which input, 1 or 2.
+    pub input: u32,
+    /// Where it begins.
+    pub offset: usize,
+    /// How long it is.
+    pub length: usize,
+}
+
+/// What Locate says.
+#[repr(C)]
+#[derive(Clone, Copy, Debug, Default, PartialEq, Eq)]
+pub struct Location {
+    /// The refusal's number.
+    pub number: u32,
+    /// 1 where there is such a component.
+    pub present: u32,
+    /// The refusal's place.
+    pub place: usize,
+    /// Where the component is spelled.
+    pub offset: usize,
+    /// Its length as it is spelled.
+    pub length: usize,
+}
+
+/// What Locate's companion hands back: a part of its input.
+#[repr(C)]
+#[derive(Clone, Copy, Debug, Default, PartialEq, Eq)]
+pub struct Part {
+    /// Where it begins.
+    pub offset: usize,
+    /// How long it is.
+    pub length: usize,
+}
+
+/// What Read says.
+#[repr(C)]
+#[derive(Clone, Copy, Debug, Default, PartialEq, Eq)]
+pub struct Listing {
+    /// The refusal's number.
+    pub number: u32,
+    /// The refusal's place.
+    pub place: usize,
+    /// How many bytes of values were stored.
+    pub bytes: usize,
+    /// How many numbers of the table were stored.
+    pub numbers: usize,
+}
