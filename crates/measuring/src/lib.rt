@@ -13,6 +13,7 @@ ghost use Rattle.measuring.specs.Measure.{width, behindByte, behindSepar
 use characters::Characters;
 use scanner::Lexed;
 use scanner::lex;
+use verbatim::is_verbatim;
 
 // What is spelled so far, and how many separators are held back behind it.
 pub struct Measure {
@@ -116,7 +117,7 @@ pub fn measured(s: &[u8], c: Characters, start: usize) -> usize
     requires { ⌜ (length (now s) ≤ 32000) × (start ≤ length (now s)) × (faultless (tokensAt c (now s) start) ≡ true) ⌝ }
     ensures { λ r. ⌜ r ≡ emittedLength (normalCharacters (c .mark)) 0 0 0 (tokensAt c (now (s .entry)) start) ⌝ }
 {
-    if verbatim::is_verbatim(s, c, start) {
+    if is_verbatim(s, c, start) {
         return s.len() - start;
     }
     measured_by_token(s, c, start)

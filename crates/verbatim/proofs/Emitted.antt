@@ -5,7 +5,7 @@ use mathlib.Core.Bool.{Bool, true, false, not, _&&_, _||_, false≢true}
 use mathlib.Core.List.{List, [], _∷_, _++_, append-assoc}
 use mathlib.Core.Option.{Option, none, some}
 use lib.Dec.{eqb}
-use lib.ListN.{replicate, replicate-append-replicate}
+use lib.ListN.{drop, replicate, replicate-append-replicate}
 use borrow.Author.Tests.{eqb-true}
 use Rattle.lists.specs.Lists.{if_then_else_, member, all}
 use Rattle.lists.proofs.Texts.{and-left, and-right, if-true, if-false}
@@ -13,7 +13,7 @@ use Rattle.characters.specs.declared.Characters.{Characters}
 use Rattle.characters.specs.declared.Role.{Role}
 use Rattle.characters.specs.declared.Role.the-variants.{Separator, Release, Plain}
 use Rattle.characters.specs.Characters.{role, released, isService, serviceCharacters, sixBytes}
-use Rattle.reading.specs.Tokens.{Token, byte, separator, fault, unreleased, releasing, taken, tokensFrom, tokens}
+use Rattle.reading.specs.Tokens.{Token, byte, separator, fault, unreleased, releasing, taken, tokensFrom, tokens, tokensAt}
 use Rattle.reading.specs.Values.{isFault}
 use Rattle.reading.specs.Spelling.{spellByte}
 use Rattle.verdict.specs.Contents.{normalCharacters}
@@ -202,9 +202,10 @@ module _ (c : Characters) (q : Normal c) (mark : ℕ) where
       s
 
 -- a verbatim body, emitted with a normal form's characters, is that body
-pub emitted-verbatim : (c : Characters) (mark place : ℕ) (bs : List ℕ) → verbatim c bs ≡ true → faultless (tokens c place bs) ≡ true
-    → emitted (normalCharacters mark) 0 0 (tokens c place bs) ≡ bs
-unfolding verbatim tokens behindRelease FitsBehind
-emitted-verbatim c mark place bs v s =
-    as-they-stand c (normal c (and-left (normalService c) (clean 0 bs) v)) mark bs none place 0 0 0
-    (and-right (normalService c) (clean 0 bs) v) (nothing-held 0) s
+pub emitted-verbatim : (mark : ℕ) (c : Characters) (s : List ℕ) (start : ℕ) → verbatim c (drop start s) ≡ true
+    → faultless (tokensAt c s start) ≡ true → emitted (normalCharacters mark) 0 0 (tokensAt c s start) ≡ drop start s
+unfolding verbatim tokensAt tokens behindRelease FitsBehind
+emitted-verbatim mark c s start v f =
+    let bs = drop start s in
+    as-they-stand c (normal c (and-left (normalService c) (clean 0 bs) v)) mark bs none start 0 0 0
+    (and-right (normalService c) (clean 0 bs) v) (nothing-held 0) f

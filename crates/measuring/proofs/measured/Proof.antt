@@ -19,9 +19,8 @@ use Rattle.measuring.proofs.measured.Tie as tie
 -- what is left of the input is what is emitted
 as-long : (s : List ℕ) (c : Characters) (start : ℕ) → verbatim c (drop start s) ≡ true → faultless (tokensAt c s start) ≡ true
     → length s - start ≡ emittedLength (normalCharacters (c .mark)) 0 0 0 (tokensAt c s start)
-unfolding tokensAt
 as-long s c start v f =
-    sym (length-emitted (normalCharacters (c .mark)) (tokensAt c s start) ∙ ap length (emitted-verbatim c (c .mark) start (drop start s) v f) ∙ length-drop start s)
+    sym (length-emitted (normalCharacters (c .mark)) (tokensAt c s start) ∙ ap length (emitted-verbatim (c .mark) c s start v f) ∙ length-drop start s)
 
 is-verbatim-requires : tie.Need-is-verbatim-requires
 is-verbatim-requires c κs = search needs
