@@ -100,7 +100,7 @@ fn put_by_token(buffer: &mut [u8], from: usize, mark: u8, s: &[u8], c: Character
 // Stores the contents of the body that begins at `start`, from a place of the buffer on. One that
 // stands as its normal form spells it is copied.
 pub fn put_contents(buffer: &mut [u8], from: usize, mark: u8, s: &[u8], c: Characters, start: usize)
-    requires { ⌜ (from ≤ 9) × (length (now s) ≤ 32000) × (from + length (emitted (normalCharacters mark) 0 0 (tokensAt c (now s) start)) ≤ length (now buffer)) × (faultless (tokensAt c (now s) start) ≡ true) ⌝ }
+    requires { ⌜ (from + length (emitted (normalCharacters mark) 0 0 (tokensAt c (now s) start)) ≤ length (now buffer)) × (from ≤ 9) × (length (now s) ≤ 32000) × (faultless (tokensAt c (now s) start) ≡ true) ⌝ }
     ensures { λ _. ⌜ now (buffer .exit) ≡ sets (now (buffer .entry)) from (emitted (normalCharacters mark) 0 0 (tokensAt c (now (s .entry)) start)) ⌝ }
 {
     if is_verbatim(s, c, start) {

@@ -19,7 +19,7 @@ copy-requires c κs =
     let args = c .before .before .before .before .before .args in
     let pre = c .before .before .before .before .before .pre in
     let same = emitted-verbatim (args .mark) (args .c) (args .s .now) (args .start) (sym (c .before .before .is-verbatim .ensures) ∙ c .before .if1 .taken) (pre .3) in
-    omega (arith, ap length same, pre .2)
+    omega (arith, ap length same, pre .0)
 
 same-length : tie.Need-same-length
 same-length c = search needs

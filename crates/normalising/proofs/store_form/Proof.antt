@@ -63,7 +63,7 @@ put-contents-requires c κs =
     (c .before .before .before .before .before .before .before .before .if1 .left) in
     let room : 9 + length (spelled (c .before .before .before .before .before .before .before .before .before .before .before .args .i) s (c .body-start .result)) ≤ length (c .before .before .before .before .put-advice .last .0) = omega arith in
     let a = c .before .before .before .before .before .before .before .before .before .before .before .pre .0 in
-    (lit≤ tt, accepted-opening s a .short, room, form-faultless s a (characters-of s i) (c .body-start .ensures))
+    (room, lit≤ tt, accepted-opening s a .short, form-faultless s a (characters-of s i) (c .body-start .ensures))
 
 same-length : tie.Need-same-length
 same-length c = search needs
