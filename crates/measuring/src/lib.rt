@@ -112,7 +112,8 @@ fn measured_by_token(s: &[u8], c: Characters, start: usize) -> usize
     }
 }
 
-// The body that stands as its normal form spells it is as long as that.
+// How long the contents of the body that begins at `start` are. One that stands as its normal form
+// spells it has that length already.
 pub fn measured(s: &[u8], c: Characters, start: usize) -> usize
     requires { ⌜ (length (now s) ≤ 32000) × (start ≤ length (now s)) × (faultless (tokensAt c (now s) start) ≡ true) ⌝ }
     ensures { λ r. ⌜ r ≡ emittedLength (normalCharacters (c .mark)) 0 0 0 (tokensAt c (now (s .entry)) start) ⌝ }

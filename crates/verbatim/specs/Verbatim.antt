@@ -1,5 +1,6 @@
 -- A body that stands as its normal form spells it (paper 01, "Normal form"), by a test of its service characters and of each two bytes
--- that stand side by side. The test passes over some such bodies: it takes a released separator for one that separates. Assumes nothing.
+-- that stand side by side. It says so of no other body, and misses some: a released separator is taken for one that separates.
+-- Assumes nothing.
 use Prim.Native.Nat.{ℕ}
 use mathlib.Core.Bool.{Bool, not, _&&_, _||_}
 use mathlib.Core.List.{List, [], _∷_}

@@ -1,6 +1,6 @@
 // A body that stands as its normal form spells it (paper 01, "Normal form"): the service characters
-// are the normal form's, and there is nothing to trim. It promises the answer of a test that never
-// says so of another body; it may pass over one, at a released separator.
+// are the normal form's, and there is nothing to trim. It promises the answer of the test in
+// specs/, which says so of no other body and misses one only at a released separator.
 ghost use mathlib.Core.Path.{_≡_};
 ghost use lib.ListN.{drop};
 ghost use Rattle.verbatim.specs.Verbatim.{normalService, idle, clean, verbatim};
