@@ -1,5 +1,6 @@
 // The contents of a body stored as the normal form spells them (paper 01, "Normal form"). It
 // promises every byte of the buffer at exit: the emission of the tokens from a place on.
+ghost use mathlib.Core.Bool.{true};
 ghost use mathlib.Core.Path.{_≡_};
 ghost use Prim.Native.Nat.{_+_, _≤_};
 ghost use lib.ListN.{length};
@@ -8,6 +9,7 @@ ghost use Rattle.reading.specs.Spelling.{spellByte};
 ghost use Rattle.reading.specs.Tokens.{tokensAt};
 ghost use Rattle.verdict.specs.Contents.{normalCharacters};
 ghost use Rattle.emission.specs.Emission.{letOut, emitted};
+ghost use Rattle.verbatim.specs.Verbatim.{faultless};
 ghost use Rattle.emitting.specs.Emitting.{endText};
 ghost use Rattle.measuring.specs.Measure.{behindByte, behindSeparator, held};
 use characters::Characters;
@@ -16,8 +18,10 @@ use measuring::with_byte;
 use measuring::with_separator;
 use scanner::Lexed;
 use scanner::lex;
+use storing::copy;
 use storing::fill;
 use storing::put_byte;
+use verbatim::is_verbatim;
 
 pub fn normal_characters(mark: u8) -> Characters
     ensures { λ r. ⌜ r ≡ normalCharacters mark ⌝ }
@@ -58,8 +62,8 @@ fn put_separator(buffer: &mut [u8], m: Measure, kind: u8) -> Measure
     with_separator(m, kind)
 }
 
-// Stores the contents of the body that begins at `start`, from a place of the buffer on.
-pub fn put_contents(buffer: &mut [u8], from: usize, mark: u8, s: &[u8], c: Characters, start: usize)
+// Token by token: what is held back is stored in front of the next byte of a value, or dropped.
+fn put_by_token(buffer: &mut [u8], from: usize, mark: u8, s: &[u8], c: Characters, start: usize)
     requires { ⌜ (from ≤ 9) × (length (now s) ≤ 32000) × (from + length (emitted (normalCharacters mark) 0 0 (tokensAt c (now s) start)) ≤ length (now buffer)) ⌝ }
     ensures { λ _. ⌜ now (buffer .exit) ≡ sets (now (buffer .entry)) from (emitted (normalCharacters mark) 0 0 (tokensAt c (now (s .entry)) start)) ⌝ }
 {
@@ -91,4 +95,17 @@ pub fn put_contents(buffer: &mut [u8], from: usize, mark: u8, s: &[u8], c: Chara
             }
         }
     }
+}
+
+// Stores the contents of the body that begins at `start`, from a place of the buffer on. One that
+// stands as its normal form spells it is copied.
+pub fn put_contents(buffer: &mut [u8], from: usize, mark: u8, s: &[u8], c: Characters, start: usize)
+    requires { ⌜ (from + length (emitted (normalCharacters mark) 0 0 (tokensAt c (now s) start)) ≤ length (now buffer)) × (from ≤ 9) × (length (now s) ≤ 32000) × (faultless (tokensAt c (now s) start) ≡ true) ⌝ }
+    ensures { λ _. ⌜ now (buffer .exit) ≡ sets (now (buffer .entry)) from (emitted (normalCharacters mark) 0 0 (tokensAt c (now (s .entry)) start)) ⌝ }
+{
+    if is_verbatim(s, c, start) {
+        copy(buffer, from, s, start);
+        return;
+    }
+    put_by_token(buffer, from, mark, s, c, start);
 }

@@ -8,7 +8,7 @@ use native.Mathlib.Omega.{arith}
 use lib.ListN.{length, drop, length-append, length-drop}
 use lib.Dec.{ltb}
 use borrow.Author.Tests.{lt-ltb, le-ltb}
-use Rattle.lists.specs.Lists.{if_then_else_}
+use Rattle.lists.specs.Lists.{if_then_else_, all, gather}
 use Rattle.lists.proofs.Texts.{if-true, if-false}
 use Rattle.characters.specs.declared.Characters.{Characters}
 use Rattle.characters.specs.Characters.{charactersOf, bodyStart, body, adviceOf, spelledOut}
@@ -17,8 +17,8 @@ use Rattle.refusals.specs.declared.Refusal.{Refusal}
 use Rattle.refusals.specs.Refusals.{Stage, met, lowest, placeIf}
 use Rattle.refusals.proofs.Lowest.{lowest-none}
 use Rattle.refusals.proofs.Stages.{met-none}
-use Rattle.reading.specs.Tokens.{tokens}
-use Rattle.reading.specs.Values.{endsInside}
+use Rattle.reading.specs.Tokens.{Token, byte, separator, fault, placeOf, tokens}
+use Rattle.reading.specs.Values.{isFault, endsInside}
 use Rattle.reading.specs.Spelling.{spell}
 use Rattle.reading.specs.Tokens.{tokensAt}
 use Rattle.segments.specs.declared.Walk.{Walk}
@@ -26,6 +26,7 @@ use Rattle.segments.specs.Order.{walkOver}
 use Rattle.verdict.specs.Contents.{bodyTokens, segmentsOf, contents, kindsOf, normalCharacters, interchange, normalForm}
 use Rattle.verdict.specs.Places.{isOver, strayReleases, unendedSegment, brokenTags, normalTooLong}
 use Rattle.emission.specs.Emission.{emittedLength}
+use Rattle.verbatim.specs.Verbatim.{faultless}
 use Rattle.emission.proofs.Theorems.{contents-length, contents-bound}
 use Rattle.machines.specs.Walks.{refuse, worded}
 use Rattle.machines.proofs.Rows.{lowest-if}
@@ -37,32 +38,47 @@ use Rattle.answers.specs.declared.Judged.the-variants.{Accepted, Refused}
 use Rattle.operations.specs.Judge.{interchangeOf}
 use Rattle.judging.specs.Judging.{verdictOf, judged, fromLength}
 
+-- where no token is at a stray release character's place, none is a fault
+none-stray : (ts : List Token) → gather (λ t. placeIf (isFault t) (placeOf t)) ts ≡ [] → faultless ts ≡ true
+unfolding faultless all gather isFault placeIf
+none-stray [] e = refl
+none-stray (byte b from place ∷ ts) e = none-stray ts e
+none-stray (separator kind place ∷ ts) e = none-stray ts e
+none-stray (fault place ∷ ts) e = absurd (omega (arith, ap length e))
+
 module _ (s : List ℕ) {c : Characters} {start : ℕ} (o : Opening s c start) where
   -- the code's tokens are the body's
   pub body-tokens : tokensAt c s start ≡ bodyTokens s
   unfolding bodyTokens body tokensAt
   body-tokens = ap₂ (λ (d : Characters) (p : ℕ). tokens d p (drop p s)) (o .characters) (o .place)
 
-  -- where (4 5 6) is not met, the body does not end inside a segment
+  -- where (4 5 6) is not met, neither 4 nor 5 is
+  unmet : worded (length s) (bodyTokens s) ≡ none → (strayReleases s ≡ []) × (unendedSegment s ≡ [])
+  unmet h =
+      let stray = met StrayRelease (strayReleases s) in
+      let unended = met UnendedSegment (unendedSegment s) in
+      let broken = met BrokenTag (brokenTags s) in
+      let parts = first-two stray unended broken (lowest-none (stray ++ unended ++ broken) .0 (worded-answers s ∙ h)) in
+      (met-none StrayRelease (strayReleases s) .0 (parts .0), met-none UnendedSegment (unendedSegment s) .0 (parts .1))
+    where
+      first-two : (xs ys zs : Stage) → xs ++ ys ++ zs ≡ [] → (xs ≡ []) × (ys ≡ [])
+      first-two [] [] zs e = (refl, refl)
+      first-two [] (y ∷ ys) zs e = absurd (omega (arith, ap length e))
+      first-two (x ∷ xs) ys zs e = absurd (omega (arith, ap length e))
+
+  -- then the body does not end inside a segment
   pub body-ended : worded (length s) (bodyTokens s) ≡ none → endsInside (bodyTokens s) ≡ false
   unfolding unendedSegment placeIf
-  body-ended h = step (endsInside (bodyTokens s)) (unmet (worded-answers s ∙ h))
+  body-ended h = step (endsInside (bodyTokens s)) (unmet h .1)
     where
-      middle : (xs ys zs : Stage) → xs ++ ys ++ zs ≡ [] → ys ≡ []
-      middle [] [] zs e = refl
-      middle [] (y ∷ ys) zs e = absurd (omega (arith, ap length e))
-      middle (x ∷ xs) ys zs e = absurd (omega (arith, ap length e))
-
-      unmet : lowest (met StrayRelease (strayReleases s) ++ met UnendedSegment (unendedSegment s) ++ met BrokenTag (brokenTags s)) ≡ none
-          → unendedSegment s ≡ []
-      unmet e =
-          met-none UnendedSegment (unendedSegment s) .0
-          (middle (met StrayRelease (strayReleases s)) (met UnendedSegment (unendedSegment s)) (met BrokenTag (brokenTags s))
-          (lowest-none (met StrayRelease (strayReleases s) ++ met UnendedSegment (unendedSegment s) ++ met BrokenTag (brokenTags s)) .0 e))
-
       step : (t : Bool) → (if t then length s ∷ [] else []) ≡ [] → t ≡ false
       step true e = absurd (omega (arith, ap length e))
       step false e = refl
+
+  -- and no fault 4 lies in it
+  pub body-faultless : worded (length s) (bodyTokens s) ≡ none → faultless (tokensAt c s start) ≡ true
+  unfolding strayReleases
+  body-faultless h = ap faultless body-tokens ∙ none-stray (bodyTokens s) (unmet h .0)
 
   -- the length of the normal form, as it is measured
   pub form-length : worded (length s) (bodyTokens s) ≡ none

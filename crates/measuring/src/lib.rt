@@ -1,5 +1,6 @@
 // How long the contents of a body are, spelled as the normal form spells them (paper 01, "Normal
 // form"), without storing a byte. It promises the length that `emission` gives.
+ghost use mathlib.Core.Bool.{true};
 ghost use mathlib.Core.Path.{_≡_};
 ghost use Prim.Native.Nat.{_+_, _≤_, _*_};
 ghost use lib.ListN.{length};
@@ -7,10 +8,12 @@ ghost use Rattle.characters.specs.Characters.{isService};
 ghost use Rattle.verdict.specs.Contents.{normalCharacters};
 ghost use Rattle.reading.specs.Tokens.{tokensAt};
 ghost use Rattle.emission.specs.Emission.{emittedLength};
+ghost use Rattle.verbatim.specs.Verbatim.{faultless};
 ghost use Rattle.measuring.specs.Measure.{width, behindByte, behindSeparator, held};
 use characters::Characters;
 use scanner::Lexed;
 use scanner::lex;
+use verbatim::is_verbatim;
 
 // What is spelled so far, and how many separators are held back behind it.
 pub struct Measure {
@@ -74,7 +77,8 @@ pub fn with_separator(m: Measure, kind: u8) -> Measure
     }
 }
 
-pub fn measured(s: &[u8], c: Characters, start: usize) -> usize
+// Token by token: what is held back is let out by the next byte of a value, or dropped.
+fn measured_by_token(s: &[u8], c: Characters, start: usize) -> usize
     requires { ⌜ length (now s) ≤ 32000 ⌝ }
     ensures { λ r. ⌜ r ≡ emittedLength (normalCharacters (c .mark)) 0 0 0 (tokensAt c (now (s .entry)) start) ⌝ }
 {
@@ -106,4 +110,16 @@ pub fn measured(s: &[u8], c: Characters, start: usize) -> usize
             }
         }
     }
+}
+
+// How long the contents of the body that begins at `start` are. One that stands as its normal form
+// spells it has that length already.
+pub fn measured(s: &[u8], c: Characters, start: usize) -> usize
+    requires { ⌜ (length (now s) ≤ 32000) × (start ≤ length (now s)) × (faultless (tokensAt c (now s) start) ≡ true) ⌝ }
+    ensures { λ r. ⌜ r ≡ emittedLength (normalCharacters (c .mark)) 0 0 0 (tokensAt c (now (s .entry)) start) ⌝ }
+{
+    if is_verbatim(s, c, start) {
+        return s.len() - start;
+    }
+    measured_by_token(s, c, start)
 }

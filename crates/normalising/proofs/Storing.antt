@@ -24,11 +24,12 @@ use Rattle.verdict.specs.Contents.{bodyTokens, segmentsOf, contents, normalChar
 use Rattle.verdict.specs.Stages.{stages, refusalOf}
 use Rattle.emission.specs.Emission.{emitted}
 use Rattle.emission.proofs.Theorems.{contents-emitted}
+use Rattle.verbatim.specs.Verbatim.{faultless}
 use Rattle.machines.specs.Walks.{refuse}
 use Rattle.machines.proofs.Rows.{lowest-if, orElse-none}
 use Rattle.storing.proofs.Stores.{sets-append}
 use Rattle.opening.proofs.Openings.{Opening}
-use Rattle.judging.proofs.Judging.{body-tokens, body-ended}
+use Rattle.judging.proofs.Judging.{body-ended, body-faultless}
 use Rattle.judging.proofs.Stages.{accepted-opening, accepted-worded}
 use Rattle.answers.specs.declared.Interchange.{Interchange}
 use Rattle.answers.specs.declared.Stored.{Stored}
@@ -40,6 +41,12 @@ use Rattle.operations.specs.Judge.{interchangeOf, shortFor, storedIn, unlessRef
 pub nine : (c : Characters) → length (adviceOf c) ≡ 9
 unfolding adviceOf spelledOut
 nine c = refl
+
+-- no fault 4 lies in the body of an accepted interchange
+pub form-faultless : (s : List ℕ) → refusalOf s ≡ none → {c : Characters} {start : ℕ} → c ≡ charactersOf s → start ≡ bodyStart s
+    → faultless (tokensAt c s start) ≡ true
+form-faultless s a d p =
+    ap₂ (λ (c : Characters) (start : ℕ). faultless (tokensAt c s start)) d p ∙ body-faultless s (accepted-opening s a) (accepted-worded s a)
 
 module _ (buffer s : List ℕ) where
   -- what is answered and what the buffer holds, from the refusal that answers

@@ -5,8 +5,8 @@ use mathlib.Core.List.{List, [], _∷_, _++_}
 use native.Mathlib.Nat.{add-zero, add-suc, suc-add}
 use native.Mathlib.Numerals.{add-one}
 use native.Mathlib.Omega.{arith}
-use lib.ListN.{length, set, replicate}
-use lib.Seq.{sets}
+use lib.ListN.{length, set, getD, drop, replicate}
+use lib.Seq.{sets, drop-cons}
 use mathlib.Core.Bool.{true, false}
 use Rattle.lists.proofs.Texts.{if-true, if-false}
 use Rattle.characters.specs.declared.Characters.{Characters}
@@ -31,6 +31,13 @@ module _ {A : Type 0} where
     where
       one-more : count - i ≡ suc (count - (i + 1))
       one-more = omega arith
+
+  -- what stands in another text from a place on is stored byte by byte
+  pub rest-first : (l s : List A) (to at : ℕ) (d : A) → at < length s
+      → sets l to (drop at s) ≡ sets (set l to (getD s at d)) (to + 1) (drop (at + 1) s)
+  rest-first l s to at d h =
+      ap (sets l to) (drop-cons s at d h ∙ ap (λ (k : ℕ). getD s at d ∷ drop k s) (sym (add-one at)))
+      ∙ sets-first l to (getD s at d) (drop (at + 1) s)
 
 -- how a byte of a value is spelled
 pub spelled-released : (c : Characters) (b : ℕ) → isService c b ≡ true → spellByte c b ≡ c .release ∷ b ∷ []

@@ -1,9 +1,9 @@
-// Storing a text in a lent buffer: a run of one byte, a byte of a value as it is spelled,
-// an advice. It promises every byte of the buffer at exit; what is not stored keeps its value.
+// Storing a text in a lent buffer: a run of one byte, a part of another text, a byte of a value as it
+// is spelled, an advice. It promises every byte of the buffer at exit; what is not stored keeps its value.
 ghost use mathlib.Core.Path.{_≡_};
 ghost use mathlib.Core.List.{_++_};
 ghost use Prim.Native.Nat.{_+_, _≤_};
-ghost use lib.ListN.{length, replicate};
+ghost use lib.ListN.{length, replicate, drop};
 ghost use lib.Seq.{sets};
 ghost use Rattle.characters.specs.Characters.{isService, adviceOf};
 ghost use Rattle.reading.specs.Spelling.{spellByte};
@@ -18,6 +18,20 @@ pub fn fill(buffer: &mut [u8], from: usize, count: usize, b: u8)
     while i < count {
         buffer[from + i] = b;
         i += 1;
+    }
+}
+
+// Stores what stands in another text from `start` on, from a place on.
+pub fn copy(buffer: &mut [u8], from: usize, s: &[u8], start: usize)
+    requires { ⌜ from + length (drop start (now s)) ≤ length (now buffer) ⌝ }
+    ensures { λ _. ⌜ now (buffer .exit) ≡ sets (now (buffer .entry)) from (drop start (now (s .entry))) ⌝ }
+{
+    let mut at = start;
+    let mut to = from;
+    while at < s.len() {
+        buffer[to] = s[at];
+        at += 1;
+        to += 1;
     }
 }
 

@@ -1,127 +1,46 @@
--- `emitting::put_contents` meets its contract. The loop's invariant: what is emitted from here on, stored from the place reached, gives what
--- the whole, stored at the start, gives; it fits; and two bytes are spelled or held back for each byte passed, at most. What is left of
--- the input falls. Assumes nothing.
-use Prim.Native.Nat.{ℕ, _+_, _*_, _-_, _≤_}
-use mathlib.Core.Path.{_≡_, refl, sym, ap, ap₂, _∙_}
-use mathlib.Core.List.{List, _++_}
+-- `emitting::put_contents` meets its contract: what is emitted of a body that stands as its normal form spells it is that body, and another
+-- one is stored token by token. Assumes nothing.
+use Prim.Native.Nat.{ℕ, _+_, _≤_}
+use mathlib.Core.Path.{_≡_, sym, ap, _∙_}
+use mathlib.Core.List.{List}
 use native.Mathlib.Omega.{arith}
-use lib.ListN.{length, length-append}
+use lib.ListN.{length}
 use lib.Seq.{sets}
 use borrow.Author.Needs.{needs}
-use Rattle.reading.specs.Tokens.{Token}
-use Rattle.reading.specs.Spelling.{spellByte}
-use Rattle.reading.specs.Tokens.{tokensAt}
-use Rattle.verdict.specs.Contents.{normalCharacters}
-use Rattle.emission.specs.Emission.{letOut, emitted}
-use Rattle.measuring.specs.declared.Measure.{Measure}
-use Rattle.measuring.specs.Measure.{behindByte, behindSeparator, held}
-use Rattle.measuring.proofs.Steps.{held-byte, held-separator}
-use Rattle.scanner.proofs.Lexing.{lexes-as}
-use Rattle.emitting.specs.Emitting.{endText, emittedFrom}
-use Rattle.emitting.proofs.Putting.{Goes, byte-fits, byte-goes, separator-fits, separator-goes, fault-goes, end-goes}
+use Rattle.verbatim.proofs.Emitted.{emitted-verbatim}
 use Rattle.emitting.proofs.put_contents.Statement.{statement}
 use Rattle.emitting.proofs.put_contents.Tie as tie
 
-abbrev Inv-loop : tie.InvT-loop
-Inv-loop buffer₀ from mark s c start m₀ at₀ buffer m at =
-    Goes buffer₀ buffer from (m .total) (emitted (normalCharacters mark) 0 0 (tokensAt c s start)) (emittedFrom mark m (tokensAt c s at))
-    × (held m ≤ from + 2 * at)
+is-verbatim-requires : tie.Need-is-verbatim-requires
+is-verbatim-requires c κs = search needs
 
-abbrev μ-loop : tie.MeasureT-loop
-μ-loop buffer₀ from mark s c start m₀ at₀ buffer m at = length s - at
+copy-requires : tie.Need-copy-requires
+copy-requires c κs =
+    let args = c .before .before .before .before .before .args in
+    let pre = c .before .before .before .before .before .pre in
+    let same = emitted-verbatim (args .mark) (args .c) (args .s .now) (args .start) (sym (c .before .before .is-verbatim .ensures) ∙ c .before .if1 .taken) (pre .3) in
+    omega (arith, ap length same, pre .0)
 
-loop-holds : tie.Need-loop-holds Inv-loop μ-loop
-unfolding emittedFrom
-loop-holds c = (record { stored = refl; fits = c .before .before .pre .2; as-long = refl }, omega arith)
+same-length : tie.Need-same-length
+same-length c = search needs
 
-lex-requires : tie.Need-lex-requires Inv-loop μ-loop
-lex-requires c κs = search needs
-
-enum-known-byte : tie.Need-enum-known-byte Inv-loop μ-loop
-enum-known-byte c = search needs
-
-put-value-byte-requires : tie.Need-put-value-byte-requires Inv-loop μ-loop
-put-value-byte-requires c κs =
-    let l = lexes-as (c .before .before .before .before .before .before .before .before .args .c) (c .before .before .before .before .before .before .before .before .args .s .now) (c .before .before .before .before .before .loop .at) (c .before .before .before .before .lex .ensures) (c .before .before .byte .given .1) in
-    let fits = byte-fits (c .before .before .before .before .before .before .before .before .args .mark) (c .before .before .before .before .before .loop .m) _ (c .before .before .before .before .before .loop .inv .0) (l .0) in
-    let short = c .before .before .before .before .before .before .before .before .pre in
-    let most : held (c .before .before .before .before .before .loop .m) ≤ 64009 = omega arith in
-    (fits, most)
-
-loop-less : tie.Need-loop-less Inv-loop μ-loop
-loop-less c = let l = lexes-as (c .before .before .before .before .before .before .before .before .before .before .before .args .c) (c .before .before .before .before .before .before .before .before .before .before .before .args .s .now) (c .before .before .before .before .before .before .before .before .loop .at) (c .before .before .before .before .before .before .before .lex .ensures) (c .before .before .before .before .before .byte .given .1) in omega arith
-
-loop-again : tie.Need-loop-again Inv-loop μ-loop
-loop-again c =
-    let l = lexes-as (c .before .before .before .before .before .before .before .before .before .before .before .args .c) (c .before .before .before .before .before .before .before .before .before .before .before .args .s .now) (c .before .before .before .before .before .before .before .before .loop .at) (c .before .before .before .before .before .before .before .lex .ensures) (c .before .before .before .before .before .byte .given .1) in
-    let e = c .before .before .put-value-byte .ensures in (
-      byte-goes (c .before .before .before .before .before .before .before .before .before .before .before .args .mark) (c .before .before .before .before .before .before .before .before .loop .m) _ (c .before .before .before .before .before .before .before .before .loop .inv .0) (l .0) (e .0) (e .1),
-      omega (arith, ap (λ (m : Measure). held m) (e .1), held-byte (c .before .before .before .before .before .before .before .before .loop .m) (c .before .before .before .before .before .byte .given .0 .0)),
-    )
-
-enum-known-kind : tie.Need-enum-known-kind Inv-loop μ-loop
-enum-known-kind c = search needs
-
-put-separator-requires : tie.Need-put-separator-requires Inv-loop μ-loop
-put-separator-requires c κs =
-    let l = lexes-as (c .before .before .before .before .before .before .before .before .args .c) (c .before .before .before .before .before .before .before .before .args .s .now) (c .before .before .before .before .before .loop .at) (c .before .before .before .before .lex .ensures) (c .before .before .kind .given .1) in
-    let fits = separator-fits (c .before .before .before .before .before .before .before .before .args .mark) (c .before .before .before .before .before .loop .m) _ (c .before .before .before .before .before .loop .inv .0) (l .0) in
-    let short = c .before .before .before .before .before .before .before .before .pre in
-    let most : held (c .before .before .before .before .before .loop .m) ≤ 64009 = omega arith in
-    (fits, most)
-
-loop-less-2 : tie.Need-loop-less-2 Inv-loop μ-loop
-loop-less-2 c = let l = lexes-as (c .before .before .before .before .before .before .before .before .before .before .before .args .c) (c .before .before .before .before .before .before .before .before .before .before .before .args .s .now) (c .before .before .before .before .before .before .before .before .loop .at) (c .before .before .before .before .before .before .before .lex .ensures) (c .before .before .before .before .before .kind .given .1) in omega arith
-
-loop-again-2 : tie.Need-loop-again-2 Inv-loop μ-loop
-loop-again-2 c =
-    let l = lexes-as (c .before .before .before .before .before .before .before .before .before .before .before .args .c) (c .before .before .before .before .before .before .before .before .before .before .before .args .s .now) (c .before .before .before .before .before .before .before .before .loop .at) (c .before .before .before .before .before .before .before .lex .ensures) (c .before .before .before .before .before .kind .given .1) in
-    let e = c .before .before .put-separator .ensures in (
-      separator-goes (c .before .before .before .before .before .before .before .before .before .before .before .args .mark) (c .before .before .before .before .before .before .before .before .loop .m) _ (c .before .before .before .before .before .before .before .before .loop .inv .0) (l .0) (e .0) (e .1),
-      omega (arith, ap (λ (m : Measure). held m) (e .1), held-separator (c .before .before .before .before .before .before .before .before .loop .m) (c .before .before .before .before .before .kind .given .0 .0)),
-    )
-
-enum-known-next : tie.Need-enum-known-next Inv-loop μ-loop
-enum-known-next c = search needs
-
-loop-less-3 : tie.Need-loop-less-3 Inv-loop μ-loop
-loop-less-3 c = let l = lexes-as (c .before .before .before .before .before .before .before .args .c) (c .before .before .before .before .before .before .before .args .s .now) (c .before .before .before .before .loop .at) (c .before .before .before .lex .ensures) (c .before .next .given .1) in omega arith
-
-loop-again-3 : tie.Need-loop-again-3 Inv-loop μ-loop
-loop-again-3 c =
-    let l = lexes-as (c .before .before .before .before .before .before .before .args .c) (c .before .before .before .before .before .before .before .args .s .now) (c .before .before .before .before .loop .at) (c .before .before .before .lex .ensures) (c .before .next .given .1) in
-    (fault-goes (c .before .before .before .before .before .before .before .args .mark) (c .before .before .before .before .loop .m) _ (c .before .before .before .before .loop .inv .0) (l .0), omega arith)
-
-enum-told : tie.Need-enum-told Inv-loop μ-loop
-enum-told c = search needs
-
-same-length : tie.Need-same-length Inv-loop μ-loop
-same-length c = c .before .before .before .loop .inv .0 .as-long
-
-returns : tie.Need-returns Inv-loop μ-loop
+returns : tie.Need-returns
 returns c =
-    let l = lexes-as (c .before .before .before .before .before .before .args .c) (c .before .before .before .before .before .before .args .s .now) (c .before .before .before .loop .at) (c .before .before .lex .ensures) (c .enum-told .given .1) in
-    end-goes (c .before .before .before .before .before .before .args .mark) (c .before .before .before .loop .m) _ (c .before .before .before .loop .inv .0) (l .0)
+    let args = c .before .before .before .before .before .before .before .before .args in
+    let pre = c .before .before .before .before .before .before .before .before .pre in
+    let same = emitted-verbatim (args .mark) (args .c) (args .s .now) (args .start) (sym (c .before .before .before .before .before .is-verbatim .ensures) ∙ c .before .before .before .before .if1 .taken) (pre .3) in
+    c .before .before .copy .ensures ∙ ap (sets (args .buffer .now) (args .from)) (sym same)
+
+put-by-token-requires : tie.Need-put-by-token-requires
+put-by-token-requires c κs = search needs
+
+same-length-2 : tie.Need-same-length-2
+same-length-2 c = search needs
+
+returns-2 : tie.Need-returns-2
+returns-2 c = search needs
 
 pub put-contents-spec : {M : Type 1} → statement M
 put-contents-spec =
     tie.close
-    (tie.spec
-    Inv-loop
-    μ-loop
-    loop-holds
-    lex-requires
-    enum-known-byte
-    put-value-byte-requires
-    loop-less
-    loop-again
-    enum-known-kind
-    put-separator-requires
-    loop-less-2
-    loop-again-2
-    enum-known-next
-    loop-less-3
-    loop-again-3
-    enum-told
-    same-length
-    returns)
+    (tie.spec is-verbatim-requires copy-requires same-length returns put-by-token-requires same-length-2 returns-2)

@@ -3,12 +3,14 @@ use mathlib.Core.Path.{ap, _∙_}
 use Prim.Native.Nat.{ℕ, _+_}
 use native.Mathlib.Omega.{arith}
 use borrow.Author.Needs.{needs}
-use Rattle.judging.proofs.Judging.{form-length, measure-bound, length-refused, length-accepted}
+use Rattle.judging.proofs.Judging.{body-faultless, form-length, measure-bound, length-refused, length-accepted}
 use Rattle.judging.proofs.judge_length.Statement.{statement}
 use Rattle.judging.proofs.judge_length.Tie as tie
 
 measured-requires : tie.Need-measured-requires
-measured-requires c κs = c .before .pre .0 .short
+measured-requires c κs =
+    let o = c .before .pre .0 in
+    (o .short, omega (arith, o .fits), body-faultless _ o (c .before .pre .1))
 
 add-length : tie.Need-add-length
 add-length c = record { fits = omega (arith, c .measured .ensures, measure-bound _ (c .before .before .pre .0) (c .before .before .pre .1)) }

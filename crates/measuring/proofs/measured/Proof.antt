@@ -1,117 +1,43 @@
--- `measuring::measured` meets its contract. The loop's invariant: the length from the start is the length from what is measured and
--- the tokens from `at` on; and two bytes are spelled or held back for each byte passed, at most. What is left of the input falls.
--- Assumes nothing.
-use Prim.Native.Nat.{ℕ, _+_, _*_, _-_, _≤_}
-use mathlib.Core.Path.{_≡_, refl, sym, ap, _∙_}
+-- `measuring::measured` meets its contract: a body that stands as its normal form spells it has that length, and another one is measured
+-- token by token. Assumes nothing.
+use Prim.Native.Nat.{ℕ, _-_}
+use mathlib.Core.Path.{_≡_, sym, ap, _∙_}
+use mathlib.Core.Bool.{true}
 use mathlib.Core.List.{List}
-use native.Mathlib.Omega.{arith}
-use lib.ListN.{length}
+use lib.ListN.{length, drop, length-drop}
 use borrow.Author.Needs.{needs}
-use Rattle.reading.specs.Tokens.{Token}
+use Rattle.characters.specs.declared.Characters.{Characters}
 use Rattle.reading.specs.Tokens.{tokensAt}
 use Rattle.verdict.specs.Contents.{normalCharacters}
 use Rattle.emission.specs.Emission.{emittedLength}
-use Rattle.scanner.proofs.Lexing.{lexes-as}
-use Rattle.measuring.specs.declared.Measure.{Measure}
-use Rattle.measuring.specs.Measure.{held, lengthFrom}
-use Rattle.measuring.proofs.Steps.{measure-byte, measure-separator, held-byte, held-separator}
+use Rattle.emission.proofs.Measure.{length-emitted}
+use Rattle.verbatim.specs.Verbatim.{verbatim, faultless}
+use Rattle.verbatim.proofs.Emitted.{emitted-verbatim}
 use Rattle.measuring.proofs.measured.Statement.{statement}
 use Rattle.measuring.proofs.measured.Tie as tie
 
-abbrev Inv-loop : tie.InvT-loop
-Inv-loop s c start m₀ at₀ m at =
-    (emittedLength (normalCharacters (c .mark)) 0 0 0 (tokensAt c s start) ≡ lengthFrom (normalCharacters (c .mark)) m (tokensAt c s at))
-    × (held m ≤ 2 * at)
+-- what is left of the input is what is emitted
+as-long : (s : List ℕ) (c : Characters) (start : ℕ) → verbatim c (drop start s) ≡ true → faultless (tokensAt c s start) ≡ true
+    → length s - start ≡ emittedLength (normalCharacters (c .mark)) 0 0 0 (tokensAt c s start)
+as-long s c start v f =
+    sym (length-emitted (normalCharacters (c .mark)) (tokensAt c s start) ∙ ap length (emitted-verbatim (c .mark) c s start v f) ∙ length-drop start s)
 
-abbrev μ-loop : tie.MeasureT-loop
-μ-loop s c start m₀ at₀ m at = length s - at
+is-verbatim-requires : tie.Need-is-verbatim-requires
+is-verbatim-requires c κs = search needs
 
-loop-holds : tie.Need-loop-holds Inv-loop μ-loop
-unfolding lengthFrom
-loop-holds c = (refl, omega arith)
+sub-result : tie.Need-sub-result
+sub-result c = search needs
 
-lex-requires : tie.Need-lex-requires Inv-loop μ-loop
-lex-requires c κs = search needs
-
-enum-known-byte : tie.Need-enum-known-byte Inv-loop μ-loop
-enum-known-byte c = search needs
-
-with-byte-requires : tie.Need-with-byte-requires Inv-loop μ-loop
-with-byte-requires c κs = let l = lexes-as (c .before .before .before .before .before .before .args .c) (c .before .before .before .before .before .before .args .s .now) (c .before .before .before .before .loop .at) (c .before .before .before .lex .ensures) (c .before .byte .given .1) in omega arith
-
-loop-less : tie.Need-loop-less Inv-loop μ-loop
-loop-less c = let l = lexes-as (c .before .before .before .before .before .before .before .args .c) (c .before .before .before .before .before .before .before .args .s .now) (c .before .before .before .before .before .loop .at) (c .before .before .before .before .lex .ensures) (c .before .before .byte .given .1) in omega arith
-
-loop-again : tie.Need-loop-again Inv-loop μ-loop
-loop-again c =
-    let l = lexes-as (c .before .before .before .before .before .before .before .args .c) (c .before .before .before .before .before .before .before .args .s .now) (c .before .before .before .before .before .loop .at) (c .before .before .before .before .lex .ensures) (c .before .before .byte .given .1) in
-    let e = c .with-byte .ensures in (
-      c .before .before .before .before .before .loop .inv .0
-          ∙ ap (lengthFrom (normalCharacters (c .before .before .before .before .before .before .before .args .c .mark)) (c .before .before .before .before .before .loop .m)) (l .0)
-          ∙ measure-byte (c .before .before .before .before .before .before .before .args .c .mark) (c .before .before .before .before .before .loop .m) _ _ _ _
-          ∙ ap (λ (m : Measure). lengthFrom (normalCharacters (c .before .before .before .before .before .before .before .args .c .mark)) m (tokensAt (c .before .before .before .before .before .before .before .args .c) (c .before .before .before .before .before .before .before .args .s .now) (c .before .before .byte .given .0 .1 .1 .0))) (sym e),
-      omega (arith, ap (λ (m : Measure). held m) e, held-byte (c .before .before .before .before .before .loop .m) (c .before .before .byte .given .0 .0)),
-    )
-
-enum-known-kind : tie.Need-enum-known-kind Inv-loop μ-loop
-enum-known-kind c = search needs
-
-with-separator-requires : tie.Need-with-separator-requires Inv-loop μ-loop
-with-separator-requires c κs = let l = lexes-as (c .before .before .before .before .before .before .args .c) (c .before .before .before .before .before .before .args .s .now) (c .before .before .before .before .loop .at) (c .before .before .before .lex .ensures) (c .before .kind .given .1) in omega arith
-
-loop-less-2 : tie.Need-loop-less-2 Inv-loop μ-loop
-loop-less-2 c = let l = lexes-as (c .before .before .before .before .before .before .before .args .c) (c .before .before .before .before .before .before .before .args .s .now) (c .before .before .before .before .before .loop .at) (c .before .before .before .before .lex .ensures) (c .before .before .kind .given .1) in omega arith
-
-loop-again-2 : tie.Need-loop-again-2 Inv-loop μ-loop
-loop-again-2 c =
-    let l = lexes-as (c .before .before .before .before .before .before .before .args .c) (c .before .before .before .before .before .before .before .args .s .now) (c .before .before .before .before .before .loop .at) (c .before .before .before .before .lex .ensures) (c .before .before .kind .given .1) in
-    let e = c .with-separator .ensures in (
-      c .before .before .before .before .before .loop .inv .0
-          ∙ ap (lengthFrom (normalCharacters (c .before .before .before .before .before .before .before .args .c .mark)) (c .before .before .before .before .before .loop .m)) (l .0)
-          ∙ measure-separator (c .before .before .before .before .before .before .before .args .c .mark) (c .before .before .before .before .before .loop .m) _ _ _
-          ∙ ap (λ (m : Measure). lengthFrom (normalCharacters (c .before .before .before .before .before .before .before .args .c .mark)) m (tokensAt (c .before .before .before .before .before .before .before .args .c) (c .before .before .before .before .before .before .before .args .s .now) (c .before .before .kind .given .0 .1 .0))) (sym e),
-      omega (arith, ap (λ (m : Measure). held m) e, held-separator (c .before .before .before .before .before .loop .m) (c .before .before .kind .given .0 .0)),
-    )
-
-enum-known-next : tie.Need-enum-known-next Inv-loop μ-loop
-enum-known-next c = search needs
-
-loop-less-3 : tie.Need-loop-less-3 Inv-loop μ-loop
-loop-less-3 c = let l = lexes-as (c .before .before .before .before .before .before .args .c) (c .before .before .before .before .before .before .args .s .now) (c .before .before .before .before .loop .at) (c .before .before .before .lex .ensures) (c .before .next .given .1) in omega arith
-
-loop-again-3 : tie.Need-loop-again-3 Inv-loop μ-loop
-unfolding lengthFrom emittedLength
-loop-again-3 c =
-    let l = lexes-as (c .before .before .before .before .before .before .args .c) (c .before .before .before .before .before .before .args .s .now) (c .before .before .before .before .loop .at) (c .before .before .before .lex .ensures) (c .before .next .given .1) in
-    (c .before .before .before .before .loop .inv .0 ∙ ap (lengthFrom (normalCharacters (c .before .before .before .before .before .before .args .c .mark)) (c .before .before .before .before .loop .m)) (l .0), omega arith)
-
-enum-told : tie.Need-enum-told Inv-loop μ-loop
-enum-told c = search needs
-
-returns : tie.Need-returns Inv-loop μ-loop
-unfolding lengthFrom emittedLength
+returns : tie.Need-returns
 returns c =
-    let l = lexes-as (c .before .before .before .before .before .args .c) (c .before .before .before .before .before .args .s .now) (c .before .before .before .loop .at) (c .before .before .lex .ensures) (c .enum-told .given .1) in
-    sym (c .before .before .before .loop .inv .0 ∙ ap (lengthFrom (normalCharacters (c .before .before .before .before .before .args .c .mark)) (c .before .before .before .loop .m)) (l .0))
+    let s = c .before .before .before .args .s .now in
+    as-long s (c .before .before .before .args .c) (c .before .before .before .args .start) (sym (c .before .is-verbatim .ensures) ∙ c .if1 .taken) (c .before .before .before .pre .2)
+
+measured-by-token-requires : tie.Need-measured-by-token-requires
+measured-by-token-requires c κs = search needs
+
+returns-2 : tie.Need-returns-2
+returns-2 c = search needs
 
 pub measured-spec : {M : Type 1} → statement M
-measured-spec =
-    tie.close
-    (tie.spec
-    Inv-loop
-    μ-loop
-    loop-holds
-    lex-requires
-    enum-known-byte
-    with-byte-requires
-    loop-less
-    loop-again
-    enum-known-kind
-    with-separator-requires
-    loop-less-2
-    loop-again-2
-    enum-known-next
-    loop-less-3
-    loop-again-3
-    enum-told
-    returns)
+measured-spec = tie.close (tie.spec is-verbatim-requires sub-result returns measured-by-token-requires returns-2)

@@ -15,7 +15,7 @@ use Rattle.emission.specs.Emission.{emitted}
 use Rattle.answers.specs.declared.Interchange.{Interchange}
 use Rattle.emitting.proofs.Putting.{stored-length}
 use Rattle.judging.proofs.Stages.{accepted-opening}
-use Rattle.normalising.proofs.Storing.{short-refuses, form-is, form-stored, length-of, characters-of, parts-fit}
+use Rattle.normalising.proofs.Storing.{form-faultless, short-refuses, form-is, form-stored, length-of, characters-of, parts-fit}
 use Rattle.normalising.proofs.store_form.Statement.{statement}
 use Rattle.normalising.proofs.store_form.Tie as tie
 
@@ -62,7 +62,8 @@ put-contents-requires c κs =
     (length-of s i)
     (c .before .before .before .before .before .before .before .before .if1 .left) in
     let room : 9 + length (spelled (c .before .before .before .before .before .before .before .before .before .before .before .args .i) s (c .body-start .result)) ≤ length (c .before .before .before .before .put-advice .last .0) = omega arith in
-    (lit≤ tt, accepted-opening s (c .before .before .before .before .before .before .before .before .before .before .before .pre .0) .short, room)
+    let a = c .before .before .before .before .before .before .before .before .before .before .before .pre .0 in
+    (room, lit≤ tt, accepted-opening s a .short, form-faultless s a (characters-of s i) (c .body-start .ensures))
 
 same-length : tie.Need-same-length
 same-length c = search needs

@@ -1,0 +1,38 @@
+-- The test of neighbours, from a place of the input on: what a byte does to it, and the end. Assumes nothing.
+use Prim.Native.Nat.{ℕ, _+_, _≤_, _<_}
+use mathlib.Core.Path.{_≡_, refl, sym, ap, _∙_}
+use mathlib.Core.Bool.{Bool, true, false, not, _&&_, _||_}
+use mathlib.Core.List.{List, [], _∷_}
+use native.Mathlib.Numerals.{add-one}
+use lib.ListN.{length, getD, drop, drop-of-length-le}
+use lib.Seq.{drop-cons}
+use Rattle.verbatim.specs.Verbatim.{idle, clean}
+
+-- what is found so far and what is found now
+gathered : (found now rest : Bool) → (not found && (not now && rest)) ≡ (not (found || now) && rest)
+gathered true now rest = refl
+gathered false now rest = refl
+
+gathered-end : (found now : Bool) → (not found && not now) ≡ not (found || now)
+gathered-end true now = refl
+gathered-end false now = refl
+
+-- nothing idle was found, and there is none behind a byte, from a place on
+abbrev pub cleanFrom : Bool → ℕ → List ℕ → ℕ → Bool
+cleanFrom found before s at = not found && clean before (drop at s)
+
+module _ (found : Bool) (before : ℕ) (s : List ℕ) (at : ℕ) where
+  pub clean-next : {now : Bool} → now ≡ idle before (getD s at 0) → at < length s
+      → cleanFrom found before s at ≡ cleanFrom (found || now) (getD s at 0) s (at + 1)
+  unfolding clean
+  clean-next {now} e h =
+      ap (λ (l : List ℕ). not found && clean before l) (drop-cons s at 0 h ∙ ap (λ (n : ℕ). getD s at 0 ∷ drop n s) (sym (add-one at)))
+      ∙ ap (λ (b : Bool). not found && (not b && clean (getD s at 0) (drop (at + 1) s))) (sym e)
+      ∙ gathered found now (clean (getD s at 0) (drop (at + 1) s))
+
+  pub clean-end : {now : Bool} → now ≡ idle before 39 → length s ≤ at → cleanFrom found before s at ≡ not (found || now)
+  unfolding clean
+  clean-end {now} e h =
+      ap (λ (l : List ℕ). not found && clean before l) (drop-of-length-le s h)
+      ∙ ap (λ (b : Bool). not found && not b) (sym e)
+      ∙ gathered-end found now

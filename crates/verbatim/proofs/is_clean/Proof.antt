@@ -1,0 +1,62 @@
+-- `verbatim::is_clean` meets its contract. The loop's invariant: the bytes from the start are clean just where nothing idle was found so far
+-- and those from `at` on are clean, behind the byte before them. What is left of the input falls. Assumes nothing.
+use Prim.Native.Nat.{ℕ, _-_}
+use mathlib.Core.Path.{_≡_, refl, sym, _∙_}
+use native.Mathlib.Omega.{arith}
+use lib.ListN.{length, drop}
+use borrow.Author.Needs.{needs}
+use Rattle.verbatim.specs.Verbatim.{clean}
+use Rattle.verbatim.proofs.Clean.{cleanFrom, clean-next, clean-end}
+use Rattle.verbatim.proofs.is_clean.Statement.{statement}
+use Rattle.verbatim.proofs.is_clean.Tie as tie
+
+abbrev Inv-loop : tie.InvT-loop
+Inv-loop s start before₀ found₀ at₀ before found at = clean 0 (drop start s) ≡ cleanFrom found before s at
+
+abbrev μ-loop : tie.MeasureT-loop
+μ-loop s start before₀ found₀ at₀ before found at = length s - at
+
+loop-holds : tie.Need-loop-holds Inv-loop μ-loop
+loop-holds c = refl
+
+shared-slice-read-b : tie.Need-shared-slice-read-b Inv-loop μ-loop
+shared-slice-read-b c = search needs
+
+is-idle-requires : tie.Need-is-idle-requires Inv-loop μ-loop
+is-idle-requires c κs = search needs
+
+add-at : tie.Need-add-at Inv-loop μ-loop
+add-at c = search needs
+
+loop-less : tie.Need-loop-less Inv-loop μ-loop
+loop-less c = omega arith
+
+loop-again : tie.Need-loop-again Inv-loop μ-loop
+loop-again c =
+    let s = c .before .before .before .before .before .args .s .now in
+    let state = c .before .before .before .loop in
+    state .inv ∙ clean-next (state .found) (state .before) s (state .at) (c .is-idle .ensures) (omega arith)
+
+is-idle-requires-2 : tie.Need-is-idle-requires-2 Inv-loop μ-loop
+is-idle-requires-2 c κs = search needs
+
+returns : tie.Need-returns Inv-loop μ-loop
+returns c =
+    let s = c .before .before .before .before .args .s .now in
+    let state = c .before .before .loop in
+    sym (state .inv ∙ clean-end (state .found) (state .before) s (state .at) (c .is-idle2 .ensures) (omega arith))
+
+pub is-clean-spec : {M : Type 1} → statement M
+is-clean-spec =
+    tie.close
+    (tie.spec
+    Inv-loop
+    μ-loop
+    loop-holds
+    shared-slice-read-b
+    is-idle-requires
+    add-at
+    loop-less
+    loop-again
+    is-idle-requires-2
+    returns)
