@@ -32,9 +32,9 @@ use Rattle.opening.proofs.Openings.{Opening}
 use Rattle.judging.proofs.Judging.{body-ended, body-faultless}
 use Rattle.judging.proofs.Stages.{accepted-opening, accepted-worded}
 use Rattle.answers.specs.declared.Interchange.{Interchange}
-use Rattle.answers.specs.declared.Stored.{Stored}
 use Rattle.answers.specs.declared.Stored.the-variants.{Length, Refused}
 use Rattle.answers.specs.Answers.{given, refused, toldStored}
+use Rattle.promises.specs.Promises.{Normalises}
 use Rattle.operations.specs.Judge.{interchangeOf, shortFor, storedIn, unlessRefused, normaliseRefusal, normalise, normaliseBuffer}
 
 -- an advice has nine bytes
@@ -50,10 +50,6 @@ form-faultless s a d p =
 
 module _ (buffer s : List ℕ) where
   -- what is answered and what the buffer holds, from the refusal that answers
-  pub record Normalises (r : Stored) (after : List ℕ) : Type 0 where
-    pub says : toldStored r ≡ normalise buffer s
-    pub holds : after ≡ normaliseBuffer buffer s
-
   from-refusal : (o : Option Refusal) → normaliseRefusal buffer s ≡ o
       → (normalise buffer s ≡ maybe (given (length (normalForm s) ∷ [])) refused o)
       × (normaliseBuffer buffer s ≡ unlessRefused o (storedIn buffer (normalForm s)) buffer)
@@ -64,9 +60,9 @@ module _ (buffer s : List ℕ) where
   )
 
   -- a refusal answers, and the buffer is unchanged
-  refuses : {r : Refusal} → normaliseRefusal buffer s ≡ some r → Normalises (Refused r) buffer
+  refuses : {r : Refusal} → normaliseRefusal buffer s ≡ some r → Normalises buffer s (Refused r) buffer
   unfolding toldStored maybe unlessRefused
-  refuses e = let (a, b) = from-refusal _ e in record { says = sym a; holds = sym b }
+  refuses e = let (a, b) = from-refusal _ e in (sym a, sym b)
 
   -- Judge's refusal, then 14
   by-stages : normaliseRefusal buffer s ≡ orElse (refusalOf s) (lowest (shortFor (normalForm s) buffer))
@@ -75,7 +71,7 @@ module _ (buffer s : List ℕ) where
       answering-append (stages s) (shortFor (normalForm s) buffer ∷ [])
       ∙ ap (orElse (answering (stages s))) (orElse-none (lowest (shortFor (normalForm s) buffer)))
 
-  pub judge-refuses : {r : Refusal} → refusalOf s ≡ some r → Normalises (Refused r) buffer
+  pub judge-refuses : {r : Refusal} → refusalOf s ≡ some r → Normalises buffer s (Refused r) buffer
   unfolding orElse
   judge-refuses e = refuses (by-stages ∙ ap (λ (o : Option Refusal). orElse o (lowest (shortFor (normalForm s) buffer))) e)
 
@@ -89,7 +85,7 @@ module _ (buffer s : List ℕ) where
         ∙ lowest-if BufferShort (ltb (length buffer) (length (normalForm s))) (length (normalForm s))
 
     pub short-refuses : {n : ℕ} → n ≡ length (normalForm s) → length buffer < n
-        → Normalises (Refused (record { fault = BufferShort; place = n })) buffer
+        → Normalises buffer s (Refused (record { fault = BufferShort; place = n })) buffer
     short-refuses {n} e h =
         refuses
         (by-length
@@ -112,7 +108,7 @@ module _ (buffer s : List ℕ) where
 
     -- it is stored, and the rest of the buffer is as it was
     pub form-stored : {n : ℕ} (c : Characters) (text first after : List ℕ) → n ≡ length (normalForm s) → n ≤ length buffer
-        → normalForm s ≡ adviceOf c ++ text → first ≡ sets buffer 0 (adviceOf c) → after ≡ sets first 9 text → Normalises (Length n) after
+        → normalForm s ≡ adviceOf c ++ text → first ≡ sets buffer 0 (adviceOf c) → after ≡ sets first 9 text → Normalises buffer s (Length n) after
     unfolding toldStored maybe unlessRefused storedIn
     form-stored {n} c text first after e h w p q =
         let passed =
@@ -120,7 +116,7 @@ module _ (buffer s : List ℕ) where
         ∙ if-false (ltb (length buffer) (length (normalForm s))) (refuse BufferShort (length (normalForm s))) none
         (le-ltb (length buffer) (length (normalForm s)) (omega (arith, e, h))) in
         let (told, held) = from-refusal none passed in
-        record { says = ap (λ (k : ℕ). given (k ∷ [])) e ∙ sym told; holds = kept ∙ sym held }
+        (ap (λ (k : ℕ). given (k ∷ [])) e ∙ sym told, kept ∙ sym held)
       where
         kept : after ≡ normalForm s ++ drop (length (normalForm s)) buffer
         kept =

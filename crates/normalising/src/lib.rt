@@ -4,8 +4,7 @@
 ghost use mathlib.Core.Path.{_≡_};
 ghost use mathlib.Core.Option.{none};
 ghost use Rattle.verdict.specs.Stages.{refusalOf};
-ghost use Rattle.answers.specs.Answers.{toldStored};
-ghost use Rattle.operations.specs.Judge.{interchangeOf, normalise as normaliseOf, normaliseBuffer};
+ghost use Rattle.operations.specs.Judge.{interchangeOf};
 ghost use Rattle.promises.specs.Promises.{Normalises};
 use answers::Interchange;
 use answers::Judged;
@@ -16,7 +15,7 @@ use refusals::Refusal;
 // Stores the normal form of an interchange that was accepted.
 fn store_form(buffer: &mut [u8], s: &[u8], i: Interchange) -> Stored
     requires { ⌜ (refusalOf (now s) ≡ none) × (i ≡ interchangeOf (now s)) ⌝ }
-    ensures { λ r. ⌜ (toldStored r ≡ normaliseOf (now (buffer .entry)) (now (s .entry))) × (now (buffer .exit) ≡ normaliseBuffer (now (buffer .entry)) (now (s .entry))) ⌝ }
+    ensures { λ r. ⌜ Normalises (now (buffer .entry)) (now (s .entry)) r (now (buffer .exit)) ⌝ }
 {
     let length = i.length;
     if buffer.len() < length {

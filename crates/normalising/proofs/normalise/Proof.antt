@@ -20,8 +20,7 @@ store-form-requires c κs = told-accepted (c .before .before .before .before .be
 returns : tie.Need-returns
 returns c =
     let s = c .before .before .before .before .before .before .args .s .now in
-    let n = judge-refuses (c .before .before .before .before .before .before .args .buffer .now) s (told-refused s (c .before .before .before .judge .ensures) (c .before .r .given .1)) in
-    (n .says, n .holds)
+    judge-refuses (c .before .before .before .before .before .before .args .buffer .now) s (told-refused s (c .before .before .before .judge .ensures) (c .before .r .given .1))
 
 same-length : tie.Need-same-length
 same-length c = search needs

@@ -30,8 +30,7 @@ returns : tie.Need-returns
 returns c =
     let s = c .before .before .before .args .s .now in
     let i = c .before .before .before .pre .1 in
-    let n = short-refuses (c .before .before .before .args .buffer .now) s (c .before .before .before .pre .0) (length-of s i) (c .if1 .taken) in
-    (n .says, n .holds)
+    short-refuses (c .before .before .before .args .buffer .now) s (c .before .before .before .pre .0) (length-of s i) (c .if1 .taken)
 
 normal-characters-requires : tie.Need-normal-characters-requires
 normal-characters-requires c κs = search needs
@@ -75,8 +74,7 @@ returns-2 c =
     let buffer = c .before .before .before .before .before .before .before .before .before .before .before .before .before .before .args .buffer .now in
     let w = form-is buffer s (c .before .before .before .before .before .before .before .before .before .before .before .before .before .before .pre .0) (characters-of s i) (c .before .before .before .body-start .ensures) in
     let advice = c .before .before .before .before .before .before .before .put-advice .ensures ∙ ap (λ (n : Characters). sets buffer 0 (adviceOf n)) (c .before .before .before .before .before .before .before .before .normal-characters .ensures) in
-    let n = form-stored buffer s (c .before .before .before .before .before .before .before .before .before .before .before .before .before .before .pre .0) (advised (c .before .before .before .before .before .before .before .before .before .before .before .before .before .before .args .i)) (spelled (c .before .before .before .before .before .before .before .before .before .before .before .before .before .before .args .i) s (c .before .before .before .body-start .result)) (c .before .before .before .before .before .before .before .put-advice .last .0) (c .before .before .put-contents .last .0) (length-of s i) (c .before .before .before .before .before .before .before .before .before .before .before .if1 .left) w advice (c .before .before .put-contents .ensures) in
-    (n .says, n .holds)
+    form-stored buffer s (c .before .before .before .before .before .before .before .before .before .before .before .before .before .before .pre .0) (advised (c .before .before .before .before .before .before .before .before .before .before .before .before .before .before .args .i)) (spelled (c .before .before .before .before .before .before .before .before .before .before .before .before .before .before .args .i) s (c .before .before .before .body-start .result)) (c .before .before .before .before .before .before .before .put-advice .last .0) (c .before .before .put-contents .last .0) (length-of s i) (c .before .before .before .before .before .before .before .before .before .before .before .if1 .left) w advice (c .before .before .put-contents .ensures)
 
 pub store-form-spec : {M : Type 1} → statement M
 store-form-spec =
