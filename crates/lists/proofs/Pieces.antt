@@ -1,10 +1,34 @@
 -- Laws of lists that are cut into pieces. Assumes nothing.
+use Prim.Native.Nat.{ℕ, zero, suc}
 use mathlib.Core.Path.{_≡_, refl, sym, ap, _∙_}
 use mathlib.Core.Bool.{Bool, true, false, not, _&&_, false≢true}
 use mathlib.Core.List.{List, [], _∷_, _++_}
-use Rattle.lists.specs.Lists.{if_then_else_, all, through, onto, cut}
+use lib.ListN.{drop}
+use Rattle.lists.specs.Lists.{if_then_else_, all, through, at, onto, cut}
 unfoldable pub use Rattle.lists.specs.Lists.{beyond}
 use Rattle.lists.proofs.Texts.{and-right, if-true, if-false}
+
+-- ---- a list from a number on
+
+pub drop-nothing : {A : Type 0} (n : ℕ) → _≡_ {A = List A} (drop n []) []
+drop-nothing zero = refl
+drop-nothing (suc n) = refl
+
+module _ {A : Type 0} where
+  -- the one at a number is the first from there on
+  pub at-drop : (xs : List A) (n : ℕ) → at xs n ≡ at (drop n xs) zero
+  unfolding at
+  at-drop xs zero = refl
+  at-drop [] (suc n) = refl
+  at-drop (x ∷ xs) (suc n) = at-drop xs n
+
+  -- one more in front of the first piece leaves those behind it
+  pub drop-onto : (x : A) (pieces : List (List A)) (n : ℕ) → drop (suc n) (onto false x pieces) ≡ drop (suc n) pieces
+  unfolding onto
+  drop-onto x [] n = drop-nothing n
+  drop-onto x (piece ∷ pieces) n = refl
+
+-- ---- pieces
 
 module _ {A : Type 0} (t : A → Bool) where
   -- the first passes the test: the rest follows it

@@ -2,14 +2,15 @@
 use Prim.Native.Nat.{ℕ, zero, suc, _≤_}
 use mathlib.Core.Path.{_≡_}
 use mathlib.Core.Bool.{Bool, not}
-use mathlib.Core.List.{List, [], _∷_}
+use mathlib.Core.List.{List}
 use lib.ListN.{length}
-use Rattle.lists.specs.Lists.{if_then_else_, isEmpty, through}
+use Rattle.lists.specs.Lists.{isEmpty, through}
 use Rattle.lists.specs.Lists.{beyond}
 use Rattle.characters.specs.declared.Characters.{Characters}
 use Rattle.reading.specs.Tokens.{Token, ends}
 use Rattle.reading.specs.Values.{bytesOf}
 use Rattle.reading.specs.Tokens.{tokensAt}
+unfoldable pub use Rattle.elements.specs.Elements.{pieceFrom}
 use Rattle.fields.specs.Reading.{valueEnd}
 
 module _ {A : Type 0} where
@@ -17,12 +18,6 @@ module _ {A : Type 0} where
   unfoldable pub behindPieces : (A → Bool) → ℕ → List A → List A
   behindPieces t zero xs = xs
   behindPieces t (suc k) xs = behindPieces t k (beyond t xs)
-
-  -- what follows that many smaller pieces of the larger piece that the list begins with; nothing where it ends before
-  unfoldable pub pieceFrom : (larger smaller : A → Bool) → ℕ → List A → List A
-  pieceFrom t u zero xs = xs
-  pieceFrom t u (suc k) [] = []
-  pieceFrom t u (suc k) (x ∷ xs) = if t x then [] else if u x then pieceFrom t u k xs else pieceFrom t u (suc k) xs
 
 -- a byte of a value stands in what a separator of this kind ends
 unfoldable pub holdsByte : ℕ → List Token → Bool
