@@ -1,23 +1,24 @@
 -- What is found from left to right is the larger piece's piece of that number; and one step of the search, for each token that
--- may stand there. Assumes nothing.
+-- may stand there, and of the search for a byte. Assumes nothing.
 use Prim.Native.Nat.{ℕ, zero, suc, _-_, _≤_, _<_}
 use mathlib.Core.Path.{_≡_, refl, sym, ap, _∙_}
-use mathlib.Core.Bool.{Bool, true, false}
+use mathlib.Core.Bool.{Bool, true, false, not}
 use mathlib.Core.List.{List, [], _∷_}
 use mathlib.Core.Option.{some}
 use native.Mathlib.Omega.{arith}
 use native.Mathlib.Numerals.{sub-one}
-use lib.Dec.{lit≤}
+use lib.Dec.{leb, lit≤}
 use lib.ListN.{drop}
 use borrow.Author.Tests.{le-leb, leb-true}
-use Rattle.lists.specs.Lists.{if_then_else_, through, at, onto, cut}
+use Rattle.lists.specs.Lists.{if_then_else_, isEmpty, through, at, onto, cut, gather}
 use Rattle.lists.proofs.Texts.{if-true, if-false}
 use Rattle.lists.proofs.Pieces.{drop-nothing, at-drop, drop-onto, cut-first}
 use Rattle.characters.specs.declared.Characters.{Characters}
 use Rattle.reading.specs.Tokens.{Token, byte, separator, fault, ends}
 use Rattle.reading.specs.Tokens.{tokensAt}
+use Rattle.reading.specs.Values.{byteOf, bytesOf}
 use Rattle.scanner.specs.Scan.{segmentAt}
-use Rattle.elements.specs.Elements.{pieceFrom, elementFrom, firstElement, ElementAt}
+use Rattle.elements.specs.Elements.{pieceFrom, elementFrom, firstElement, holdsByte, ElementAt}
 
 -- ---- pieces by number
 
@@ -123,3 +124,31 @@ module _ {A : Type 0} (t u : A → Bool) where
         step : (n : ℕ) → 0 < n → pieceFrom t u n xs ≡ pieceFrom t u n rest
         step zero p = absurd (omega arith)
         step (suc n) p = ap (pieceFrom t u (suc n)) e ∙ if-false (t x) [] _ inside ∙ if-false (u x) _ _ k
+
+-- ---- one step of the search for a byte
+
+module _ (rank : ℕ) {ts rest : List Token} where
+  pub holds-byte : {b from place : ℕ} → ts ≡ byte b from place ∷ rest → holdsByte rank ts ≡ true
+  unfolding holdsByte through ends bytesOf gather byteOf isEmpty
+  holds-byte e = ap (holdsByte rank) e
+
+  pub holds-over : {kind place : ℕ} → ts ≡ separator kind place ∷ rest → leb kind rank ≡ true → holdsByte rank ts ≡ false
+  unfolding holdsByte through ends bytesOf gather byteOf isEmpty
+  holds-over {kind} {place} e h =
+      ap (holdsByte rank) e
+      ∙ ap (λ (b : Bool). not (isEmpty (bytesOf (separator kind place ∷ (if b then [] else through (ends rank) rest))))) h
+
+  pub holds-separator : {kind place : ℕ} → ts ≡ separator kind place ∷ rest → leb kind rank ≡ false
+      → holdsByte rank ts ≡ holdsByte rank rest
+  unfolding holdsByte through ends bytesOf gather byteOf
+  holds-separator {kind} {place} e h =
+      ap (holdsByte rank) e
+      ∙ ap (λ (b : Bool). not (isEmpty (bytesOf (separator kind place ∷ (if b then [] else through (ends rank) rest))))) h
+
+  pub holds-stray : {place : ℕ} → ts ≡ fault place ∷ rest → holdsByte rank ts ≡ holdsByte rank rest
+  unfolding holdsByte through ends bytesOf gather byteOf
+  holds-stray e = ap (holdsByte rank) e
+
+pub holds-end : (rank : ℕ) {ts : List Token} → ts ≡ [] → holdsByte rank ts ≡ false
+unfolding holdsByte through bytesOf gather isEmpty
+holds-end rank e = ap (holdsByte rank) e

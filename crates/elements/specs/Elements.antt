@@ -1,14 +1,15 @@
 -- The pieces of a larger piece, over the tokens from left to right. Assumes nothing.
 use Prim.Native.Nat.{ℕ, zero, suc, _-_, _≤_}
 use mathlib.Core.Path.{_≡_}
-use mathlib.Core.Bool.{Bool}
+use mathlib.Core.Bool.{Bool, not}
 use mathlib.Core.List.{List, [], _∷_}
 use mathlib.Core.Option.{Option, none, some}
 use lib.ListN.{length}
-use Rattle.lists.specs.Lists.{if_then_else_, through}
+use Rattle.lists.specs.Lists.{if_then_else_, isEmpty, through}
 use Rattle.characters.specs.declared.Characters.{Characters}
 use Rattle.reading.specs.Tokens.{Token, ends}
 use Rattle.reading.specs.Tokens.{tokensAt}
+use Rattle.reading.specs.Values.{bytesOf}
 
 module _ {A : Type 0} where
   -- what follows that many smaller pieces of the larger piece that the list begins with; nothing where it ends before
@@ -25,6 +26,10 @@ elementFrom k ts = pieceFrom (ends 0) (ends 1) k ts
 unfoldable pub firstElement : List Token → Option (List Token)
 firstElement [] = none
 firstElement (t ∷ ts) = some (through (ends 1) (t ∷ ts))
+
+-- a byte of a value stands in what a separator of this kind ends
+unfoldable pub holdsByte : ℕ → List Token → Bool
+holdsByte rank ts = not (isEmpty (bytesOf (through (ends rank) ts)))
 
 module _ (c : Characters) (s : List ℕ) (from : ℕ) where
   -- the place at which the piece of a number begins, which a separator of this kind ends, in the larger piece that begins at a

@@ -1,7 +1,10 @@
 // Pieces where they are spelled: at which place an element of a segment, or a component of an element,
-// begins. It promises the pieces into which `reading` cuts the larger piece, by their numbers.
+// begins; and whether a byte of a value stands in a piece. It promises the pieces into which `reading`
+// cuts the larger piece, by their numbers.
 ghost use Prim.Native.Nat.{_<_};
-ghost use Rattle.elements.specs.Elements.{PieceAt, ElementAt};
+ghost use mathlib.Core.Path.{_≡_};
+ghost use Rattle.reading.specs.Tokens.{tokensAt};
+ghost use Rattle.elements.specs.Elements.{PieceAt, ElementAt, holdsByte};
 use characters::Characters;
 use scanner::Lexed;
 use scanner::lex;
@@ -50,4 +53,34 @@ pub fn element_at(s: &[u8], c: Characters, from: usize, position: usize) -> usiz
     ensures { λ r. ⌜ ElementAt c (now (s .entry)) from position r ⌝ }
 {
     piece_at(s, c, from, 1, position)
+}
+
+// A byte of a value stands from here on, before a separator of this kind or a lower one.
+pub fn holds_byte(s: &[u8], c: Characters, from: usize, rank: u8) -> bool
+    ensures { λ r. ⌜ r ≡ holdsByte rank (tokensAt c (now (s .entry)) from) ⌝ }
+{
+    let mut at = from;
+    loop {
+        match lex(s, c, at) {
+            Lexed::Byte {
+                byte: _,
+                place: _,
+                next: _,
+            } => {
+                return true;
+            }
+            Lexed::Separator { kind, next } => {
+                if kind <= rank {
+                    return false;
+                }
+                at = next;
+            }
+            Lexed::Stray { next } => {
+                at = next;
+            }
+            Lexed::End => {
+                return false;
+            }
+        }
+    }
 }

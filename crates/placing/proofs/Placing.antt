@@ -2,21 +2,19 @@
 -- find. Assumes nothing.
 use Prim.Native.Nat.{ℕ, zero, suc, _-_, _≤_, _<_}
 use mathlib.Core.Path.{_≡_, refl, sym, ap, _∙_}
-use mathlib.Core.Bool.{Bool, true, false, not}
+use mathlib.Core.Bool.{Bool, true, false}
 use mathlib.Core.List.{List, [], _∷_}
 use native.Mathlib.Omega.{arith}
 use native.Mathlib.Numerals.{sub-one}
 use lib.ListN.{drop}
-use lib.Dec.{leb}
-use Rattle.lists.specs.Lists.{if_then_else_, isEmpty, through, cut, gather}
+use Rattle.lists.specs.Lists.{cut}
 use Rattle.lists.proofs.Texts.{if-true, if-false}
 use Rattle.lists.proofs.Pieces.{beyond, drop-nothing, cut-first}
-use Rattle.reading.specs.Tokens.{Token, byte, separator, fault, ends}
-use Rattle.reading.specs.Values.{byteOf, bytesOf}
+use Rattle.reading.specs.Tokens.{Token, ends}
 use Rattle.elements.specs.Elements.{elementFrom}
 pub use Rattle.elements.proofs.Elements.{pieces-from}
 use Rattle.fields.specs.Reading.{valueEnd}
-use Rattle.placing.specs.Placing.{behindPieces, pieceFrom, holdsByte}
+use Rattle.placing.specs.Placing.{behindPieces, pieceFrom}
 
 -- ---- the pieces from a number on
 
@@ -55,34 +53,6 @@ module _ {A : Type 0} where
   behind-next t zero xs h e = absurd (omega arith)
   behind-next t (suc k) xs {ys} h e =
       ap (behindPieces t k) (sym e) ∙ ap (λ (n : ℕ). behindPieces t n ys) (sym (sub-one (suc k)))
-
--- ---- one step of the search for a byte
-
-module _ (rank : ℕ) {ts rest : List Token} where
-  pub holds-byte : {b from place : ℕ} → ts ≡ byte b from place ∷ rest → holdsByte rank ts ≡ true
-  unfolding holdsByte through ends bytesOf gather byteOf isEmpty
-  holds-byte e = ap (holdsByte rank) e
-
-  pub holds-over : {kind place : ℕ} → ts ≡ separator kind place ∷ rest → leb kind rank ≡ true → holdsByte rank ts ≡ false
-  unfolding holdsByte through ends bytesOf gather byteOf isEmpty
-  holds-over {kind} {place} e h =
-      ap (holdsByte rank) e
-      ∙ ap (λ (b : Bool). not (isEmpty (bytesOf (separator kind place ∷ (if b then [] else through (ends rank) rest))))) h
-
-  pub holds-separator : {kind place : ℕ} → ts ≡ separator kind place ∷ rest → leb kind rank ≡ false
-      → holdsByte rank ts ≡ holdsByte rank rest
-  unfolding holdsByte through ends bytesOf gather byteOf
-  holds-separator {kind} {place} e h =
-      ap (holdsByte rank) e
-      ∙ ap (λ (b : Bool). not (isEmpty (bytesOf (separator kind place ∷ (if b then [] else through (ends rank) rest))))) h
-
-  pub holds-stray : {place : ℕ} → ts ≡ fault place ∷ rest → holdsByte rank ts ≡ holdsByte rank rest
-  unfolding holdsByte through ends bytesOf gather byteOf
-  holds-stray e = ap (holdsByte rank) e
-
-pub holds-end : (rank : ℕ) {ts : List Token} → ts ≡ [] → holdsByte rank ts ≡ false
-unfolding holdsByte through bytesOf gather isEmpty
-holds-end rank e = ap (holdsByte rank) e
 
 -- ---- one step of the search for what ends a value
 

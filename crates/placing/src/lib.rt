@@ -5,6 +5,7 @@ ghost use mathlib.Core.Path.{_≡_};
 ghost use Rattle.reading.specs.Tokens.{tokensAt};
 ghost use Rattle.placing.specs.Placing.{SegmentAt, ComponentAt, holdsByte, EndsAt};
 use characters::Characters;
+pub use elements::holds_byte;
 use elements::piece_at;
 use scanner::Lexed;
 use scanner::lex;
@@ -32,36 +33,6 @@ pub fn component_at(s: &[u8], c: Characters, from: usize, number: usize) -> usiz
     ensures { λ r. ⌜ ComponentAt c (now (s .entry)) from number r ⌝ }
 {
     piece_at(s, c, from, 2, number)
-}
-
-// A byte of a value stands from here on, before a separator of this kind or a lower one.
-pub fn holds_byte(s: &[u8], c: Characters, from: usize, rank: u8) -> bool
-    ensures { λ r. ⌜ r ≡ holdsByte rank (tokensAt c (now (s .entry)) from) ⌝ }
-{
-    let mut at = from;
-    loop {
-        match lex(s, c, at) {
-            Lexed::Byte {
-                byte: _,
-                place: _,
-                next: _,
-            } => {
-                return true;
-            }
-            Lexed::Separator { kind, next } => {
-                if kind <= rank {
-                    return false;
-                }
-                at = next;
-            }
-            Lexed::Stray { next } => {
-                at = next;
-            }
-            Lexed::End => {
-                return false;
-            }
-        }
-    }
 }
 
 // Where the separator stands that ends the value which begins at `from`.
