@@ -9,7 +9,6 @@ use native.Mathlib.Omega.{arith}
 use native.Mathlib.Numerals.{sub-one}
 use lib.Dec.{leb, lit≤}
 use lib.ListN.{drop}
-use borrow.Author.Tests.{le-leb, leb-true}
 use Rattle.lists.specs.Lists.{if_then_else_, isEmpty, through, at, onto, cut, gather}
 use Rattle.lists.proofs.Texts.{if-true, if-false}
 use Rattle.lists.proofs.Pieces.{drop-nothing, at-drop, drop-onto, cut-first}
@@ -17,25 +16,15 @@ use Rattle.characters.specs.declared.Characters.{Characters}
 use Rattle.reading.specs.Tokens.{Token, byte, separator, fault, ends}
 use Rattle.reading.specs.Tokens.{tokensAt}
 use Rattle.reading.specs.Values.{byteOf, bytesOf}
+use Rattle.reading.proofs.Ends.{through-ends}
+pub use Rattle.lists.proofs.Pieces.{through-through}
+pub use Rattle.reading.proofs.Ends.{ends-more}
 use Rattle.scanner.specs.Scan.{segmentAt}
 use Rattle.elements.specs.Elements.{pieceFrom, elementFrom, firstElement, holdsByte, ElementAt}
 
 -- ---- pieces by number
 
 module _ {A : Type 0} (t u : A → Bool) where
-  -- what ends a larger piece ends a smaller one too: the first smaller piece is the same in the larger one
-  pub through-through : ((x : A) → t x ≡ true → u x ≡ true) → (xs : List A) → through u (through t xs) ≡ through u xs
-  unfolding through
-  through-through h [] = refl
-  through-through h (x ∷ xs) = step (t x) refl (through-through h xs)
-    where
-      step : (b : Bool) → t x ≡ b → through u (through t xs) ≡ through u xs
-          → x ∷ (if u x then [] else through u (if b then [] else through t xs)) ≡ x ∷ (if u x then [] else through u xs)
-      step true e ih =
-          ap (λ (l : List A). x ∷ l)
-          (if-true (u x) [] (through u []) (h x e) ∙ sym (if-true (u x) [] (through u xs) (h x e)))
-      step false e ih = ap (λ (l : List A). x ∷ (if u x then [] else l)) ih
-
   -- the smaller pieces of a larger one, from a number on
   pub pieces-from : (k : ℕ) (xs : List A) → cut u (through t (pieceFrom t u k xs)) ≡ drop k (cut u (through t xs))
   unfolding pieceFrom cut through onto
@@ -52,13 +41,6 @@ module _ {A : Type 0} (t u : A → Bool) where
       step false true one more = one
       step false false one more = more ∙ sym (drop-onto x (cut u (through t xs)) k)
 
--- a separator that ends one thing ends each smaller thing
-pub ends-more : (low high : ℕ) → low ≤ high → (t : Token) → ends low t ≡ true → ends high t ≡ true
-unfolding ends
-ends-more low high h (byte b from place) e = e
-ends-more low high h (separator kind place) e = let k = leb-true kind low e in le-leb kind high (omega arith)
-ends-more low high h (fault place) e = e
-
 -- ---- the element of a number
 
 -- the first element of a segment is the one that its tokens begin with
@@ -67,7 +49,7 @@ unfolding firstElement at cut through
 element-first [] = refl
 element-first (t ∷ ts) =
     ap (λ (pieces : List (List Token)). at pieces zero) (cut-first (ends 1) t (if ends 0 t then [] else through (ends 0) ts))
-    ∙ ap some (through-through (ends 0) (ends 1) (ends-more 0 1 (lit≤ tt)) (t ∷ ts))
+    ∙ ap some (through-ends 0 1 (lit≤ tt) (t ∷ ts))
 
 -- what was found is the segment's piece of that number
 pub element-piece : (k : ℕ) (ts : List Token) → at (cut (ends 1) (through (ends 0) ts)) k ≡ firstElement (elementFrom k ts)

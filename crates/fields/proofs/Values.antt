@@ -9,7 +9,7 @@ use Rattle.lists.specs.Lists.{if_then_else_, isEmpty, all, through, onto, cut, 
 use Rattle.lists.proofs.Pieces.{beyond, cut-first}
 use Rattle.reading.specs.Tokens.{Token, byte, separator, fault, ends}
 use Rattle.reading.specs.Values.{byteOf, bytesOf}
-use Rattle.elements.proofs.Elements.{through-through, ends-more}
+use Rattle.reading.proofs.Ends.{through-ends}
 use Rattle.fields.specs.Fields.{valuesIn, valueIn, blankIn, fieldWith, fieldIn, fieldOf}
 use Rattle.fields.specs.Reading.{valueEnd}
 
@@ -61,7 +61,7 @@ unfolding valuesIn valueIn through
 values-first t ts =
     ap (map bytesOf) (cut-first (ends 2) t (if ends 1 t then [] else through (ends 1) ts))
     ∙ ap (λ (first : List Token). bytesOf first ∷ map bytesOf (cut (ends 2) (beyond (ends 2) (through (ends 1) (t ∷ ts)))))
-    (through-through (ends 1) (ends 2) (ends-more 1 2 (omega arith)) (t ∷ ts))
+    (through-ends 1 2 (omega arith) (t ∷ ts))
 
 -- the field of an element is its first value, and whether what follows that is blank
 pub field-is : (ts : List Token) → fieldOf ts ≡ fieldWith (valueIn ts) (blankIn (valueEnd ts))

@@ -15,12 +15,12 @@ use Rattle.reading.specs.Tokens.{Token, Segment, ends}
 use Rattle.reading.specs.Values.{Value, bytesOf, valueOf, valuesOf, elementsOf, endedBy}
 use Rattle.reading.specs.Trimming.{trimmed, contentsOf, valueAt}
 use Rattle.reading.specs.Tokens.{tokensAt}
+use Rattle.reading.proofs.Ends.{ends-more, through-ends, ended-behind}
 use Rattle.scanner.specs.Scan.{segmentAt}
 use Rattle.elements.specs.Elements.{firstElement, ElementAt}
-use Rattle.elements.proofs.Elements.{through-through, ends-more, element-at-piece}
+use Rattle.elements.proofs.Elements.{element-at-piece}
 use Rattle.tagging.specs.declared.Word.{Word}
 use Rattle.tagging.specs.Words.{pieceAt, Words, valueAt as readAt}
-use Rattle.tagging.proofs.Reading.{ended-behind}
 use Rattle.heading.proofs.Trimmed.{maybe-alike, at-map, value-at, value-map, trimmed-at}
 
 -- ---- the pieces of an element, by what follows them
@@ -123,7 +123,7 @@ module _ {B : Type 0} (d : B) (f : List ℕ → B) (blind : f [] ≡ d) where
       first-value =
           element-value 0
           ∙ first-piece d of-piece (ends 2) blind (through (ends 1) (tokensAt c s r))
-          ∙ ap of-piece (through-through (ends 1) (ends 2) (ends-more 1 2 (lit≤ tt)) (tokensAt c s r))
+          ∙ ap of-piece (through-ends 1 2 (lit≤ tt) (tokensAt c s r))
 
       -- the second is the first of what follows it, up to the element's end
       second-within : {rest : List Token}
@@ -140,7 +140,7 @@ module _ {B : Type 0} (d : B) (f : List ℕ → B) (blind : f [] ≡ d) where
         pub second-value : w .kind ≡ 2 → answer 1 ≡ f (readAt c s (w .next))
         second-value k =
             second-within (if-false (endedBy 1 (pieceAt c s r)) [] _ (h .ended 1 (lit≤ tt) ∙ lt-leb (w .kind) 1 (omega arith)))
-            ∙ ap of-piece (through-through (ends 1) (ends 2) (ends-more 1 2 (lit≤ tt)) (beyond (ends 2) (tokensAt c s r)))
+            ∙ ap of-piece (through-ends 1 2 (lit≤ tt) (beyond (ends 2) (tokensAt c s r)))
             ∙ ap (λ (ts : List Token). of-piece (through (ends 2) ts)) (sym (h .behind .0))
 
         -- behind anything else there is none

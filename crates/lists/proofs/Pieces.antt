@@ -91,3 +91,17 @@ module _ {A : Type 0} (t : A → Bool) where
   cut-none x (y ∷ ys) h =
       ap (λ (b : Bool). onto b x (cut t (y ∷ ys))) (head-fails (t x) (all (λ z. not (t z)) (y ∷ ys)) h)
       ∙ ap (onto false x) (cut-none y ys (and-right (not (t x)) (all (λ z. not (t z)) (y ∷ ys)) h))
+
+-- what ends a larger piece ends a smaller one too: the first smaller piece is the same in the larger one
+module _ {A : Type 0} (t u : A → Bool) (h : (x : A) → t x ≡ true → u x ≡ true) where
+  pub through-through : (xs : List A) → through u (through t xs) ≡ through u xs
+  unfolding through
+  through-through [] = refl
+  through-through (x ∷ xs) = step (t x) refl (through-through xs)
+    where
+      step : (b : Bool) → t x ≡ b → through u (through t xs) ≡ through u xs
+          → x ∷ (if u x then [] else through u (if b then [] else through t xs)) ≡ x ∷ (if u x then [] else through u xs)
+      step true e ih =
+          ap (λ (l : List A). x ∷ l)
+          (if-true (u x) [] (through u []) (h x e) ∙ sym (if-true (u x) [] (through u xs) (h x e)))
+      step false e ih = ap (λ (l : List A). x ∷ (if u x then [] else l)) ih
