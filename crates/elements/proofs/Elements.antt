@@ -11,7 +11,8 @@ use lib.Dec.{leb, lit≤}
 use lib.ListN.{drop}
 use Rattle.lists.specs.Lists.{if_then_else_, isEmpty, through, at, onto, cut, gather}
 use Rattle.lists.proofs.Texts.{if-true, if-false}
-use Rattle.lists.proofs.Pieces.{drop-nothing, at-drop, drop-onto, cut-first}
+use Rattle.lists.proofs.Numbers.{drop-nothing, at-drop}
+use Rattle.lists.proofs.Pieces.{drop-onto, cut-first}
 use Rattle.characters.specs.declared.Characters.{Characters}
 use Rattle.reading.specs.Tokens.{Token, byte, separator, fault, ends}
 use Rattle.reading.specs.Tokens.{tokensAt}

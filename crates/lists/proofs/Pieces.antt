@@ -1,34 +1,19 @@
 -- Laws of lists that are cut into pieces. Assumes nothing.
-use Prim.Native.Nat.{ℕ, zero, suc}
+use Prim.Native.Nat.{ℕ, suc}
 use mathlib.Core.Path.{_≡_, refl, sym, ap, _∙_}
 use mathlib.Core.Bool.{Bool, true, false, not, _&&_, false≢true}
-use mathlib.Core.List.{List, [], _∷_, _++_}
+use mathlib.Core.List.{List, [], _∷_, _++_, append-nil, append-assoc}
 use lib.ListN.{drop}
-use Rattle.lists.specs.Lists.{if_then_else_, all, through, at, onto, cut}
+use Rattle.lists.specs.Lists.{if_then_else_, all, through, onto, cut, gather}
 unfoldable pub use Rattle.lists.specs.Lists.{beyond}
 use Rattle.lists.proofs.Texts.{and-right, if-true, if-false}
+use Rattle.lists.proofs.Numbers.{drop-nothing}
 
--- ---- a list from a number on
-
-pub drop-nothing : {A : Type 0} (n : ℕ) → _≡_ {A = List A} (drop n []) []
-drop-nothing zero = refl
-drop-nothing (suc n) = refl
-
-module _ {A : Type 0} where
-  -- the one at a number is the first from there on
-  pub at-drop : (xs : List A) (n : ℕ) → at xs n ≡ at (drop n xs) zero
-  unfolding at
-  at-drop xs zero = refl
-  at-drop [] (suc n) = refl
-  at-drop (x ∷ xs) (suc n) = at-drop xs n
-
-  -- one more in front of the first piece leaves those behind it
-  pub drop-onto : (x : A) (pieces : List (List A)) (n : ℕ) → drop (suc n) (onto false x pieces) ≡ drop (suc n) pieces
-  unfolding onto
-  drop-onto x [] n = drop-nothing n
-  drop-onto x (piece ∷ pieces) n = refl
-
--- ---- pieces
+-- one more in front of the first piece leaves those behind it
+pub drop-onto : {A : Type 0} (x : A) (pieces : List (List A)) (n : ℕ) → drop (suc n) (onto false x pieces) ≡ drop (suc n) pieces
+unfolding onto
+drop-onto x [] n = drop-nothing n
+drop-onto x (piece ∷ pieces) n = refl
 
 module _ {A : Type 0} (t : A → Bool) where
   -- the first passes the test: the rest follows it
@@ -105,3 +90,14 @@ module _ {A : Type 0} (t u : A → Bool) (h : (x : A) → t x ≡ true → u x �
           ap (λ (l : List A). x ∷ l)
           (if-true (u x) [] (through u []) (h x e) ∙ sym (if-true (u x) [] (through u xs) (h x e)))
       step false e ih = ap (λ (l : List A). x ∷ (if u x then [] else l)) ih
+
+-- what is gathered of a list may be gathered of its pieces
+pub gather-cut : {A B : Type 0} (t : A → Bool) (f : A → List B) (xs : List A) → gather f xs ≡ gather (gather f) (cut t xs)
+unfolding gather cut onto
+gather-cut t f [] = refl
+gather-cut {A} {B} t f (x ∷ xs) = ap (λ (l : List B). f x ++ l) (gather-cut t f xs) ∙ step (t x) (cut t xs)
+  where
+    step : (b : Bool) (pieces : List (List A)) → f x ++ gather (gather f) pieces ≡ gather (gather f) (onto b x pieces)
+    step true pieces = ap (λ (l : List B). l ++ gather (gather f) pieces) (sym (append-nil (f x)))
+    step false [] = sym (append-nil (f x ++ []))
+    step false (piece ∷ pieces) = sym (append-assoc (f x) (gather f piece) (gather (gather f) pieces))

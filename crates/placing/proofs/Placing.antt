@@ -9,7 +9,8 @@ use native.Mathlib.Numerals.{sub-one}
 use lib.ListN.{drop}
 use Rattle.lists.specs.Lists.{cut}
 use Rattle.lists.proofs.Texts.{if-true, if-false}
-use Rattle.lists.proofs.Pieces.{beyond, drop-nothing, cut-first}
+use Rattle.lists.proofs.Numbers.{drop-nothing}
+use Rattle.lists.proofs.Pieces.{beyond, cut-first}
 use Rattle.reading.specs.Tokens.{Token, ends}
 use Rattle.elements.specs.Elements.{elementFrom}
 pub use Rattle.elements.proofs.Elements.{pieces-from}

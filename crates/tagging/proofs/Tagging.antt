@@ -1,14 +1,14 @@
 -- Tags by their bytes, and the tag of the segment that begins at a place. Assumes nothing.
 use Prim.Native.Nat.{ℕ}
 use mathlib.Core.Path.{_≡_, refl, sym, ap, ap₂, _∙_}
-use mathlib.Core.Bool.{Bool, true, false}
+use mathlib.Core.Bool.{Bool, false}
 use mathlib.Core.List.{List, [], _∷_}
 use native.Mathlib.Omega.{arith}
 use lib.ListN.{length}
 use lib.Dec.{leb, lit≤}
 use borrow.Author.Tests.{ne-eqb}
-use Rattle.lists.specs.Lists.{text, same}
-use Rattle.lists.proofs.Texts.{same-eq}
+use Rattle.lists.specs.Lists.{text}
+use Rattle.lists.proofs.Texts.{same-length}
 use Rattle.characters.specs.declared.Characters.{Characters}
 use Rattle.reading.specs.Tokens.{Token}
 use Rattle.reading.specs.Values.{bytesOf, endedBy}
@@ -27,14 +27,6 @@ use Rattle.tagging.specs.Naming.{wellNamed}
 -- three bytes that are known name what the known ones name
 pub named-as : {x y z a b c : ℕ} → x ≡ a → y ≡ b → z ≡ c → kindNamed (a ∷ b ∷ c ∷ []) ≡ kindNamed (x ∷ y ∷ z ∷ [])
 named-as p q r = cc
-
--- lists of different lengths are not the same
-same-length : (xs ys : List ℕ) → (length xs ≡ length ys → ⊥) → same xs ys ≡ false
-same-length xs ys h = step (same xs ys) refl
-  where
-    step : (t : Bool) → same xs ys ≡ t → t ≡ false
-    step true e = absurd (h (ap length (same-eq xs ys e)))
-    step false e = refl
 
 -- a tag that is not three bytes long names no service segment
 pub named-user : (tag : List ℕ) → (length tag ≡ 3 → ⊥) → User ≡ kindNamed tag
