@@ -4,7 +4,6 @@ use Prim.Native.Nat.{ℕ, zero, suc, _-_, _≤_, _<_}
 use mathlib.Core.Path.{_≡_, refl, sym, ap, _∙_}
 use mathlib.Core.Bool.{Bool, true, false, not}
 use mathlib.Core.List.{List, [], _∷_}
-use mathlib.Core.Option.{some}
 use native.Mathlib.Omega.{arith}
 use native.Mathlib.Numerals.{sub-one}
 use lib.Dec.{leb, lit≤}
@@ -12,16 +11,16 @@ use lib.ListN.{drop}
 use Rattle.lists.specs.Lists.{if_then_else_, isEmpty, through, at, onto, cut, gather}
 use Rattle.lists.proofs.Texts.{if-true, if-false}
 use Rattle.lists.proofs.Numbers.{drop-nothing, at-drop}
-use Rattle.lists.proofs.Pieces.{drop-onto, cut-first}
+use Rattle.lists.proofs.Pieces.{drop-onto}
 use Rattle.characters.specs.declared.Characters.{Characters}
 use Rattle.reading.specs.Tokens.{Token, byte, separator, fault, ends}
 use Rattle.reading.specs.Tokens.{tokensAt}
 use Rattle.reading.specs.Values.{byteOf, bytesOf}
-use Rattle.reading.proofs.Ends.{through-ends}
+use Rattle.reading.proofs.Ends.{pieces-first}
 pub use Rattle.lists.proofs.Pieces.{through-through}
 pub use Rattle.reading.proofs.Ends.{ends-more}
 use Rattle.scanner.specs.Scan.{segmentAt}
-use Rattle.elements.specs.Elements.{pieceFrom, elementFrom, firstElement, holdsByte, ElementAt}
+use Rattle.elements.specs.Elements.{pieceFrom, firstPiece, holdsByte, ElementAt}
 
 -- ---- pieces by number
 
@@ -42,28 +41,26 @@ module _ {A : Type 0} (t u : A → Bool) where
       step false true one more = one
       step false false one more = more ∙ sym (drop-onto x (cut u (through t xs)) k)
 
--- ---- the element of a number
+module _ (low high : ℕ) (h : low ≤ high) where
+  -- the first smaller piece of a larger one is the one that its tokens begin with
+  piece-first : (ts : List Token) → at (cut (ends high) (through (ends low) ts)) zero ≡ firstPiece high ts
+  unfolding firstPiece at cut through
+  piece-first [] = refl
+  piece-first (t ∷ ts) = ap (λ (pieces : List (List Token)). at pieces zero) (pieces-first low high h t ts)
 
--- the first element of a segment is the one that its tokens begin with
-element-first : (ts : List Token) → at (cut (ends 1) (through (ends 0) ts)) zero ≡ firstElement ts
-unfolding firstElement at cut through
-element-first [] = refl
-element-first (t ∷ ts) =
-    ap (λ (pieces : List (List Token)). at pieces zero) (cut-first (ends 1) t (if ends 0 t then [] else through (ends 0) ts))
-    ∙ ap some (through-ends 0 1 (lit≤ tt) (t ∷ ts))
+  -- what was found is the larger piece's piece of that number
+  pub piece-number : (k : ℕ) (ts : List Token)
+      → at (cut (ends high) (through (ends low) ts)) k ≡ firstPiece high (pieceFrom (ends low) (ends high) k ts)
+  piece-number k ts =
+      at-drop (cut (ends high) (through (ends low) ts)) k
+      ∙ ap (λ (pieces : List (List Token)). at pieces zero) (sym (pieces-from (ends low) (ends high) k ts))
+      ∙ piece-first (pieceFrom (ends low) (ends high) k ts)
 
--- what was found is the segment's piece of that number
-pub element-piece : (k : ℕ) (ts : List Token) → at (cut (ends 1) (through (ends 0) ts)) k ≡ firstElement (elementFrom k ts)
-element-piece k ts =
-    at-drop (cut (ends 1) (through (ends 0) ts)) k
-    ∙ ap (λ (pieces : List (List Token)). at pieces zero) (sym (pieces-from (ends 0) (ends 1) k ts))
-    ∙ element-first (elementFrom k ts)
-
--- the tokens at the place that `element_at` gives begin with that piece
+-- the tokens at the place that `element_at` gives begin with the segment's piece of that number
 pub element-at-piece : (c : Characters) (s : List ℕ) (from k : ℕ) {r : ℕ} → ElementAt c s from k r
-    → at (cut (ends 1) (segmentAt c s from)) k ≡ firstElement (tokensAt c s r)
+    → at (cut (ends 1) (segmentAt c s from)) k ≡ firstPiece 1 (tokensAt c s r)
 unfolding segmentAt
-element-at-piece c s from k e = element-piece k (tokensAt c s from) ∙ ap firstElement (sym (e .0))
+element-at-piece c s from k e = piece-number 0 1 (lit≤ tt) k (tokensAt c s from) ∙ ap (firstPiece 1) (sym (e .0))
 
 -- ---- one step of the search
 

@@ -22,10 +22,10 @@ module _ {A : Type 0} where
 abbrev pub elementFrom : ℕ → List Token → List Token
 elementFrom k ts = pieceFrom (ends 0) (ends 1) k ts
 
--- the element that tokens begin with; none where there are no tokens
-unfoldable pub firstElement : List Token → Option (List Token)
-firstElement [] = none
-firstElement (t ∷ ts) = some (through (ends 1) (t ∷ ts))
+-- the piece that tokens begin with, which a separator of this kind ends; none where there are no tokens
+unfoldable pub firstPiece : ℕ → List Token → Option (List Token)
+firstPiece kind [] = none
+firstPiece kind (t ∷ ts) = some (through (ends kind) (t ∷ ts))
 
 -- a byte of a value stands in what a separator of this kind ends
 unfoldable pub holdsByte : ℕ → List Token → Bool

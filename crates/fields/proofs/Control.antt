@@ -7,7 +7,7 @@ use mathlib.Core.Option.{Option, none, some}
 use native.Mathlib.Omega.{arith}
 use lib.ListN.{length}
 use lib.Seq.{take-all}
-use lib.Dec.{leb}
+use lib.Dec.{leb, lit≤}
 use borrow.Author.Tests.{leb-true}
 use Rattle.lists.specs.Lists.{if_then_else_, same, isEmpty, all, through, cut, unlessIdle, dropEnd, trimEnd, gather, maybe}
 use Rattle.lists.proofs.Texts.{and-left, and-right}
@@ -20,8 +20,8 @@ use Rattle.reading.specs.Trimming.{trimElement, isIdle, trimSegment, trimmed, c
 use Rattle.reading.specs.Tokens.{tokensAt}
 use Rattle.control.specs.Control.{single, controlElement, isReference, isCount, sameValue, decimal}
 use Rattle.scanner.specs.Scan.{segmentAt}
-use Rattle.elements.specs.Elements.{elementFrom, firstElement, ElementAt}
-use Rattle.elements.proofs.Elements.{element-piece}
+use Rattle.elements.specs.Elements.{elementFrom, firstPiece, ElementAt}
+use Rattle.elements.proofs.Elements.{piece-number}
 use Rattle.fields.specs.declared.Field.{Field}
 use Rattle.fields.specs.Fields.{valuesIn, valueIn, fieldWith, fieldIn, fieldOf, spellsReference, spellsCount}
 use Rattle.fields.proofs.Values.{values-first, field-is}
@@ -78,9 +78,9 @@ module _ {B : Type 0} (h : Option (List ℕ) → B) (blank : h (some []) ≡ h n
 
   -- the element that tokens begin with, trimmed and read as one component
   lone-element : (ts : List Token)
-      → h (maybe none (λ element. oneOf (trimElement isBlank (valuesOf element))) (firstElement ts))
+      → h (maybe none (λ element. oneOf (trimElement isBlank (valuesOf element))) (firstPiece 1 ts))
       ≡ h (lone (valueIn ts) (fieldOf ts .alone))
-  unfolding maybe firstElement fieldOf fieldIn fieldWith valuesOf lone valuesIn valueIn cut through bytesOf gather
+  unfolding maybe firstPiece fieldOf fieldIn fieldWith valuesOf lone valuesIn valueIn cut through bytesOf gather
   lone-element [] = sym blank
   lone-element (t ∷ ts) =
       ap h
@@ -100,7 +100,7 @@ module _ {B : Type 0} (h : Option (List ℕ) → B) (blank : h (some []) ≡ h n
       ∙ ap h (at-map none oneOf (trimElement isBlank) elements k)
       ∙ ap h (at-map none (λ element. oneOf (trimElement isBlank element)) valuesOf (cut (ends 1) (through (ends 0) ts)) k)
       ∙ ap (λ (piece : Option (List Token)). h (maybe none (λ element. oneOf (trimElement isBlank (valuesOf element))) piece))
-      (element-piece k ts)
+      (piece-number 0 1 (lit≤ tt) k ts)
       ∙ lone-element (elementFrom k ts)
 
 -- ---- references and counts

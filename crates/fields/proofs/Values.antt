@@ -3,13 +3,13 @@ use mathlib.Core.Path.{_≡_, refl, sym, ap, _∙_}
 use mathlib.Core.Bool.{Bool, true, false, _&&_}
 use mathlib.Core.List.{List, [], _∷_, _++_, map}
 use native.Mathlib.Omega.{arith}
-use lib.Dec.{leb}
+use lib.Dec.{leb, lit≤}
 use borrow.Author.Tests.{lt-leb, leb-false}
 use Rattle.lists.specs.Lists.{if_then_else_, isEmpty, all, through, cut, gather}
-use Rattle.lists.proofs.Pieces.{beyond, cut-first, gather-cut}
+use Rattle.lists.proofs.Pieces.{beyond, gather-cut}
 use Rattle.reading.specs.Tokens.{Token, byte, separator, fault, ends}
 use Rattle.reading.specs.Values.{byteOf, bytesOf}
-use Rattle.reading.proofs.Ends.{through-ends}
+use Rattle.reading.proofs.Ends.{pieces-first}
 use Rattle.fields.specs.Fields.{valuesIn, valueIn, blankIn, fieldWith, fieldIn, fieldOf}
 use Rattle.fields.specs.Reading.{valueEnd}
 
@@ -50,11 +50,8 @@ behind-value (separator kind place ∷ ts) = step (leb kind 2) refl (behind-valu
 -- an element's values are the one that its tokens begin with and those behind it
 pub values-first : (t : Token) (ts : List Token)
     → valuesIn (t ∷ ts) ≡ valueIn (t ∷ ts) ∷ map bytesOf (cut (ends 2) (beyond (ends 2) (through (ends 1) (t ∷ ts))))
-unfolding valuesIn valueIn through
-values-first t ts =
-    ap (map bytesOf) (cut-first (ends 2) t (if ends 1 t then [] else through (ends 1) ts))
-    ∙ ap (λ (first : List Token). bytesOf first ∷ map bytesOf (cut (ends 2) (beyond (ends 2) (through (ends 1) (t ∷ ts)))))
-    (through-ends 1 2 (omega arith) (t ∷ ts))
+unfolding valuesIn valueIn
+values-first t ts = ap (map bytesOf) (pieces-first 1 2 (lit≤ tt) t ts)
 
 -- the field of an element is its first value, and whether what follows that is blank
 pub field-is : (ts : List Token) → fieldOf ts ≡ fieldWith (valueIn ts) (blankIn (valueEnd ts))

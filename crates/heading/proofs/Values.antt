@@ -17,7 +17,7 @@ use Rattle.reading.specs.Trimming.{trimmed, contentsOf, valueAt}
 use Rattle.reading.specs.Tokens.{tokensAt}
 use Rattle.reading.proofs.Ends.{ends-more, through-ends, ended-behind}
 use Rattle.scanner.specs.Scan.{segmentAt}
-use Rattle.elements.specs.Elements.{firstElement, ElementAt}
+use Rattle.elements.specs.Elements.{firstPiece, ElementAt}
 use Rattle.elements.proofs.Elements.{element-at-piece}
 use Rattle.tagging.specs.declared.Word.{Word}
 use Rattle.tagging.specs.Words.{pieceAt, Words, valueAt as readAt}
@@ -98,9 +98,9 @@ module _ {B : Type 0} (d : B) (f : List ℕ → B) (blind : f [] ≡ d) where
 
   -- the values of the element that tokens begin with: none where there are no tokens
   first-element-at : (ts : List Token) (k : ℕ)
-      → maybe d (λ element. maybe d of-piece (at (cut (ends 2) element) k)) (firstElement ts)
+      → maybe d (λ element. maybe d of-piece (at (cut (ends 2) element) k)) (firstPiece 1 ts)
       ≡ maybe d of-piece (at (cut (ends 2) (through (ends 1) ts)) k)
-  unfolding maybe at cut through firstElement
+  unfolding maybe at cut through firstPiece
   first-element-at [] k = refl
   first-element-at (t ∷ ts) k = refl
 
