@@ -1,15 +1,21 @@
 -- Laws of lists that are read at a number, or from a number on. Assumes nothing.
-use Prim.Native.Nat.{ℕ, zero, suc}
-use mathlib.Core.Path.{_≡_, refl, sym}
+use Prim.Native.Nat.{ℕ, zero, suc, _+_, _<_}
+use mathlib.Core.Path.{_≡_, refl, sym, ap, _∙_}
 use mathlib.Core.Bool.{Bool, true, false}
 use mathlib.Core.List.{List, [], _∷_, map}
 use mathlib.Core.Option.{Option, none, some}
-use lib.ListN.{drop}
+use native.Mathlib.Numerals.{add-one}
+use lib.ListN.{length, getD, drop}
+use lib.Seq.{drop-cons}
 use Rattle.lists.specs.Lists.{at, unlessIdle, dropEnd, trimEnd, maybe}
 
 pub drop-nothing : {A : Type 0} (n : ℕ) → _≡_ {A = List A} (drop n []) []
 drop-nothing zero = refl
 drop-nothing (suc n) = refl
+
+-- inside a list, the one at a number and what follows it
+pub drop-next : (xs : List ℕ) (n : ℕ) → n < length xs → drop n xs ≡ getD xs n 0 ∷ drop (n + 1) xs
+drop-next xs n h = drop-cons xs n 0 h ∙ ap (λ (m : ℕ). getD xs n 0 ∷ drop m xs) (sym (add-one n))
 
 -- the one at a number is the first from there on
 pub at-drop : {A : Type 0} (xs : List A) (n : ℕ) → at xs n ≡ at (drop n xs) zero

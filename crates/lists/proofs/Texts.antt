@@ -81,6 +81,12 @@ module _ {A : Type 0} where
   all-append t (x ∷ xs) ys =
       ap (λ (b : Bool). t x && b) (all-append t xs ys) ∙ sym (and-assoc (t x) (all t xs) (all t ys))
 
+  -- all that a map gives pass a test
+  pub all-mapped : {B : Type 0} (f : A → B) (t : B → Bool) (xs : List A) → all t (map f xs) ≡ all (λ x. t (f x)) xs
+  unfolding all
+  all-mapped f t [] = refl
+  all-mapped f t (x ∷ xs) = ap (λ (b : Bool). t (f x) && b) (all-mapped f t xs)
+
   -- where f turns what passes one test into what passes another, it does so to all
   pub all-map : {B : Type 0} (f : A → B) (p : A → Bool) (q : B → Bool) → ((x : A) → p x ≡ true → q (f x) ≡ true)
       → (xs : List A) → all p xs ≡ true → all q (map f xs) ≡ true
