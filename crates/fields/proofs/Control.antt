@@ -16,7 +16,7 @@ use Rattle.characters.specs.declared.Characters.{Characters}
 use Rattle.characters.specs.Characters.{between, digit}
 use Rattle.reading.specs.Tokens.{Token, ends}
 use Rattle.reading.specs.Values.{Value, bytesOf, valueOf, valuesOf, elementsOf}
-use Rattle.reading.specs.Trimming.{trimElement, isIdle, trimSegment, trimmed, contentsOf}
+use Rattle.reading.specs.Trimming.{trimElement, isIdle, trimSegment, isBlank, trimmed, contentsOf}
 use Rattle.reading.specs.Tokens.{tokensAt}
 use Rattle.control.specs.Control.{single, controlElement, isReference, isCount, sameValue, decimal}
 use Rattle.scanner.specs.Scan.{segmentAt}
@@ -49,9 +49,6 @@ module _ {A : Type 0} (f : A → List ℕ) (value : List ℕ) where
 abbrev loneOf : List (List ℕ) → Option (List ℕ)
 loneOf [] = none
 loneOf (value ∷ later) = lone value (all isEmpty later)
-
-abbrev isBlank : Value → Bool
-isBlank v = isEmpty (v .bytes)
 
 -- an element, read as one component
 abbrev oneOf : List Value → Option (List ℕ)

@@ -13,7 +13,7 @@ use Rattle.lists.proofs.Pieces.{beyond, cut-first}
 use Rattle.characters.specs.declared.Characters.{Characters}
 use Rattle.reading.specs.Tokens.{Token, Segment, ends}
 use Rattle.reading.specs.Values.{Value, bytesOf, valueOf, valuesOf, elementsOf, endedBy}
-use Rattle.reading.specs.Trimming.{trimmed, contentsOf, valueAt}
+use Rattle.reading.specs.Trimming.{isBlank, trimmed, contentsOf, valueAt}
 use Rattle.reading.specs.Tokens.{tokensAt}
 use Rattle.reading.proofs.Ends.{ends-more, through-ends, ended-behind}
 use Rattle.scanner.specs.Scan.{segmentAt}
@@ -91,7 +91,7 @@ module _ {B : Type 0} (d : B) (f : List ℕ → B) (blind : f [] ≡ d) where
   contents-at g e k =
       let ask : Value → B = λ v. f (v .bytes) in
       value-map d f (λ v. v .bytes) (trimmed g) e k
-      ∙ trimmed-at d ask (λ v. isEmpty (v .bytes)) (λ v. empty-blind (v .bytes)) (elementsOf g) e k
+      ∙ trimmed-at d ask isBlank (λ v. empty-blind (v .bytes)) (elementsOf g) e k
       ∙ value-at d ask (elementsOf g) e k
       ∙ at-map d (λ values. maybe d ask (at values k)) valuesOf (cut (ends 1) g) e
       ∙ maybe-alike d _ _ (λ element. at-map d ask valueOf (cut (ends 2) element) k) (at (cut (ends 1) g) e)
