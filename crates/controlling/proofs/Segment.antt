@@ -13,7 +13,7 @@ use Rattle.characters.specs.declared.Characters.{Characters}
 use Rattle.refusals.specs.declared.Fault.the-variants.{BadControl, ReferenceDiffers, CountWrong}
 use Rattle.refusals.specs.declared.Outcome.{Outcome}
 use Rattle.refusals.specs.declared.Outcome.the-variants.{Passed}
-use Rattle.refusals.specs.Refusals.{outcome}
+use Rattle.refusals.specs.Refusals.{outcome, failedAt}
 use Rattle.reading.specs.Tokens.{Token, Segment}
 use Rattle.reading.specs.Tokens.{tokensAt}
 use Rattle.scanner.specs.Scan.{segmentAt}
@@ -32,7 +32,7 @@ use Rattle.elements.specs.Elements.{elementFrom, ElementAt}
 use Rattle.fields.specs.Fields.{valueIn, fieldOf, spellsReference, spellsCount}
 use Rattle.fields.proofs.Control.{count-is, count-number, reference-at, reference-value-at}
 use Rattle.controlling.specs.declared.Headers.{Headers}
-use Rattle.controlling.specs.Controlling.{failedAt, headerKept, countDue, trailerBy, controlledBy}
+use Rattle.controlling.specs.Controlling.{headerKept, countDue, trailerBy, controlledBy}
 use Rattle.controlling.proofs.Kept.{reference-filled, same-unless, nearest, Spelled, Kept}
 
 -- ---- the answers, by what the tests say

@@ -5,10 +5,10 @@ use mathlib.Core.List.{List}
 use lib.Dec.{eqb}
 use Rattle.lists.specs.Lists.{if_then_else_, same}
 use Rattle.characters.specs.declared.Characters.{Characters}
-use Rattle.refusals.specs.declared.Fault.{Fault}
 use Rattle.refusals.specs.declared.Fault.the-variants.{BadControl, ReferenceDiffers, CountWrong}
 use Rattle.refusals.specs.declared.Outcome.{Outcome}
-use Rattle.refusals.specs.declared.Outcome.the-variants.{Passed, Failed}
+use Rattle.refusals.specs.declared.Outcome.the-variants.{Passed}
+use Rattle.refusals.specs.Refusals.{failedAt}
 use Rattle.reading.specs.Tokens.{Token}
 use Rattle.reading.specs.Tokens.{tokensAt}
 use Rattle.segments.specs.declared.Kind.{Kind}
@@ -19,9 +19,6 @@ use Rattle.control.specs.declared.Positions.{Positions}
 use Rattle.elements.specs.Elements.{elementFrom}
 use Rattle.fields.specs.Fields.{valueIn, fieldOf, spellsReference, spellsCount}
 use Rattle.controlling.specs.declared.Headers.{Headers}
-
-abbrev pub failedAt : Fault → ℕ → Outcome
-failedAt fault place = Failed (record { fault = fault; place = place })
 
 -- ---- the headers
 

@@ -8,7 +8,7 @@ ghost use Rattle.refusals.specs.Refusals.{outcome};
 ghost use Rattle.reading.specs.Tokens.{tokensAt};
 ghost use Rattle.machines.specs.Walks.{controlled};
 ghost use Rattle.walking.specs.Walking.{Within};
-ghost use Rattle.controlling.specs.Controlling.{failedAt, headerKept, headersBehind, groupsOrMessages, countDue, trailerAt, controlledBy};
+ghost use Rattle.controlling.specs.Controlling.{headerKept, headersBehind, groupsOrMessages, countDue, trailerAt, controlledBy};
 use characters::Characters;
 use control::Positions;
 use control::positions_of;
@@ -19,7 +19,7 @@ use fields::is_reference;
 use fields::same_value;
 use refusals::Fault;
 use refusals::Outcome;
-use refusals::Refusal;
+use refusals::failed;
 use scanner::segment_end;
 use segments::Kind;
 use segments::Walk;
@@ -103,12 +103,6 @@ fn true_count(w: Walk, kind: Kind) -> u32
         Kind::Uns => 0,
         Kind::User => 0,
     }
-}
-
-fn failed(fault: Fault, place: usize) -> Outcome
-    ensures { λ r. ⌜ r ≡ failedAt fault place ⌝ }
-{
-    Outcome::Failed(Refusal { fault, place })
 }
 
 // A trailer, whose reference is one. Its count begins at `counted`, its header's reference at `header`.

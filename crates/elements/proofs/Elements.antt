@@ -1,139 +1,134 @@
--- The element that is found from left to right is the segment's piece of that number; and one step of the search, for each
--- token that the scanner can find. Assumes nothing.
+-- What is found from left to right is the larger piece's piece of that number; and one step of the search, for each token that
+-- may stand there, and of the search for a byte. Assumes nothing.
 use Prim.Native.Nat.{ℕ, zero, suc, _-_, _≤_, _<_}
 use mathlib.Core.Path.{_≡_, refl, sym, ap, _∙_}
-use mathlib.Core.Bool.{Bool, true, false}
+use mathlib.Core.Bool.{Bool, true, false, not}
 use mathlib.Core.List.{List, [], _∷_}
-use mathlib.Core.Option.{some}
 use native.Mathlib.Omega.{arith}
 use native.Mathlib.Numerals.{sub-one}
-use lib.Dec.{leb}
-use borrow.Author.Tests.{le-leb, lt-leb, leb-true}
-use Rattle.lists.specs.Lists.{if_then_else_, through, at, onto, cut}
+use lib.Dec.{leb, lit≤}
+use lib.ListN.{drop}
+use Rattle.lists.specs.Lists.{if_then_else_, isEmpty, through, at, onto, cut, gather}
 use Rattle.lists.proofs.Texts.{if-true, if-false}
-use Rattle.lists.proofs.Pieces.{cut-first}
+use Rattle.lists.proofs.Numbers.{drop-nothing, at-drop}
+use Rattle.lists.proofs.Pieces.{drop-onto}
 use Rattle.characters.specs.declared.Characters.{Characters}
 use Rattle.reading.specs.Tokens.{Token, byte, separator, fault, ends}
 use Rattle.reading.specs.Tokens.{tokensAt}
-use Rattle.scanner.specs.declared.Lexed.the-variants.{Byte, Separator, Stray, End}
+use Rattle.reading.specs.Values.{byteOf, bytesOf}
+use Rattle.reading.proofs.Ends.{pieces-first}
+pub use Rattle.lists.proofs.Pieces.{through-through}
+pub use Rattle.reading.proofs.Ends.{ends-more}
 use Rattle.scanner.specs.Scan.{segmentAt}
-use Rattle.scanner.proofs.Lexing.{Lexes}
-use Rattle.elements.specs.Elements.{elementFrom, firstElement, ElementAt}
+use Rattle.elements.specs.Elements.{pieceFrom, firstPiece, holdsByte, ElementAt}
 
 -- ---- pieces by number
 
-module _ {A : Type 0} where
-  -- one more in front of the first piece leaves the later pieces where they are
-  pub at-onto : (x : A) (pieces : List (List A)) (n : ℕ) → at (onto false x pieces) (suc n) ≡ at pieces (suc n)
-  unfolding at onto
-  at-onto x [] n = refl
-  at-onto x (piece ∷ pieces) n = refl
-
-  -- what ends a larger piece ends a smaller one too: the first smaller piece is the same in the larger one
-  pub through-through : (t u : A → Bool) → ((x : A) → t x ≡ true → u x ≡ true) → (xs : List A)
-      → through u (through t xs) ≡ through u xs
-  unfolding through
-  through-through t u h [] = refl
-  through-through t u h (x ∷ xs) = step (t x) refl (through-through t u h xs)
+module _ {A : Type 0} (t u : A → Bool) where
+  -- the smaller pieces of a larger one, from a number on
+  pub pieces-from : (k : ℕ) (xs : List A) → cut u (through t (pieceFrom t u k xs)) ≡ drop k (cut u (through t xs))
+  unfolding pieceFrom cut through onto
+  pieces-from zero xs = refl
+  pieces-from (suc k) [] = refl
+  pieces-from (suc k) (x ∷ xs) = step (t x) (u x) (pieces-from k xs) (pieces-from (suc k) xs)
     where
-      step : (b : Bool) → t x ≡ b → through u (through t xs) ≡ through u xs
-          → x ∷ (if u x then [] else through u (if b then [] else through t xs)) ≡ x ∷ (if u x then [] else through u xs)
-      step true e ih =
-          ap (λ (l : List A). x ∷ l)
-          (if-true (u x) [] (through u []) (h x e) ∙ sym (if-true (u x) [] (through u xs) (h x e)))
-      step false e ih = ap (λ (l : List A). x ∷ (if u x then [] else l)) ih
+      step : (a b : Bool) → cut u (through t (pieceFrom t u k xs)) ≡ drop k (cut u (through t xs))
+          → cut u (through t (pieceFrom t u (suc k) xs)) ≡ drop (suc k) (cut u (through t xs))
+          → cut u (through t (if a then [] else if b then pieceFrom t u k xs else pieceFrom t u (suc k) xs))
+          ≡ drop (suc k) (onto b x (cut u (if a then [] else through t xs)))
+      step true true one more = sym (drop-nothing k)
+      step true false one more = sym (drop-nothing k)
+      step false true one more = one
+      step false false one more = more ∙ sym (drop-onto x (cut u (through t xs)) k)
 
--- a separator that ends one thing ends each smaller thing
-pub ends-more : (low high : ℕ) → low ≤ high → (t : Token) → ends low t ≡ true → ends high t ≡ true
-unfolding ends
-ends-more low high h (byte b from place) e = e
-ends-more low high h (separator kind place) e = let k = leb-true kind low e in le-leb kind high (omega arith)
-ends-more low high h (fault place) e = e
+module _ (low high : ℕ) (h : low ≤ high) where
+  -- the first smaller piece of a larger one is the one that its tokens begin with
+  piece-first : (ts : List Token) → at (cut (ends high) (through (ends low) ts)) zero ≡ firstPiece high ts
+  unfolding firstPiece at cut through
+  piece-first [] = refl
+  piece-first (t ∷ ts) = ap (λ (pieces : List (List Token)). at pieces zero) (pieces-first low high h t ts)
 
--- ---- the element of a number
+  -- what was found is the larger piece's piece of that number
+  pub piece-number : (k : ℕ) (ts : List Token)
+      → at (cut (ends high) (through (ends low) ts)) k ≡ firstPiece high (pieceFrom (ends low) (ends high) k ts)
+  piece-number k ts =
+      at-drop (cut (ends high) (through (ends low) ts)) k
+      ∙ ap (λ (pieces : List (List Token)). at pieces zero) (sym (pieces-from (ends low) (ends high) k ts))
+      ∙ piece-first (pieceFrom (ends low) (ends high) k ts)
 
--- what was found is the segment's piece of that number
-pub element-piece : (k : ℕ) (ts : List Token) → at (cut (ends 1) (through (ends 0) ts)) k ≡ firstElement (elementFrom k ts)
-unfolding elementFrom firstElement at cut through ends onto
-element-piece zero [] = refl
-element-piece zero (t ∷ ts) =
-    ap (λ (pieces : List (List Token)). at pieces zero) (cut-first (ends 1) t (if ends 0 t then [] else through (ends 0) ts))
-    ∙ ap some (through-through (ends 0) (ends 1) (ends-more 0 1 (omega arith)) (t ∷ ts))
-element-piece (suc k) [] = refl
-element-piece (suc k) (byte b from place ∷ ts) =
-    at-onto (byte b from place) (cut (ends 1) (through (ends 0) ts)) k ∙ element-piece (suc k) ts
-element-piece (suc k) (separator kind place ∷ ts) =
-    step (leb kind 0) (leb kind 1) (element-piece k ts) (element-piece (suc k) ts)
-  where
-    step : (a b : Bool) → at (cut (ends 1) (through (ends 0) ts)) k ≡ firstElement (elementFrom k ts)
-        → at (cut (ends 1) (through (ends 0) ts)) (suc k) ≡ firstElement (elementFrom (suc k) ts)
-        → at (onto b (separator kind place) (cut (ends 1) (if a then [] else through (ends 0) ts))) (suc k)
-        ≡ firstElement (if a then [] else if b then elementFrom k ts else elementFrom (suc k) ts)
-    step true true one more = refl
-    step true false one more = refl
-    step false true one more = one
-    step false false one more = at-onto (separator kind place) (cut (ends 1) (through (ends 0) ts)) k ∙ more
-element-piece (suc k) (fault place ∷ ts) =
-    at-onto (fault place) (cut (ends 1) (through (ends 0) ts)) k ∙ element-piece (suc k) ts
-
--- the tokens at the place that `element_at` gives begin with that piece
+-- the tokens at the place that `element_at` gives begin with the segment's piece of that number
 pub element-at-piece : (c : Characters) (s : List ℕ) (from k : ℕ) {r : ℕ} → ElementAt c s from k r
-    → at (cut (ends 1) (segmentAt c s from)) k ≡ firstElement (tokensAt c s r)
+    → at (cut (ends 1) (segmentAt c s from)) k ≡ firstPiece 1 (tokensAt c s r)
 unfolding segmentAt
-element-at-piece c s from k e = element-piece k (tokensAt c s from) ∙ ap firstElement (sym (e .0))
+element-at-piece c s from k e = piece-number 0 1 (lit≤ tt) k (tokensAt c s from) ∙ ap (firstPiece 1) (sym (e .0))
 
 -- ---- one step of the search
 
--- where none is left to pass, the element is found
-pub element-here : (left : ℕ) (ts : List Token) → left ≤ 0 → elementFrom left ts ≡ ts
-unfolding elementFrom
-element-here zero ts h = refl
-element-here (suc n) ts h = absurd (omega arith)
+module _ {A : Type 0} (t u : A → Bool) where
+  -- where none is left to pass, the piece is found
+  pub from-here : (left : ℕ) (xs : List A) → left ≤ 0 → pieceFrom t u left xs ≡ xs
+  unfolding pieceFrom
+  from-here zero xs h = refl
+  from-here (suc k) xs h = absurd (omega arith)
 
-module _ (c : Characters) (s : List ℕ) (from : ℕ) where
-  -- a byte of a value and a stray release character are passed
-  pub element-byte : (left : ℕ) → 0 < left → {b place next : ℕ} → Lexes c s from (Byte b place next)
-      → elementFrom left (tokensAt c s from) ≡ elementFrom left (tokensAt c s next)
-  unfolding elementFrom
-  element-byte zero h l = absurd (omega arith)
-  element-byte (suc k) h l = ap (elementFrom (suc k)) (l .0)
+  -- the larger piece ends: there is no such smaller one
+  pub from-over : (left : ℕ) {x : A} {xs rest : List A} → 0 < left → xs ≡ x ∷ rest → t x ≡ true → pieceFrom t u left xs ≡ []
+  unfolding pieceFrom
+  from-over zero h e k = absurd (omega arith)
+  from-over (suc n) {x} h e k = ap (pieceFrom t u (suc n)) e ∙ if-true (t x) [] _ k
 
-  pub element-stray : (left : ℕ) → 0 < left → {next : ℕ} → Lexes c s from (Stray next)
-      → elementFrom left (tokensAt c s from) ≡ elementFrom left (tokensAt c s next)
-  unfolding elementFrom
-  element-stray zero h l = absurd (omega arith)
-  element-stray (suc k) h l = ap (elementFrom (suc k)) (l .0)
+  pub from-end : (left : ℕ) {xs : List A} → 0 < left → xs ≡ [] → pieceFrom t u left xs ≡ []
+  unfolding pieceFrom
+  from-end zero h e = absurd (omega arith)
+  from-end (suc n) h e = ap (pieceFrom t u (suc n)) e
 
-  -- so is a component separator
-  pub element-component : (left : ℕ) → 0 < left → {kind next : ℕ} → Lexes c s from (Separator kind next) → 1 < kind
-      → elementFrom left (tokensAt c s from) ≡ elementFrom left (tokensAt c s next)
-  unfolding elementFrom
-  element-component zero h l k = absurd (omega arith)
-  element-component (suc n) h {kind} l k =
-      ap (elementFrom (suc n)) (l .0)
-      ∙ if-false (leb kind 0) [] _ (lt-leb kind 0 (omega arith))
-      ∙ if-false (leb kind 1) _ _ (lt-leb kind 1 k)
+  module _ (left : ℕ) {x : A} {xs rest : List A} (h : 0 < left) (e : xs ≡ x ∷ rest) (inside : t x ≡ false) where
+    -- a smaller piece ends: one less is left
+    pub from-next : u x ≡ true → pieceFrom t u left xs ≡ pieceFrom t u (left - 1) rest
+    unfolding pieceFrom
+    from-next k = step left h
+      where
+        step : (n : ℕ) → 0 < n → pieceFrom t u n xs ≡ pieceFrom t u (n - 1) rest
+        step zero p = absurd (omega arith)
+        step (suc n) p =
+            ap (pieceFrom t u (suc n)) e
+            ∙ if-false (t x) [] _ inside
+            ∙ if-true (u x) _ _ k
+            ∙ ap (λ (m : ℕ). pieceFrom t u m rest) (sym (sub-one (suc n)))
 
-  -- behind an element separator one less is to be found
-  pub element-separator : (left : ℕ) → 0 < left → {kind next : ℕ} → Lexes c s from (Separator kind next) → kind ≡ 1
-      → elementFrom left (tokensAt c s from) ≡ elementFrom (left - 1) (tokensAt c s next)
-  unfolding elementFrom
-  element-separator zero h l k = absurd (omega arith)
-  element-separator (suc n) h {kind} {next} l k =
-      ap (elementFrom (suc n)) (l .0)
-      ∙ if-false (leb kind 0) [] _ (lt-leb kind 0 (omega arith))
-      ∙ if-true (leb kind 1) _ _ (le-leb kind 1 (omega arith))
-      ∙ ap (λ (m : ℕ). elementFrom m (tokensAt c s next)) (sym (sub-one (suc n)))
+    -- it goes on
+    pub from-miss : u x ≡ false → pieceFrom t u left xs ≡ pieceFrom t u left rest
+    unfolding pieceFrom
+    from-miss k = step left h
+      where
+        step : (n : ℕ) → 0 < n → pieceFrom t u n xs ≡ pieceFrom t u n rest
+        step zero p = absurd (omega arith)
+        step (suc n) p = ap (pieceFrom t u (suc n)) e ∙ if-false (t x) [] _ inside ∙ if-false (u x) _ _ k
 
-  -- behind the segment nothing is to be found
-  pub element-terminator : (left : ℕ) → 0 < left → {kind next : ℕ} → Lexes c s from (Separator kind next) → kind ≡ 0
-      → elementFrom left (tokensAt c s from) ≡ []
-  unfolding elementFrom
-  element-terminator zero h l k = absurd (omega arith)
-  element-terminator (suc n) h {kind} l k =
-      ap (elementFrom (suc n)) (l .0) ∙ if-true (leb kind 0) [] _ (le-leb kind 0 (omega arith))
+-- ---- one step of the search for a byte
 
-  pub element-end : (left : ℕ) → 0 < left → Lexes c s from End → elementFrom left (tokensAt c s from) ≡ []
-  unfolding elementFrom
-  element-end zero h l = absurd (omega arith)
-  element-end (suc n) h l = ap (elementFrom (suc n)) (l .0)
+module _ (rank : ℕ) {ts rest : List Token} where
+  pub holds-byte : {b from place : ℕ} → ts ≡ byte b from place ∷ rest → holdsByte rank ts ≡ true
+  unfolding holdsByte through ends bytesOf gather byteOf isEmpty
+  holds-byte e = ap (holdsByte rank) e
+
+  pub holds-over : {kind place : ℕ} → ts ≡ separator kind place ∷ rest → leb kind rank ≡ true → holdsByte rank ts ≡ false
+  unfolding holdsByte through ends bytesOf gather byteOf isEmpty
+  holds-over {kind} {place} e h =
+      ap (holdsByte rank) e
+      ∙ ap (λ (b : Bool). not (isEmpty (bytesOf (separator kind place ∷ (if b then [] else through (ends rank) rest))))) h
+
+  pub holds-separator : {kind place : ℕ} → ts ≡ separator kind place ∷ rest → leb kind rank ≡ false
+      → holdsByte rank ts ≡ holdsByte rank rest
+  unfolding holdsByte through ends bytesOf gather byteOf
+  holds-separator {kind} {place} e h =
+      ap (holdsByte rank) e
+      ∙ ap (λ (b : Bool). not (isEmpty (bytesOf (separator kind place ∷ (if b then [] else through (ends rank) rest))))) h
+
+  pub holds-stray : {place : ℕ} → ts ≡ fault place ∷ rest → holdsByte rank ts ≡ holdsByte rank rest
+  unfolding holdsByte through ends bytesOf gather byteOf
+  holds-stray e = ap (holdsByte rank) e
+
+pub holds-end : (rank : ℕ) {ts : List Token} → ts ≡ [] → holdsByte rank ts ≡ false
+unfolding holdsByte through bytesOf gather isEmpty
+holds-end rank e = ap (holdsByte rank) e

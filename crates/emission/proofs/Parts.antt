@@ -9,14 +9,11 @@ use Rattle.lists.proofs.Pieces.{beyond, cut-first}
 use Rattle.characters.specs.declared.Characters.{Characters}
 use Rattle.reading.specs.Tokens.{Token, byte, separator, fault, ends, Segment}
 use Rattle.reading.specs.Values.{Value, byteOf, bytesOf, valueOf, valuesOf, elementsOf}
-use Rattle.reading.specs.Trimming.{trimElement, isIdle, trimSegment, trimmed, contentsOf}
+use Rattle.reading.specs.Trimming.{trimElement, isIdle, trimSegment, isBlank, trimmed, contentsOf}
 use Rattle.reading.specs.Spelling.{spellByte, spellValue, spellElement, spellSegment}
 use Rattle.emission.proofs.Cases.{by-spelling}
 use Rattle.emission.proofs.Held.{held}
 use Rattle.emission.proofs.Level.{whole, whole-step}
-
-abbrev isBlank : Value → Bool
-isBlank v = isEmpty (v .bytes)
 
 -- the values of an element that was read, trimmed
 abbrev valuesLeft : List Token → List Value

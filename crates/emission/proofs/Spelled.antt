@@ -13,6 +13,7 @@ use Rattle.characters.specs.declared.Characters.{Characters}
 use Rattle.reading.specs.Tokens.{Token, byte, separator, fault, ends, Segment, segments}
 use Rattle.reading.specs.Values.{endedBy, endsInside}
 use Rattle.reading.specs.Trimming.{contentsOf}
+use Rattle.reading.proofs.Ends.{ended-next}
 use Rattle.reading.specs.Spelling.{spellByte, spellSegment, spell}
 use Rattle.emission.specs.Emission.{letOut, emitted}
 use Rattle.emission.proofs.Cases.{by-spelling, known}
@@ -101,19 +102,13 @@ module _ (c : Characters) where
       ∙ ap (λ (l : List ℕ). l ++ others) (contents-spelled c g ∙ ap (λ (l : List ℕ). l ++ c .terminator ∷ []) (sym (within-start g)))
       ∙ append-assoc (within 0 0 g) (c .terminator ∷ []) others
 
-  -- where a token does not end the last segment, those behind it do
-  ended-next : (t : Token) (ts : List Token) → ends 0 t ≡ false → endedBy 0 (t ∷ ts) ≡ true → endedBy 0 ts ≡ true
-  unfolding endedBy lastOr
-  ended-next t [] f h = sym f ∙ h
-  ended-next t (y ∷ ys) f h = h
-
   -- the machine emits the rest of the segment in which it stands, and all segments behind it
   emits : (ts : List Token) → endedBy 0 ts ≡ true → all known ts ≡ true → (e k : ℕ)
       → emitted c e k ts ≡ within e k (through (ends 0) ts) ++ after ts
   unfolding emitted through beyond ends endedBy lastOr all known spell gather segments cut
   emits [] h a e k = absurd (false≢true h)
   emits (byte b from place ∷ ts) h a e k =
-      ap (λ (l : List ℕ). letOut c e k (spellByte c b ++ l)) (emits ts (ended-next (byte b from place) ts refl h) a 0 0)
+      ap (λ (l : List ℕ). letOut c e k (spellByte c b ++ l)) (emits ts (ended-next 0 (byte b from place) ts refl h) a 0 0)
       ∙ sym (ap (λ (l : List ℕ). l ++ after ts) (within-byte e k b from place (through (ends 0) ts)) ∙ simp append-assoc)
   emits (separator zero place ∷ []) h a e k =
       sym (ap (λ (l : List ℕ). l ++ after (separator zero place ∷ [])) (within-terminator e k place))
@@ -121,16 +116,16 @@ module _ (c : Characters) where
       ap (λ (l : List ℕ). c .terminator ∷ l) (emits (t ∷ ts) h a 0 0 ∙ sym (spell-first t ts))
       ∙ sym (ap (λ (l : List ℕ). l ++ after (separator zero place ∷ t ∷ ts)) (within-terminator e k place))
   emits (separator (suc zero) place ∷ ts) h a e k =
-      emits ts (ended-next (separator 1 place) ts refl h) a (e + 1) 0
+      emits ts (ended-next 0 (separator 1 place) ts refl h) a (e + 1) 0
       ∙ sym (ap (λ (l : List ℕ). l ++ after ts) (within-element e k place (through (ends 0) ts)))
   emits (separator (suc (suc zero)) place ∷ ts) h a e k =
-      emits ts (ended-next (separator 2 place) ts refl h) a e (k + 1)
+      emits ts (ended-next 0 (separator 2 place) ts refl h) a e (k + 1)
       ∙ sym (ap (λ (l : List ℕ). l ++ after ts) (within-component e k place (through (ends 0) ts)))
   emits (separator (suc (suc (suc n))) place ∷ ts) h a e k =
       let low : suc (suc (suc n)) ≤ 2 = leb-true (suc (suc (suc n))) 2 (and-left (leb (suc (suc (suc n))) 2) (all known ts) a) in
       absurd (omega arith)
   emits (fault place ∷ ts) h a e k =
-      emits ts (ended-next (fault place) ts refl h) a e k
+      emits ts (ended-next 0 (fault place) ts refl h) a e k
       ∙ sym (ap (λ (l : List ℕ). l ++ after ts) (within-fault e k place (through (ends 0) ts)))
 
   -- the trimmed contents of tokens that do not end inside a segment, spelled, are what the machine emits

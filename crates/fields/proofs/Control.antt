@@ -1,5 +1,5 @@
 -- A control element of the trimmed contents is judged by the field of the element as it is spelled. Assumes nothing.
-use Prim.Native.Nat.{ℕ, zero, suc, _≤_}
+use Prim.Native.Nat.{ℕ, _≤_}
 use mathlib.Core.Path.{_≡_, refl, sym, ap, ap₂, _∙_, subst}
 use mathlib.Core.Bool.{Bool, true, false, _&&_, and-comm, false≢true}
 use mathlib.Core.List.{List, [], _∷_, map, map-map}
@@ -7,55 +7,24 @@ use mathlib.Core.Option.{Option, none, some}
 use native.Mathlib.Omega.{arith}
 use lib.ListN.{length}
 use lib.Seq.{take-all}
-use lib.Dec.{leb}
+use lib.Dec.{leb, lit≤}
 use borrow.Author.Tests.{leb-true}
-use Rattle.lists.specs.Lists.{if_then_else_, same, isEmpty, all, through, at, cut, unlessIdle, dropEnd, trimEnd, gather, maybe}
+use Rattle.lists.specs.Lists.{if_then_else_, same, isEmpty, all, through, cut, unlessIdle, dropEnd, trimEnd, gather, maybe}
 use Rattle.lists.proofs.Texts.{and-left, and-right}
+use Rattle.lists.proofs.Numbers.{at-map, at-trimEnd}
 use Rattle.characters.specs.declared.Characters.{Characters}
 use Rattle.characters.specs.Characters.{between, digit}
 use Rattle.reading.specs.Tokens.{Token, ends}
 use Rattle.reading.specs.Values.{Value, bytesOf, valueOf, valuesOf, elementsOf}
-use Rattle.reading.specs.Trimming.{trimElement, isIdle, trimSegment, trimmed, contentsOf}
+use Rattle.reading.specs.Trimming.{trimElement, isIdle, trimSegment, isBlank, trimmed, contentsOf}
 use Rattle.reading.specs.Tokens.{tokensAt}
 use Rattle.control.specs.Control.{single, controlElement, isReference, isCount, sameValue, decimal}
 use Rattle.scanner.specs.Scan.{segmentAt}
-use Rattle.elements.specs.Elements.{elementFrom, firstElement, ElementAt}
-use Rattle.elements.proofs.Elements.{element-piece}
+use Rattle.elements.specs.Elements.{elementFrom, firstPiece, ElementAt}
+use Rattle.elements.proofs.Elements.{piece-number}
 use Rattle.fields.specs.declared.Field.{Field}
 use Rattle.fields.specs.Fields.{valuesIn, valueIn, fieldWith, fieldIn, fieldOf, spellsReference, spellsCount}
 use Rattle.fields.proofs.Values.{values-first, field-is}
-
--- ---- lists, read at a number
-
--- what f gives for each, at a number
-maybe-map : {A B C : Type 0} (d : C) (g : B → C) (f : A → B) (xs : List A) (n : ℕ)
-    → maybe d g (at (map f xs) n) ≡ maybe d (λ x. g (f x)) (at xs n)
-unfolding at maybe
-maybe-map d g f [] n = refl
-maybe-map d g f (x ∷ xs) zero = refl
-maybe-map d g f (x ∷ xs) (suc n) = maybe-map d g f xs n
-
--- Who reads an idle one as none reads the same where an idle end is dropped.
-module _ {A B : Type 0} (t : A → Bool) (h : Option A → B) (idle : (x : A) → t x ≡ true → h (some x) ≡ h none) where
-  at-dropEnd : (xs : List A) (n : ℕ) → h (at (dropEnd t xs) n) ≡ h (at xs n)
-  unfolding at dropEnd unlessIdle
-  at-dropEnd [] n = refl
-  at-dropEnd (x ∷ xs) n = step (t x) refl (dropEnd t xs) n (at-dropEnd xs)
-    where
-      step : (b : Bool) → t x ≡ b → (ys : List A) (n : ℕ) → ((m : ℕ) → h (at ys m) ≡ h (at xs m))
-          → h (at (unlessIdle b x ys) n) ≡ h (at (x ∷ xs) n)
-      step true e [] zero ih = sym (idle x e)
-      step true e [] (suc n) ih = ih n
-      step true e (y ∷ ys) zero ih = refl
-      step true e (y ∷ ys) (suc n) ih = ih n
-      step false e ys zero ih = refl
-      step false e ys (suc n) ih = ih n
-
-  at-trimEnd : (xs : List A) (n : ℕ) → h (at (trimEnd t xs) n) ≡ h (at xs n)
-  unfolding at trimEnd
-  at-trimEnd [] n = refl
-  at-trimEnd (x ∷ xs) zero = refl
-  at-trimEnd (x ∷ xs) (suc n) = at-dropEnd xs n
 
 -- ---- an element that is one component
 
@@ -80,9 +49,6 @@ module _ {A : Type 0} (f : A → List ℕ) (value : List ℕ) where
 abbrev loneOf : List (List ℕ) → Option (List ℕ)
 loneOf [] = none
 loneOf (value ∷ later) = lone value (all isEmpty later)
-
-abbrev isBlank : Value → Bool
-isBlank v = isEmpty (v .bytes)
 
 -- an element, read as one component
 abbrev oneOf : List Value → Option (List ℕ)
@@ -109,9 +75,9 @@ module _ {B : Type 0} (h : Option (List ℕ) → B) (blank : h (some []) ≡ h n
 
   -- the element that tokens begin with, trimmed and read as one component
   lone-element : (ts : List Token)
-      → h (maybe none (λ element. oneOf (trimElement isBlank (valuesOf element))) (firstElement ts))
+      → h (maybe none (λ element. oneOf (trimElement isBlank (valuesOf element))) (firstPiece 1 ts))
       ≡ h (lone (valueIn ts) (fieldOf ts .alone))
-  unfolding maybe firstElement fieldOf fieldIn fieldWith valuesOf lone valuesIn valueIn cut through bytesOf gather
+  unfolding maybe firstPiece fieldOf fieldIn fieldWith valuesOf lone valuesIn valueIn cut through bytesOf gather
   lone-element [] = sym blank
   lone-element (t ∷ ts) =
       ap h
@@ -126,12 +92,12 @@ module _ {B : Type 0} (h : Option (List ℕ) → B) (blank : h (some []) ≡ h n
   unfolding controlElement contentsOf trimmed trimSegment elementsOf maybe single
   control-element ts k =
       let elements = elementsOf (through (ends 0) ts) in
-      ap h (maybe-map none single (map (λ v. v .bytes)) (trimEnd (isIdle isBlank) (map (trimElement isBlank) elements)) k)
+      ap h (at-map none single (map (λ v. v .bytes)) (trimEnd (isIdle isBlank) (map (trimElement isBlank) elements)) k)
       ∙ at-trimEnd (isIdle isBlank) (λ element. h (maybe none oneOf element)) idle-none (map (trimElement isBlank) elements) k
-      ∙ ap h (maybe-map none oneOf (trimElement isBlank) elements k)
-      ∙ ap h (maybe-map none (λ element. oneOf (trimElement isBlank element)) valuesOf (cut (ends 1) (through (ends 0) ts)) k)
+      ∙ ap h (at-map none oneOf (trimElement isBlank) elements k)
+      ∙ ap h (at-map none (λ element. oneOf (trimElement isBlank element)) valuesOf (cut (ends 1) (through (ends 0) ts)) k)
       ∙ ap (λ (piece : Option (List Token)). h (maybe none (λ element. oneOf (trimElement isBlank (valuesOf element))) piece))
-      (element-piece k ts)
+      (piece-number 0 1 (lit≤ tt) k ts)
       ∙ lone-element (elementFrom k ts)
 
 -- ---- references and counts

@@ -1,12 +1,12 @@
--- One step of reading a value and of looking for the end of an element, for each token that the scanner can find. Assumes nothing.
-use Prim.Native.Nat.{ℕ, _≤_, _<_}
+-- One step of reading a value, for each token that the scanner can find. Assumes nothing.
+use Prim.Native.Nat.{ℕ, _≤_}
 use mathlib.Core.Path.{_≡_, sym, ap, _∙_, subst}
-use mathlib.Core.Bool.{Bool, true, false}
+use mathlib.Core.Bool.{Bool, true}
 use mathlib.Core.List.{List, [], _∷_}
 use native.Mathlib.Omega.{arith}
 use lib.Dec.{leb}
-use borrow.Author.Tests.{le-leb, lt-leb}
-use Rattle.lists.specs.Lists.{if_then_else_, isEmpty, through, gather}
+use borrow.Author.Tests.{le-leb}
+use Rattle.lists.specs.Lists.{if_then_else_, through, gather}
 use Rattle.characters.specs.declared.Characters.{Characters}
 use Rattle.reading.specs.Tokens.{separator, ends}
 use Rattle.reading.specs.Values.{byteOf, bytesOf}
@@ -15,7 +15,7 @@ use Rattle.scanner.specs.declared.Lexed.the-variants as lexed
 use Rattle.scanner.proofs.Lexing.{Lexes}
 use Rattle.fields.specs.declared.NextByte.{NextByte}
 use Rattle.fields.specs.declared.NextByte.the-variants.{Byte, Ended}
-use Rattle.fields.specs.Fields.{valueIn, blankIn}
+use Rattle.fields.specs.Fields.{valueIn}
 use Rattle.fields.specs.Reading.{valueEnd, NextAt}
 
 module _ (c : Characters) (s : List ℕ) where
@@ -55,34 +55,6 @@ module _ (c : Characters) (s : List ℕ) where
   unfolding valueIn valueEnd through bytesOf gather
   next-end from at h l = (h .0 ∙ ap valueIn (l .0), h .1 ∙ ap valueEnd (l .0) ∙ sym (l .0))
 
-  -- ---- the end of the element
-
-  module _ (at : ℕ) where
-    pub blank-byte : {b place next : ℕ} → Lexes c s at (lexed.Byte b place next) → blankIn (tokensAt c s at) ≡ false
-    unfolding blankIn through ends bytesOf gather byteOf isEmpty
-    blank-byte l = ap blankIn (l .0)
-
-    pub blank-over : {kind next : ℕ} → Lexes c s at (lexed.Separator kind next) → kind ≤ 1 → blankIn (tokensAt c s at) ≡ true
-    unfolding blankIn through ends bytesOf gather byteOf isEmpty
-    blank-over {kind} {next} l h =
-        ap blankIn (l .0)
-        ∙ ap (λ (b : Bool). isEmpty (bytesOf (if b then [] else through (ends 1) (tokensAt c s next)))) (le-leb kind 1 h)
-
-    pub blank-component : {kind next : ℕ} → Lexes c s at (lexed.Separator kind next) → 1 < kind
-        → blankIn (tokensAt c s at) ≡ blankIn (tokensAt c s next)
-    unfolding blankIn through ends bytesOf gather byteOf isEmpty
-    blank-component {kind} {next} l h =
-        ap blankIn (l .0)
-        ∙ ap (λ (b : Bool). isEmpty (bytesOf (if b then [] else through (ends 1) (tokensAt c s next)))) (lt-leb kind 1 h)
-
-    pub blank-stray : {next : ℕ} → Lexes c s at (lexed.Stray next) → blankIn (tokensAt c s at) ≡ blankIn (tokensAt c s next)
-    unfolding blankIn through ends bytesOf gather byteOf isEmpty
-    blank-stray l = ap blankIn (l .0)
-
-    pub blank-end : Lexes c s at lexed.End → blankIn (tokensAt c s at) ≡ true
-    unfolding blankIn through bytesOf gather isEmpty
-    blank-end l = ap blankIn (l .0)
-
-    -- what a match on the next byte shows
-    pub next-as : {r answer : NextByte} → NextAt c s at answer → answer ≡ r → NextAt c s at r
-    next-as n e = subst (NextAt c s at) e n
+  -- what a match on the next byte shows
+  pub next-as : (at : ℕ) {r answer : NextByte} → NextAt c s at answer → answer ≡ r → NextAt c s at r
+  next-as at n e = subst (NextAt c s at) e n

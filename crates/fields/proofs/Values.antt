@@ -1,15 +1,15 @@
 -- The field of an element is its first value, and whether the rest of it is blank. Assumes nothing.
 use mathlib.Core.Path.{_≡_, refl, sym, ap, _∙_}
-use mathlib.Core.Bool.{Bool, true, false, _&&_, and-assoc}
-use mathlib.Core.List.{List, [], _∷_, _++_, map, append-nil}
+use mathlib.Core.Bool.{Bool, true, false, _&&_}
+use mathlib.Core.List.{List, [], _∷_, _++_, map}
 use native.Mathlib.Omega.{arith}
-use lib.Dec.{leb}
+use lib.Dec.{leb, lit≤}
 use borrow.Author.Tests.{lt-leb, leb-false}
-use Rattle.lists.specs.Lists.{if_then_else_, isEmpty, all, through, onto, cut, gather}
-use Rattle.lists.proofs.Pieces.{beyond, cut-first}
+use Rattle.lists.specs.Lists.{if_then_else_, isEmpty, all, through, cut, gather}
+use Rattle.lists.proofs.Pieces.{beyond, gather-cut}
 use Rattle.reading.specs.Tokens.{Token, byte, separator, fault, ends}
 use Rattle.reading.specs.Values.{byteOf, bytesOf}
-use Rattle.elements.proofs.Elements.{through-through, ends-more}
+use Rattle.reading.proofs.Ends.{pieces-first}
 use Rattle.fields.specs.Fields.{valuesIn, valueIn, blankIn, fieldWith, fieldIn, fieldOf}
 use Rattle.fields.specs.Reading.{valueEnd}
 
@@ -19,24 +19,17 @@ unfolding isEmpty
 empty-append [] ys = refl
 empty-append (x ∷ xs) ys = refl
 
--- nothing is gathered from a list where nothing is gathered from any piece of it
-module _ {A B : Type 0} (f : A → List B) where
-  empty-onto : (b : Bool) (x : A) (pieces : List (List A))
-      → all isEmpty (map (gather f) (onto b x pieces)) ≡ (isEmpty (f x) && all isEmpty (map (gather f) pieces))
-  unfolding onto all gather
-  empty-onto true x pieces = ap (λ (l : List B). isEmpty l && all isEmpty (map (gather f) pieces)) (append-nil (f x))
-  empty-onto false x [] = ap (λ (l : List B). isEmpty l && true) (append-nil (f x))
-  empty-onto false x (piece ∷ pieces) =
-      ap (λ (b : Bool). b && all isEmpty (map (gather f) pieces)) (empty-append (f x) (gather f piece))
-      ∙ and-assoc (isEmpty (f x)) (isEmpty (gather f piece)) (all isEmpty (map (gather f) pieces))
+-- nothing is gathered where each gives nothing
+empty-gather : {A B : Type 0} (f : A → List B) (xs : List A) → all isEmpty (map f xs) ≡ isEmpty (gather f xs)
+unfolding all gather isEmpty
+empty-gather f [] = refl
+empty-gather f (x ∷ xs) =
+    ap (λ (b : Bool). isEmpty (f x) && b) (empty-gather f xs) ∙ sym (empty-append (f x) (gather f xs))
 
-  pub empty-pieces : (t : A → Bool) (xs : List A) → all isEmpty (map (gather f) (cut t xs)) ≡ isEmpty (gather f xs)
-  unfolding cut all gather isEmpty
-  empty-pieces t [] = refl
-  empty-pieces t (x ∷ xs) =
-      empty-onto (t x) x (cut t xs)
-      ∙ ap (λ (b : Bool). isEmpty (f x) && b) (empty-pieces t xs)
-      ∙ sym (empty-append (f x) (gather f xs))
+-- nothing is gathered from a list where nothing is gathered from any piece of it
+pub empty-pieces : {A B : Type 0} (f : A → List B) (t : A → Bool) (xs : List A)
+    → all isEmpty (map (gather f) (cut t xs)) ≡ isEmpty (gather f xs)
+empty-pieces f t xs = empty-gather (gather f) (cut t xs) ∙ ap isEmpty (sym (gather-cut t f xs))
 
 -- the bytes behind an element's first value
 pub behind-value : (ts : List Token) → bytesOf (beyond (ends 2) (through (ends 1) ts)) ≡ bytesOf (through (ends 1) (valueEnd ts))
@@ -57,11 +50,8 @@ behind-value (separator kind place ∷ ts) = step (leb kind 2) refl (behind-valu
 -- an element's values are the one that its tokens begin with and those behind it
 pub values-first : (t : Token) (ts : List Token)
     → valuesIn (t ∷ ts) ≡ valueIn (t ∷ ts) ∷ map bytesOf (cut (ends 2) (beyond (ends 2) (through (ends 1) (t ∷ ts))))
-unfolding valuesIn valueIn through
-values-first t ts =
-    ap (map bytesOf) (cut-first (ends 2) t (if ends 1 t then [] else through (ends 1) ts))
-    ∙ ap (λ (first : List Token). bytesOf first ∷ map bytesOf (cut (ends 2) (beyond (ends 2) (through (ends 1) (t ∷ ts)))))
-    (through-through (ends 1) (ends 2) (ends-more 1 2 (omega arith)) (t ∷ ts))
+unfolding valuesIn valueIn
+values-first t ts = ap (map bytesOf) (pieces-first 1 2 (lit≤ tt) t ts)
 
 -- the field of an element is its first value, and whether what follows that is blank
 pub field-is : (ts : List Token) → fieldOf ts ≡ fieldWith (valueIn ts) (blankIn (valueEnd ts))

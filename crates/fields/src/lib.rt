@@ -9,6 +9,7 @@ ghost use Rattle.reading.specs.Tokens.{tokensAt};
 ghost use Rattle.fields.specs.Fields.{valueIn, blankIn, fieldOf, spellsReference, spellsCount};
 ghost use Rattle.fields.specs.Reading.{NextAt, isEnded, Room, withDigit, withByte};
 use characters::Characters;
+use elements::holds_byte;
 use scanner::Lexed;
 use scanner::lex;
 
@@ -57,30 +58,7 @@ fn byte_at(s: &[u8], c: Characters, from: usize) -> NextByte
 fn blank_at(s: &[u8], c: Characters, from: usize) -> bool
     ensures { λ r. ⌜ r ≡ blankIn (tokensAt c (now (s .entry)) from) ⌝ }
 {
-    let mut at = from;
-    loop {
-        match lex(s, c, at) {
-            Lexed::Byte {
-                byte: _,
-                place: _,
-                next: _,
-            } => {
-                return false;
-            }
-            Lexed::Separator { kind, next } => {
-                if kind <= 1 {
-                    return true;
-                }
-                at = next;
-            }
-            Lexed::Stray { next } => {
-                at = next;
-            }
-            Lexed::End => {
-                return true;
-            }
-        }
-    }
+    !holds_byte(s, c, from, 1)
 }
 
 fn both(a: bool, b: bool) -> bool

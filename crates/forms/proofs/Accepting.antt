@@ -7,7 +7,7 @@ use mathlib.Core.List.{List, [], _∷_, map, reverse, append-eq-nil-iff, cons≢
 use mathlib.Core.Option.{Option, none, some}
 use lib.ListN.{length}
 use Rattle.lists.specs.Lists.{if_then_else_, isEmpty, text, same, begins, member, all, at, maybe, gather, behind, joined}
-use Rattle.lists.proofs.Texts.{and-left, same-eq}
+use Rattle.lists.proofs.Texts.{and-left, same-eq, all-map}
 use Rattle.characters.specs.declared.Characters.{Characters}
 use Rattle.characters.specs.Characters.{upper, digit, between, released, serviceCharacters, isService, sixBytes, bodyStart, badAdvice, opens}
 use Rattle.refusals.specs.Refusals.{placeIf}
@@ -28,7 +28,7 @@ use Rattle.operations.specs.ValueList.{trimList}
 use Rattle.spelling.specs.Bodies.{listed, readList, Passes}
 use Rattle.grammar.specs.Grammar.{misplaced, badControl}
 use Rattle.forms.specs.Forms.{markOf, formCharacters, listOf}
-use Rattle.forms.proofs.Tests.{all-map, place-none, place-none-not}
+use Rattle.forms.proofs.Tests.{place-none, place-none-not}
 use Rattle.forms.proofs.Trimmed.{allBytes, contents-read, trim-bytes}
 use Rattle.forms.proofs.Openings.{advice-characters, advice-body, advice-good}
 use Rattle.forms.proofs.Accepted.{Accepted, accepted-exactly, passes-accepted, order-accepted}

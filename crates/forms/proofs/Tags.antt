@@ -1,20 +1,20 @@
 -- The tag rule as a rule of a segment's values: the first value is the tag, and no component separator follows it where the first
 -- element is that one value. Assumes nothing.
-use Prim.Native.Nat.{ℕ, _≤_}
 use mathlib.Core.Path.{_≡_, refl, sym, ap, _∙_}
 use mathlib.Core.Bool.{Bool, true, false, not, _&&_, _||_, false≢true, true≢false}
 use mathlib.Core.List.{List, [], _∷_, map}
 use mathlib.Core.Logic.{_↔_}
 use native.Mathlib.Omega.{arith}
-use borrow.Author.Tests.{le-leb, leb-true, not-false}
+use borrow.Author.Tests.{not-false}
 use Rattle.lists.specs.Lists.{if_then_else_, isEmpty, all, text, begins, through, onto, cut, lastOr, dropEnd, trimEnd, gather}
 use Rattle.lists.proofs.Texts.{and-left, and-right, and-both}
 use Rattle.lists.proofs.Pieces.{beyond, cut-first}
 use Rattle.refusals.specs.Refusals.{placeIf}
-use Rattle.reading.specs.Tokens.{Token, byte, separator, fault, ends, Segment, start, segments}
+use Rattle.reading.specs.Tokens.{Token, ends, Segment, start, segments}
 use Rattle.reading.specs.Values.{bytesOf, valueOf, valuesOf, elementsOf, isFault, endedBy, endsInside, finished}
 use Rattle.reading.specs.Trimming.{trimElement, trimSegment, contentsOf}
 use Rattle.reading.specs.Spelling.{Bytes}
+use Rattle.reading.proofs.Ends.{ends-more, through-ends}
 use Rattle.segments.specs.declared.Kind.the-variants.{User}
 use Rattle.segments.specs.Kinds.{is, kindNamed}
 use Rattle.segments.specs.Tags.{tagPiece, tagOf, kindOf, isTag, tagRule}
@@ -76,26 +76,6 @@ tag-trim segment h =
 
 -- ---- the first value that was read is the tag
 
--- a token that ends the greater ends the smaller
-ends-more : (k l : ℕ) → k ≤ l → (t : Token) → ends k t ≡ true → ends l t ≡ true
-unfolding ends
-ends-more k l h (byte b from place) e = e
-ends-more k l h (separator kind place) e = le-leb kind l (omega (arith, leb-true kind k e))
-ends-more k l h (fault place) e = e
-
--- the first piece of the first piece, where what ends that also ends this
-through-within : {A : Type 0} (t u : A → Bool) → ((x : A) → t x ≡ true → u x ≡ true) → (xs : List A)
-    → through u (through t xs) ≡ through u xs
-unfolding through
-through-within t u h [] = refl
-through-within {A} t u h (x ∷ xs) = step (t x) refl (u x) refl (through-within t u h xs)
-  where
-    step : (a : Bool) → t x ≡ a → (b : Bool) → u x ≡ b → through u (through t xs) ≡ through u xs
-        → x ∷ (if b then [] else through u (if a then [] else through t xs)) ≡ x ∷ (if b then [] else through u xs)
-    step a e true k ih = refl
-    step true e false k ih = absurd (true≢false (sym (h x e) ∙ k))
-    step false e false k ih = ap (λ (l : List A). x ∷ l) ih
-
 -- the first of the values that were read
 first-words : (g : Segment) → firstValue (wordsOf g) ≡ tagOf g
 unfolding firstValue wordsOf elementsOf valuesOf valueOf tagOf tagPiece cut through bytesOf gather
@@ -103,7 +83,7 @@ first-words [] = refl
 first-words (t ∷ ts) =
     let element : List Token = if ends 1 t then [] else through (ends 1) ts in
     rw (cut-first (ends 1) t ts, cut-first (ends 2) t element)
-    (ap bytesOf (through-within (ends 1) (ends 2) (ends-more 1 2 (omega arith)) (t ∷ ts)))
+    (ap bytesOf (through-ends 1 2 (omega arith) (t ∷ ts)))
 
 -- the first of the contents
 pub tag-first : (g : Segment) → tagOf g ≡ firstValue (contentsOf g)

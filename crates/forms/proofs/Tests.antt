@@ -2,19 +2,12 @@
 use Prim.Native.Nat.{ℕ}
 use mathlib.Core.Path.{_≡_, refl}
 use mathlib.Core.Bool.{Bool, true, false, not, _&&_, true≢false, false≢true}
-use mathlib.Core.List.{List, [], _∷_, _++_, map, append-eq-nil-iff, cons≢nil}
+use mathlib.Core.List.{List, [], _∷_, _++_, append-eq-nil-iff, cons≢nil}
 use mathlib.Core.Logic.{_↔_}
 use Rattle.lists.specs.Lists.{all, gather}
 use Rattle.lists.proofs.Texts.{and-left, and-right, and-both}
+pub use Rattle.lists.proofs.Texts.{all-map}
 use Rattle.refusals.specs.Refusals.{placeIf}
-
--- where f turns what passes one test into what passes another, it does so to all
-pub all-map : {A B : Type 0} (f : A → B) (p : A → Bool) (q : B → Bool) → ((x : A) → p x ≡ true → q (f x) ≡ true)
-    → (xs : List A) → all p xs ≡ true → all q (map f xs) ≡ true
-unfolding all
-all-map f p q h [] k = refl
-all-map f p q h (x ∷ xs) k =
-    and-both (q (f x)) (all q (map f xs)) (h x (and-left (p x) (all p xs) k)) (all-map f p q h xs (and-right (p x) (all p xs) k))
 
 -- two parts are empty exactly where both tests say so
 pub none-both : {A : Type 0} (xs ys : List A) (t u : Bool) → (xs ≡ []) ↔ (t ≡ true) → (ys ≡ []) ↔ (u ≡ true)

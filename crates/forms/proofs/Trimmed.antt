@@ -4,7 +4,7 @@ use mathlib.Core.Path.{_≡_, refl, sym, ap, fun-ext, _∙_}
 use mathlib.Core.Bool.{Bool, true, not}
 use mathlib.Core.List.{List, [], _∷_, map, map-map}
 use Rattle.lists.specs.Lists.{isEmpty, all, dropEnd, trimEnd}
-use Rattle.lists.proofs.Texts.{and-left, and-right, and-both, all-append}
+use Rattle.lists.proofs.Texts.{and-left, and-right, and-both, all-append, all-map}
 use Rattle.lists.proofs.Ends.{trimEnd-map}
 use Rattle.characters.specs.declared.Characters.{Characters}
 use Rattle.characters.specs.Characters.{isService}
@@ -18,7 +18,6 @@ use Rattle.spelling.specs.Bodies.{wordsOf, listed, readList, Releasable}
 use Rattle.trimming.proofs.Trimmed.{dropEnd-shortened}
 use Rattle.trimming.proofs.Again.{trimList-again}
 use Rattle.forms.specs.Forms.{listOf}
-use Rattle.forms.proofs.Tests.{all-map}
 
 -- ---- the contents
 

@@ -8,7 +8,7 @@ use lib.ListN.{length}
 use lib.Dec.{eqb}
 use borrow.Author.Tests.{eqb-true, eqb-false, eq-eqb, ne-eqb}
 use Rattle.lists.specs.Lists.{if_then_else_, text, same, maybe}
-use Rattle.lists.proofs.Texts.{if-true, if-false, same-eq}
+use Rattle.lists.proofs.Texts.{if-true, if-false, same-length}
 use Rattle.characters.specs.declared.Characters.{Characters}
 use Rattle.levels.specs.Levels.{levelNamed, isOurVersion, levelOf}
 use Rattle.scanner.specs.Scan.{segmentAt}
@@ -21,19 +21,10 @@ use Rattle.heading.proofs.Values.{first-value, second-value, second-mis
 
 -- ---- short values, from the word that was read
 
--- lists that differ are not the same
-not-same : (xs ys : List ℕ) → (xs ≡ ys → ⊥) → same xs ys ≡ false
-not-same xs ys h = step (same xs ys) refl
-  where
-    step : (b : Bool) → same xs ys ≡ b → b ≡ false
-    step true e = absurd (h (same-eq xs ys e))
-    step false e = refl
-
 -- a version is one byte
 version-size : (value : List ℕ) → (length value ≡ 1 → ⊥) → isVersion value ≡ false
 unfolding isVersion
-version-size value h =
-    simp (not-same value (text "1") (λ e. h (ap length e)), not-same value (text "2") (λ e. h (ap length e)))
+version-size value h = simp (same-length value (text "1") h, same-length value (text "2") h)
 
 -- one byte that is not `1` is a version if it is `2`
 pub version-last : (w : Word) → w .size ≡ 1 → (w .fourth ≡ 49 → ⊥) → eqb (w .fourth) 50 ≡ versionIn w
@@ -43,8 +34,7 @@ version-last w e n = simp (eq-eqb (w .size) 1 e, ne-eqb (w .fourth) 49 n, and-tr
 -- a level's name is four bytes
 level-size : (value : List ℕ) → (length value ≡ 4 → ⊥) → numbered value ≡ 0
 unfolding numbered levelNamed maybe
-level-size value h =
-    simp (not-same value (text "UNOA") (λ e. h (ap length e)), not-same value (text "UNOB") (λ e. h (ap length e)))
+level-size value h = simp (same-length value (text "UNOA") h, same-length value (text "UNOB") h)
 
 -- a question to values of one size, put to the bytes that were read
 by-size : {B : Type 0} (d : B) (f : List ℕ → B) (size n : ℕ) (read value : List ℕ)

@@ -2,10 +2,12 @@
 -- Assumes nothing.
 use Prim.Native.Nat.{ℕ, zero, suc}
 use mathlib.Core.Path.{_≡_, refl, sym, _∙_}
-use mathlib.Core.Bool.{Bool, true, false, false≢true}
+use mathlib.Core.Bool.{Bool, true, false≢true}
 use mathlib.Core.List.{List, [], _∷_, map}
 use mathlib.Core.Option.{Option, none, some}
-use Rattle.lists.specs.Lists.{at, maybe, unlessIdle, dropEnd, trimEnd}
+use Rattle.lists.specs.Lists.{at, maybe}
+pub use Rattle.lists.proofs.Numbers.{at-map}
+use Rattle.lists.proofs.Numbers.{at-trimEnd}
 use Rattle.reading.specs.Trimming.{trimElement, isIdle, trimSegment, valueAt}
 
 module _ {A B C : Type 0} where
@@ -16,43 +18,11 @@ module _ {A B C : Type 0} where
   maybe-maybe d f g none = refl
   maybe-maybe d f g (some x) = refl
 
-  -- a question to what a map gives
-  pub at-map : (d : C) (f : B → C) (g : A → B) (xs : List A) (k : ℕ) → maybe d f (at (map g xs) k) ≡ maybe d (λ x. f (g x)) (at xs k)
-  unfolding at maybe
-  at-map d f g [] k = refl
-  at-map d f g (x ∷ xs) zero = refl
-  at-map d f g (x ∷ xs) (suc k) = at-map d f g xs k
-
 -- questions that are alike to each value are alike to what may be
 pub maybe-alike : {A B : Type 0} (d : B) (f g : A → B) → ((x : A) → f x ≡ g x) → (o : Option A) → maybe d f o ≡ maybe d g o
 unfolding maybe
 maybe-alike d f g h none = refl
 maybe-alike d f g h (some x) = h x
-
--- ---- an idle end
-
-module _ {A B : Type 0} (d : B) (f : A → B) (t : A → Bool) (blind : (x : A) → t x ≡ true → f x ≡ d) where
-  dropEnd-at : (xs : List A) (k : ℕ) → maybe d f (at (dropEnd t xs) k) ≡ maybe d f (at xs k)
-  unfolding maybe at dropEnd unlessIdle
-  dropEnd-at [] k = refl
-  dropEnd-at (x ∷ xs) zero = step (t x) refl (dropEnd t xs)
-    where
-      step : (b : Bool) → t x ≡ b → (ys : List A) → maybe d f (at (unlessIdle b x ys) zero) ≡ f x
-      step true e [] = sym (blind x e)
-      step true e (y ∷ ys) = refl
-      step false e ys = refl
-  dropEnd-at (x ∷ xs) (suc k) = step (t x) (dropEnd t xs) ∙ dropEnd-at xs k
-    where
-      step : (b : Bool) (ys : List A) → maybe d f (at (unlessIdle b x ys) (suc k)) ≡ maybe d f (at ys k)
-      step true [] = refl
-      step true (y ∷ ys) = refl
-      step false ys = refl
-
-  trimEnd-at : (xs : List A) (k : ℕ) → maybe d f (at (trimEnd t xs) k) ≡ maybe d f (at xs k)
-  unfolding maybe at trimEnd
-  trimEnd-at [] k = refl
-  trimEnd-at (x ∷ xs) zero = refl
-  trimEnd-at (x ∷ xs) (suc k) = dropEnd-at xs k
 
 -- ---- values by element and component
 
@@ -83,11 +53,11 @@ module _ {A B : Type 0} (d : B) (f : A → B) (blank : A → Bool) (blind : (x :
   -- a value of the trimmed segment answers as the one at its place
   pub trimmed-at : (segment : List (List A)) (e k : ℕ)
       → maybe d f (valueAt (trimSegment blank segment) e k) ≡ maybe d f (valueAt segment e k)
-  unfolding trimSegment trimElement
+  unfolding maybe trimSegment trimElement
   trimmed-at segment e k =
       let ask : List A → B = λ values. maybe d f (at values k) in
       value-at d f (trimSegment blank segment) e k
-      ∙ trimEnd-at d ask (isIdle blank) (idle-at k) (map (trimElement blank) segment) e
+      ∙ at-trimEnd (isIdle blank) (maybe d ask) (idle-at k) (map (trimElement blank) segment) e
       ∙ at-map d ask (trimElement blank) segment e
-      ∙ maybe-alike d _ ask (λ values. trimEnd-at d f blank blind values k) (at segment e)
+      ∙ maybe-alike d _ ask (λ values. at-trimEnd blank (maybe d f) blind values k) (at segment e)
       ∙ sym (value-at d f segment e k)

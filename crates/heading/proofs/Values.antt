@@ -13,14 +13,14 @@ use Rattle.lists.proofs.Pieces.{beyond, cut-first}
 use Rattle.characters.specs.declared.Characters.{Characters}
 use Rattle.reading.specs.Tokens.{Token, Segment, ends}
 use Rattle.reading.specs.Values.{Value, bytesOf, valueOf, valuesOf, elementsOf, endedBy}
-use Rattle.reading.specs.Trimming.{trimmed, contentsOf, valueAt}
+use Rattle.reading.specs.Trimming.{isBlank, trimmed, contentsOf, valueAt}
 use Rattle.reading.specs.Tokens.{tokensAt}
+use Rattle.reading.proofs.Ends.{ends-more, through-ends, ended-behind}
 use Rattle.scanner.specs.Scan.{segmentAt}
-use Rattle.elements.specs.Elements.{firstElement, ElementAt}
-use Rattle.elements.proofs.Elements.{through-through, ends-more, element-at-piece}
+use Rattle.elements.specs.Elements.{firstPiece, ElementAt}
+use Rattle.elements.proofs.Elements.{element-at-piece}
 use Rattle.tagging.specs.declared.Word.{Word}
 use Rattle.tagging.specs.Words.{pieceAt, Words, valueAt as readAt}
-use Rattle.tagging.proofs.Reading.{ended-behind}
 use Rattle.heading.proofs.Trimmed.{maybe-alike, at-map, value-at, value-map, trimmed-at}
 
 -- ---- the pieces of an element, by what follows them
@@ -91,16 +91,16 @@ module _ {B : Type 0} (d : B) (f : List ℕ → B) (blind : f [] ≡ d) where
   contents-at g e k =
       let ask : Value → B = λ v. f (v .bytes) in
       value-map d f (λ v. v .bytes) (trimmed g) e k
-      ∙ trimmed-at d ask (λ v. isEmpty (v .bytes)) (λ v. empty-blind (v .bytes)) (elementsOf g) e k
+      ∙ trimmed-at d ask isBlank (λ v. empty-blind (v .bytes)) (elementsOf g) e k
       ∙ value-at d ask (elementsOf g) e k
       ∙ at-map d (λ values. maybe d ask (at values k)) valuesOf (cut (ends 1) g) e
       ∙ maybe-alike d _ _ (λ element. at-map d ask valueOf (cut (ends 2) element) k) (at (cut (ends 1) g) e)
 
   -- the values of the element that tokens begin with: none where there are no tokens
   first-element-at : (ts : List Token) (k : ℕ)
-      → maybe d (λ element. maybe d of-piece (at (cut (ends 2) element) k)) (firstElement ts)
+      → maybe d (λ element. maybe d of-piece (at (cut (ends 2) element) k)) (firstPiece 1 ts)
       ≡ maybe d of-piece (at (cut (ends 2) (through (ends 1) ts)) k)
-  unfolding maybe at cut through firstElement
+  unfolding maybe at cut through firstPiece
   first-element-at [] k = refl
   first-element-at (t ∷ ts) k = refl
 
@@ -123,7 +123,7 @@ module _ {B : Type 0} (d : B) (f : List ℕ → B) (blind : f [] ≡ d) where
       first-value =
           element-value 0
           ∙ first-piece d of-piece (ends 2) blind (through (ends 1) (tokensAt c s r))
-          ∙ ap of-piece (through-through (ends 1) (ends 2) (ends-more 1 2 (lit≤ tt)) (tokensAt c s r))
+          ∙ ap of-piece (through-ends 1 2 (lit≤ tt) (tokensAt c s r))
 
       -- the second is the first of what follows it, up to the element's end
       second-within : {rest : List Token}
@@ -140,7 +140,7 @@ module _ {B : Type 0} (d : B) (f : List ℕ → B) (blind : f [] ≡ d) where
         pub second-value : w .kind ≡ 2 → answer 1 ≡ f (readAt c s (w .next))
         second-value k =
             second-within (if-false (endedBy 1 (pieceAt c s r)) [] _ (h .ended 1 (lit≤ tt) ∙ lt-leb (w .kind) 1 (omega arith)))
-            ∙ ap of-piece (through-through (ends 1) (ends 2) (ends-more 1 2 (lit≤ tt)) (beyond (ends 2) (tokensAt c s r)))
+            ∙ ap of-piece (through-ends 1 2 (lit≤ tt) (beyond (ends 2) (tokensAt c s r)))
             ∙ ap (λ (ts : List Token). of-piece (through (ends 2) ts)) (sym (h .behind .0))
 
         -- behind anything else there is none

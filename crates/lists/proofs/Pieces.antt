@@ -1,10 +1,19 @@
 -- Laws of lists that are cut into pieces. Assumes nothing.
+use Prim.Native.Nat.{ℕ, suc}
 use mathlib.Core.Path.{_≡_, refl, sym, ap, _∙_}
 use mathlib.Core.Bool.{Bool, true, false, not, _&&_, false≢true}
-use mathlib.Core.List.{List, [], _∷_, _++_}
-use Rattle.lists.specs.Lists.{if_then_else_, all, through, onto, cut}
+use mathlib.Core.List.{List, [], _∷_, _++_, append-nil, append-assoc}
+use lib.ListN.{drop}
+use Rattle.lists.specs.Lists.{if_then_else_, all, through, onto, cut, gather}
 unfoldable pub use Rattle.lists.specs.Lists.{beyond}
 use Rattle.lists.proofs.Texts.{and-right, if-true, if-false}
+use Rattle.lists.proofs.Numbers.{drop-nothing}
+
+-- one more in front of the first piece leaves those behind it
+pub drop-onto : {A : Type 0} (x : A) (pieces : List (List A)) (n : ℕ) → drop (suc n) (onto false x pieces) ≡ drop (suc n) pieces
+unfolding onto
+drop-onto x [] n = drop-nothing n
+drop-onto x (piece ∷ pieces) n = refl
 
 module _ {A : Type 0} (t : A → Bool) where
   -- the first passes the test: the rest follows it
@@ -67,3 +76,28 @@ module _ {A : Type 0} (t : A → Bool) where
   cut-none x (y ∷ ys) h =
       ap (λ (b : Bool). onto b x (cut t (y ∷ ys))) (head-fails (t x) (all (λ z. not (t z)) (y ∷ ys)) h)
       ∙ ap (onto false x) (cut-none y ys (and-right (not (t x)) (all (λ z. not (t z)) (y ∷ ys)) h))
+
+-- what ends a larger piece ends a smaller one too: the first smaller piece is the same in the larger one
+module _ {A : Type 0} (t u : A → Bool) (h : (x : A) → t x ≡ true → u x ≡ true) where
+  pub through-through : (xs : List A) → through u (through t xs) ≡ through u xs
+  unfolding through
+  through-through [] = refl
+  through-through (x ∷ xs) = step (t x) refl (through-through xs)
+    where
+      step : (b : Bool) → t x ≡ b → through u (through t xs) ≡ through u xs
+          → x ∷ (if u x then [] else through u (if b then [] else through t xs)) ≡ x ∷ (if u x then [] else through u xs)
+      step true e ih =
+          ap (λ (l : List A). x ∷ l)
+          (if-true (u x) [] (through u []) (h x e) ∙ sym (if-true (u x) [] (through u xs) (h x e)))
+      step false e ih = ap (λ (l : List A). x ∷ (if u x then [] else l)) ih
+
+-- what is gathered of a list may be gathered of its pieces
+pub gather-cut : {A B : Type 0} (t : A → Bool) (f : A → List B) (xs : List A) → gather f xs ≡ gather (gather f) (cut t xs)
+unfolding gather cut onto
+gather-cut t f [] = refl
+gather-cut {A} {B} t f (x ∷ xs) = ap (λ (l : List B). f x ++ l) (gather-cut t f xs) ∙ step (t x) (cut t xs)
+  where
+    step : (b : Bool) (pieces : List (List A)) → f x ++ gather (gather f) pieces ≡ gather (gather f) (onto b x pieces)
+    step true pieces = ap (λ (l : List B). l ++ gather (gather f) pieces) (sym (append-nil (f x)))
+    step false [] = sym (append-nil (f x ++ []))
+    step false (piece ∷ pieces) = sym (append-assoc (f x) (gather f piece) (gather (gather f) pieces))

@@ -4,7 +4,7 @@ use Prim.Native.Nat.{ℕ, _≤_, _<_}
 use mathlib.Core.Path.{_≡_, refl, ap, _∙_}
 use mathlib.Core.Bool.{Bool, true, false}
 use mathlib.Core.List.{List, [], _∷_, _++_, List·Memᴰ, List·Memᴰ·not-nil, List·Memᴰ·append-cases, List·Memᴰ·eq-of-singleton}
-use mathlib.Core.Option.{Option, none, some}
+use mathlib.Core.Option.{Option, none}
 use mathlib.Core.Logic.{⊎-elim}
 use native.Mathlib.Omega.{arith}
 use Rattle.lists.specs.Lists.{if_then_else_, gather}
@@ -12,6 +12,7 @@ use Rattle.refusals.specs.declared.Fault.{Fault}
 use Rattle.refusals.specs.declared.Refusal.{Refusal}
 use Rattle.refusals.specs.Refusals.{Stage, met, placeIf, lowerOf, lowest, orElse}
 use Rattle.refusals.proofs.Stages.{met-append}
+pub use Rattle.refusals.proofs.Stages.{orElse-none}
 use Rattle.refusals.proofs.Lowest.{lowest-rising}
 use Rattle.machines.specs.Walks.{refuse}
 
@@ -56,18 +57,6 @@ module _ {A : Type 0} (P : ℕ → ℕ → A → Type 0) (f : A → Stage)
   lowest-row (on {xs = xs} low next x l p rest) =
       lowest-rising (f x) (gather f xs) (λ r q m n. omega (arith, inside low next x p r m, gather-within rest q n))
       ∙ ap (orElse (lowest (f x))) (lowest-row rest)
-
--- ---- answers one behind the other
-
-pub orElse-none : (o : Option Refusal) → orElse o none ≡ o
-unfolding orElse
-orElse-none none = refl
-orElse-none (some r) = refl
-
-pub orElse-assoc : (a b c : Option Refusal) → orElse (orElse a b) c ≡ orElse a (orElse b c)
-unfolding orElse
-orElse-assoc none b c = refl
-orElse-assoc (some r) b c = refl
 
 -- ---- what is met where a test passes
 

@@ -1,13 +1,13 @@
 -- One law for all that is judged segment by segment: what is met in each, given what passed before it, is answered by the walk
 -- that stops at the first. Assumes nothing.
 use Prim.Native.Nat.{ℕ, _+_}
-use mathlib.Core.Path.{_≡_, refl, sym, ap, ap₂, _∙_}
-use mathlib.Core.Bool.{Bool, true, false}
-use mathlib.Core.List.{List, [], _∷_, _++_, append-nil, append-assoc}
+use mathlib.Core.Path.{_≡_, refl, ap, ap₂, _∙_}
+use mathlib.Core.Bool.{Bool}
+use mathlib.Core.List.{List, [], _∷_, _++_}
 use mathlib.Core.Option.{Option, none}
 use native.Mathlib.Nat.{le-refl}
 use native.Mathlib.Omega.{arith}
-use Rattle.lists.specs.Lists.{if_then_else_, onto, cut, gather}
+use Rattle.lists.specs.Lists.{if_then_else_, gather}
 use Rattle.refusals.specs.declared.Fault.{Fault}
 use Rattle.refusals.specs.declared.Refusal.{Refusal}
 use Rattle.refusals.specs.Refusals.{Stage, met, placeIf, lowest, orElse}
@@ -44,17 +44,6 @@ met-starts f fails past (g ∷ gs) =
 pub failing-within : (f : Fault) (fails : List Segment → Segment → Bool) (low high : ℕ) (p : Passed)
     → Spans low high (p .1) → Within low high (failing f fails p)
 failing-within f fails low high p (from, to, rises) = if-within f (fails (p .0) (p .1)) (start (p .1)) from to
-
--- what is gathered of a list may be gathered of its pieces
-pub gather-cut : {A B : Type 0} (t : A → Bool) (f : A → List B) (xs : List A) → gather f xs ≡ gather (gather f) (cut t xs)
-unfolding gather cut onto
-gather-cut t f [] = refl
-gather-cut {A} {B} t f (x ∷ xs) = ap (λ (l : List B). f x ++ l) (gather-cut t f xs) ∙ step (t x) (cut t xs)
-  where
-    step : (b : Bool) (pieces : List (List A)) → f x ++ gather (gather f) pieces ≡ gather (gather f) (onto b x pieces)
-    step true pieces = ap (λ (l : List B). l ++ gather (gather f) pieces) (sym (append-nil (f x)))
-    step false [] = sym (append-nil (f x ++ []))
-    step false (piece ∷ pieces) = sym (append-assoc (f x) (gather f piece) (gather (gather f) pieces))
 
 -- what is gathered of segments alone does not ask what passed
 pub gather-past : {B : Type 0} (h : Segment → List B) (past gs : List Segment) → gather h gs ≡ gather (λ p. h (p .1)) (withPast past gs)

@@ -7,11 +7,11 @@ use lib.ListN.{length}
 use Rattle.refusals.specs.declared.Fault.the-variants.{TooLong, UnusableAdvice, NoOpening, ForeignLevel, NormalTooLong}
 use Rattle.refusals.specs.declared.Refusal.{Refusal}
 use Rattle.refusals.specs.Refusals.{met, lowest, orElse, answering}
+use Rattle.refusals.proofs.Stages.{orElse-none, orElse-assoc}
 use Rattle.verdict.specs.Contents.{bodyTokens}
 use Rattle.verdict.specs.Places.{tooLong, unusableAdvice, noOpening, foreignLevel, level, normalTooLong}
 use Rattle.verdict.specs.Stages.{laterStages, stages, refusalOf}
 use Rattle.machines.specs.Walks.{worded, leveled, ordered, controlled}
-use Rattle.machines.proofs.Rows.{orElse-none, orElse-assoc}
 use Rattle.machines.proofs.Walks.{leveled-answers, ordered-answers, controlled-answers}
 use Rattle.machines.proofs.Worded.{worded-answers}
 

@@ -9,20 +9,21 @@ use mathlib.Core.Option.{Option, none, some}
 use lib.ListN.{length}
 use native.Mathlib.Omega.{arith}
 use Rattle.lists.specs.Lists.{if_then_else_, isEmpty, all, lastOr, through, onto, cut, gather, maybe}
-use Rattle.lists.proofs.Pieces.{cut-first}
+use Rattle.lists.proofs.Pieces.{cut-first, gather-cut}
 use Rattle.refusals.specs.declared.Fault.the-variants.{StrayRelease, UnendedSegment, BrokenTag}
 use Rattle.refusals.specs.declared.Refusal.{Refusal}
 use Rattle.refusals.specs.Refusals.{Stage, met, placeIf, lowerOf, lowest, orElse}
 use Rattle.refusals.proofs.Lowest.{merge, merge-comm, merge-assoc, lowest-append, lowest-gather}
+use Rattle.refusals.proofs.Stages.{orElse-none, orElse-assoc}
 use Rattle.reading.specs.Tokens.{Token, byte, separator, fault, ends, placeOf, Segment, segments, start}
 use Rattle.reading.specs.Values.{isFault, endedBy, endsInside, finished}
 use Rattle.segments.specs.Tags.{tagRule}
 use Rattle.verdict.specs.Contents.{bodyTokens, segmentsOf}
 use Rattle.verdict.specs.Places.{strayReleases, unendedSegment, brokenTags}
 use Rattle.machines.specs.Walks.{refuse, firstIn, firstFault, wordedSegment, worded}
-use Rattle.machines.proofs.Rows.{Within, firstOf, gather-within, lowest-row, lowest-if, if-within, append-within, met-gather, orElse-none, orElse-assoc}
+use Rattle.machines.proofs.Rows.{Within, firstOf, gather-within, lowest-row, lowest-if, if-within, append-within, met-gather}
 use Rattle.machines.proofs.Rising.{Lies, Rising, Spans, segments-rise}
-use Rattle.machines.proofs.Segments.{Passed, withPast, failing, failing-within, met-starts, gather-past, gather-cut, lowest-ended}
+use Rattle.machines.proofs.Segments.{Passed, withPast, failing, failing-within, met-starts, gather-past, lowest-ended}
 
 -- ---- 4 and 6 in one segment
 

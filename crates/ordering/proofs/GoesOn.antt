@@ -5,8 +5,8 @@ use mathlib.Core.Bool.{Bool, true, false}
 use mathlib.Core.List.{List, [], _∷_, map, reverseAux}
 use mathlib.Core.Option.{Option, none, some}
 use lib.ListN.{length}
-use Rattle.lists.specs.Lists.{if_then_else_, through, cut}
-use Rattle.lists.proofs.Pieces.{beyond, cut-first}
+use Rattle.lists.specs.Lists.{if_then_else_}
+use Rattle.lists.proofs.Pieces.{beyond}
 use Rattle.lists.proofs.Texts.{and-both, if-true, if-false}
 use Rattle.characters.specs.declared.Characters.{Characters}
 use Rattle.refusals.specs.declared.Fault.the-variants.{MisplacedSegment}
@@ -15,7 +15,7 @@ use Rattle.refusals.specs.Refusals.{orElse}
 use Rattle.reading.specs.Tokens.{Token, Segment, ends, segments, start}
 use Rattle.reading.specs.Tokens.{tokensAt}
 use Rattle.scanner.specs.Scan.{segmentAt, Skips}
-use Rattle.scanner.proofs.Segments.{stands, segments-end, segment-start}
+use Rattle.scanner.proofs.Segments.{segments-end, segments-first, segment-start}
 use Rattle.segments.specs.declared.Kind.{Kind}
 use Rattle.segments.specs.declared.Walk.{Walk}
 use Rattle.segments.specs.Tags.{kindOf}
@@ -84,16 +84,6 @@ module _ (c : Characters) (s : List ℕ) where
   abbrev pub goesAt : Walk → ℕ → Ordered
   goesAt walk at = goesOn (length s) walk (segments (tokensAt c s at))
 
-  -- inside the input there is a segment, and what follows it
-  segments-first : (at : ℕ) → at < length s
-      → segments (tokensAt c s at) ≡ segmentAt c s at ∷ segments (beyond (ends 0) (tokensAt c s at))
-  unfolding segments segmentAt
-  segments-first at h =
-      let (t, ts, e, p) = stands c s at h in
-      ap segments e
-      ∙ cut-first (ends 0) t ts
-      ∙ ap (λ (l : List Token). through (ends 0) l ∷ cut (ends 0) (beyond (ends 0) l)) (sym e)
-
   module _ (walk : Walk) (at : ℕ) where
     -- behind the last byte it ends
     pub goes-end : length s ≤ at → goesAt walk at ≡ completed (length s) walk
@@ -108,7 +98,7 @@ module _ (c : Characters) (s : List ℕ) where
           else misplacedAt at)
       unfolding goesOn
       goes-first =
-          ap (goesOn (length s) walk) (segments-first at h)
+          ap (goesOn (length s) walk) (segments-first c s at h)
           ∙ λ i. if allowedBy walk (k′ i)
           then goesOn (length s) (steppedBy walk (k′ i)) (segments (beyond (ends 0) (tokensAt c s at)))
           else misplacedAt (segment-start c s at h i)

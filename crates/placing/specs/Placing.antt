@@ -1,15 +1,14 @@
 -- Where pieces begin and end, over the tokens from left to right. Assumes nothing.
 use Prim.Native.Nat.{ℕ, zero, suc, _≤_}
 use mathlib.Core.Path.{_≡_}
-use mathlib.Core.Bool.{Bool, not}
-use mathlib.Core.List.{List, [], _∷_}
+use mathlib.Core.Bool.{Bool}
+use mathlib.Core.List.{List}
 use lib.ListN.{length}
-use Rattle.lists.specs.Lists.{if_then_else_, isEmpty, through}
 use Rattle.lists.specs.Lists.{beyond}
 use Rattle.characters.specs.declared.Characters.{Characters}
-use Rattle.reading.specs.Tokens.{Token, ends}
-use Rattle.reading.specs.Values.{bytesOf}
+use Rattle.reading.specs.Tokens.{ends}
 use Rattle.reading.specs.Tokens.{tokensAt}
+unfoldable pub use Rattle.elements.specs.Elements.{pieceFrom, holdsByte}
 use Rattle.fields.specs.Reading.{valueEnd}
 
 module _ {A : Type 0} where
@@ -17,16 +16,6 @@ module _ {A : Type 0} where
   unfoldable pub behindPieces : (A → Bool) → ℕ → List A → List A
   behindPieces t zero xs = xs
   behindPieces t (suc k) xs = behindPieces t k (beyond t xs)
-
-  -- what follows that many smaller pieces of the larger piece that the list begins with; nothing where it ends before
-  unfoldable pub pieceFrom : (larger smaller : A → Bool) → ℕ → List A → List A
-  pieceFrom t u zero xs = xs
-  pieceFrom t u (suc k) [] = []
-  pieceFrom t u (suc k) (x ∷ xs) = if t x then [] else if u x then pieceFrom t u k xs else pieceFrom t u (suc k) xs
-
--- a byte of a value stands in what a separator of this kind ends
-unfoldable pub holdsByte : ℕ → List Token → Bool
-holdsByte rank ts = not (isEmpty (bytesOf (through (ends rank) ts)))
 
 module _ (c : Characters) (s : List ℕ) (from : ℕ) where
   -- the place at which the segment of a number begins, of those that begin at a place

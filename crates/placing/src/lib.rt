@@ -5,6 +5,8 @@ ghost use mathlib.Core.Path.{_≡_};
 ghost use Rattle.reading.specs.Tokens.{tokensAt};
 ghost use Rattle.placing.specs.Placing.{SegmentAt, ComponentAt, holdsByte, EndsAt};
 use characters::Characters;
+pub use elements::holds_byte;
+use elements::piece_at;
 use scanner::Lexed;
 use scanner::lex;
 use scanner::segment_end;
@@ -30,63 +32,7 @@ pub fn segment_at(s: &[u8], c: Characters, start: usize, number: usize) -> usize
 pub fn component_at(s: &[u8], c: Characters, from: usize, number: usize) -> usize
     ensures { λ r. ⌜ ComponentAt c (now (s .entry)) from number r ⌝ }
 {
-    let mut at = from;
-    let mut left = number;
-    while 0 < left {
-        match lex(s, c, at) {
-            Lexed::Byte {
-                byte: _,
-                place: _,
-                next,
-            } => {
-                at = next;
-            }
-            Lexed::Separator { kind, next } => {
-                if kind <= 1 {
-                    return s.len();
-                }
-                at = next;
-                left -= 1;
-            }
-            Lexed::Stray { next } => {
-                at = next;
-            }
-            Lexed::End => {
-                return s.len();
-            }
-        }
-    }
-    at
-}
-
-// A byte of a value stands from here on, before a separator of this kind or a lower one.
-pub fn holds_byte(s: &[u8], c: Characters, from: usize, rank: u8) -> bool
-    ensures { λ r. ⌜ r ≡ holdsByte rank (tokensAt c (now (s .entry)) from) ⌝ }
-{
-    let mut at = from;
-    loop {
-        match lex(s, c, at) {
-            Lexed::Byte {
-                byte: _,
-                place: _,
-                next: _,
-            } => {
-                return true;
-            }
-            Lexed::Separator { kind, next } => {
-                if kind <= rank {
-                    return false;
-                }
-                at = next;
-            }
-            Lexed::Stray { next } => {
-                at = next;
-            }
-            Lexed::End => {
-                return false;
-            }
-        }
-    }
+    piece_at(s, c, from, 2, number)
 }
 
 // Where the separator stands that ends the value which begins at `from`.

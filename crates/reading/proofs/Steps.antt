@@ -1,14 +1,13 @@
 -- Reading from a place on, token by token: what stands at a place, and where reading goes on. Assumes nothing.
 use Prim.Native.Nat.{ℕ, zero, suc, _+_, _≤_, _<_}
-use mathlib.Core.Path.{_≡_, refl, sym, ap, _∙_}
+use mathlib.Core.Path.{_≡_, refl, ap, _∙_}
 use mathlib.Core.List.{List, [], _∷_}
 use mathlib.Core.Option.{Option, none, some}
-use native.Mathlib.Numerals.{add-one, add-two}
 use native.Mathlib.Omega.{arith}
 use lib.ListN.{length, getD, drop, drop-of-length-le}
-use lib.Seq.{drop-cons}
 use mathlib.Core.Bool.{true, false}
 use borrow.Author.Tests.{le-leb, lt-leb}
+use Rattle.lists.proofs.Numbers.{drop-next}
 use Rattle.characters.specs.declared.Characters.{Characters}
 use Rattle.characters.specs.declared.Role.{Role}
 use Rattle.characters.specs.declared.Role.the-variants.{Separator, Release, Plain}
@@ -25,38 +24,40 @@ pub ends-no : (kind place : ℕ) {k : ℕ} → kind < k → ends kind (separator
 unfolding ends
 ends-no kind place {k} h = lt-leb k kind h
 
-module _ (c : Characters) (s : List ℕ) where
-  -- what follows the byte at a place
-  drop-next : (at : ℕ) → at < length s → drop at s ≡ getD s at 0 ∷ drop (at + 1) s
-  drop-next at h = drop-cons s at 0 h ∙ ap (λ (n : ℕ). getD s at 0 ∷ drop n s) (sym (add-one at))
+-- the tokens from an unreleased byte on, by the part that it plays
+pub tokens-role : (c : Characters) (place b : ℕ) (more : List ℕ) (o : Role) → role c b ≡ o
+    → tokens c place (b ∷ more) ≡ unreleased o b place (tokensFrom c (releasing o place) (place + 1) more)
+unfolding tokens tokensFrom
+tokens-role c place b more o r = ap (λ (o : Role). unreleased o b place (tokensFrom c (releasing o place) (place + 1) more)) r
 
+module _ (c : Characters) (s : List ℕ) where
   -- at the end there is nothing
   pub at-end : (at : ℕ) → length s ≤ at → tokensAt c s at ≡ []
   unfolding tokensAt tokens tokensFrom
   at-end at h = ap (tokensFrom c none at) (drop-of-length-le s h)
 
+  -- inside the input the byte at a place is read by its part
+  at-role : (at : ℕ) (o : Role) → at < length s → role c (getD s at 0) ≡ o
+      → tokensAt c s at ≡ unreleased o (getD s at 0) at (tokensFrom c (releasing o at) (at + 1) (drop (at + 1) s))
+  unfolding tokensAt
+  at-role at o h r = ap (tokens c at) (drop-next s at h) ∙ tokens-role c at (getD s at 0) (drop (at + 1) s) o r
+
   -- a plain byte is a byte of a value
   pub at-plain : (at : ℕ) → at < length s → role c (getD s at 0) ≡ Plain
       → tokensAt c s at ≡ byte (getD s at 0) at at ∷ tokensAt c s (at + 1)
-  unfolding tokensAt tokens tokensFrom unreleased releasing
-  at-plain at h r =
-      ap (tokensFrom c none at) (drop-next at h)
-      ∙ ap (λ (o : Role). unreleased o (getD s at 0) at (tokensFrom c (releasing o at) (at + 1) (drop (at + 1) s))) r
+  unfolding tokensAt tokens unreleased releasing
+  at-plain at h r = at-role at Plain h r
 
   pub at-separator : (at kind : ℕ) → at < length s → role c (getD s at 0) ≡ Separator kind
       → tokensAt c s at ≡ separator kind at ∷ tokensAt c s (at + 1)
-  unfolding tokensAt tokens tokensFrom unreleased releasing
-  at-separator at kind h r =
-      ap (tokensFrom c none at) (drop-next at h)
-      ∙ ap (λ (o : Role). unreleased o (getD s at 0) at (tokensFrom c (releasing o at) (at + 1) (drop (at + 1) s))) r
+  unfolding tokensAt tokens unreleased releasing
+  at-separator at kind h r = at-role at (Separator kind) h r
 
   -- a release character leaves what follows to the byte behind it
   releases : (at : ℕ) → at < length s → role c (getD s at 0) ≡ Release
       → tokensAt c s at ≡ tokensFrom c (some at) (at + 1) (drop (at + 1) s)
-  unfolding tokensAt tokens tokensFrom unreleased releasing
-  releases at h r =
-      ap (tokensFrom c none at) (drop-next at h)
-      ∙ ap (λ (o : Role). unreleased o (getD s at 0) at (tokensFrom c (releasing o at) (at + 1) (drop (at + 1) s))) r
+  unfolding tokensAt tokens unreleased releasing
+  releases at h r = at-role at Release h r
 
   -- "release followed by .. the end"
   pub at-last-release : (at : ℕ) → at + 1 ≡ length s → role c (getD s at 0) ≡ Release → tokensAt c s at ≡ fault at ∷ []
@@ -67,7 +68,7 @@ module _ (c : Characters) (s : List ℕ) where
   released : (at : ℕ) → at + 1 < length s → role c (getD s at 0) ≡ Release
       → tokensAt c s at ≡ taken (role c (getD s (at + 1) 0)) (getD s (at + 1) 0) at (at + 1) (tokensAt c s (at + 1 + 1))
   unfolding tokensAt tokens tokensFrom
-  released at h r = releases at (omega arith) r ∙ ap (tokensFrom c (some at) (at + 1)) (drop-next (at + 1) h)
+  released at h r = releases at (omega arith) r ∙ ap (tokensFrom c (some at) (at + 1)) (drop-next s (at + 1) h)
 
   -- "release followed by no service character"
   pub at-stray-release : (at : ℕ) → at + 1 < length s → role c (getD s at 0) ≡ Release

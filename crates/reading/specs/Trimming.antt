@@ -23,9 +23,13 @@ module _ {A : Type 0} (isBlank : A → Bool) where
   unfoldable pub trimSegment : List (List A) → List (List A)
   trimSegment segment = trimEnd isIdle (map trimElement segment)
 
+-- a value that was read is empty
+abbrev pub isBlank : Value → Bool
+isBlank v = isEmpty (v .bytes)
+
 -- the trimmed elements of a segment that was read, with the places of their values
 unfoldable pub trimmed : Segment → List (List Value)
-trimmed segment = trimSegment (λ v. isEmpty (v .bytes)) (elementsOf segment)
+trimmed segment = trimSegment isBlank (elementsOf segment)
 
 -- the value by element and component, each from 0; element 0 is the tag
 unfoldable pub valueAt : {A : Type 0} → List (List A) → ℕ → ℕ → Option A

@@ -2,13 +2,14 @@
 use Prim.Native.Nat.{ℕ, _≤_}
 use mathlib.Core.Path.{_≡_, refl, sym, ap, ap₂, subst, _∙_}
 use mathlib.Core.List.{List, [], _∷_, _++_, map, List·Memᴰ, List·Memᴰ·head, List·Memᴰ·tail, List·Memᴰ·not-nil, List·Memᴰ·cases-cons, IsChain, isChain-cons-cons}
-use mathlib.Core.Option.{Option, none, some}
+use mathlib.Core.Option.{Option, none, some, Option·some-ne-none}
 use mathlib.Core.Logic.{⊎-elim, _↔_}
 use native.Mathlib.Omega.{arith}
 use Rattle.lists.proofs.Texts.{if-false}
 use Rattle.refusals.specs.declared.Fault.{Fault}
 use Rattle.refusals.specs.declared.Refusal.{Refusal}
-use Rattle.refusals.specs.Refusals.{Stage, met, isLower, lowerOf, lowest, orElse, answering}
+use Rattle.refusals.specs.declared.Outcome.the-variants.{Passed, Failed}
+use Rattle.refusals.specs.Refusals.{Stage, met, isLower, lowerOf, lowest, orElse, answering, outcome}
 use Rattle.refusals.proofs.Order.{key, not-lower}
 use Rattle.refusals.proofs.Lowest.{lowest-none}
 
@@ -51,6 +52,35 @@ module _ (f : Fault) where
       let chain : (p ≤ q) × IsChain _≤_ (q ∷ ps) = isChain-cons-cons .0 h in
       ap (lowerOf (at p)) (met-rising q ps (chain .1))
       ∙ ap some (if-false (isLower (at q) (at p)) (at q) (at p) (not-lower (at q) (at p) (omega arith)))
+
+-- ---- answers one behind the other
+
+pub orElse-none : (o : Option Refusal) → orElse o none ≡ o
+unfolding orElse
+orElse-none none = refl
+orElse-none (some r) = refl
+
+pub orElse-assoc : (a b c : Option Refusal) → orElse (orElse a b) c ≡ orElse a (orElse b c)
+unfolding orElse
+orElse-assoc none b c = refl
+orElse-assoc (some r) b c = refl
+
+-- there is no answer where neither answers
+pub orElse-neither : (o p : Option Refusal) → orElse o p ≡ none → (o ≡ none) × (p ≡ none)
+unfolding orElse
+orElse-neither none p h = (refl, h)
+orElse-neither (some r) p h = absurd (Option·some-ne-none r h)
+
+-- what a stage comes to tells its answer
+pub failed-is : (o : Option Refusal) (r : Refusal) → outcome o ≡ Failed r → o ≡ some r
+unfolding outcome
+failed-is none r e = cc
+failed-is (some q) r e = cc
+
+pub passed-is : (o : Option Refusal) → outcome o ≡ Passed → o ≡ none
+unfolding outcome
+passed-is none e = refl
+passed-is (some q) e = cc
 
 pub answering-append : (xs ys : List Stage) → answering (xs ++ ys) ≡ orElse (answering xs) (answering ys)
 unfolding answering orElse

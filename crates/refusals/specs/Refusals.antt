@@ -65,6 +65,10 @@ unfoldable pub outcome : Option Refusal → Outcome
 outcome none = Passed
 outcome (some r) = Failed r
 
+-- what a stage with this refusal comes to
+abbrev pub failedAt : Fault → ℕ → Outcome
+failedAt fault place = Failed (record { fault = fault; place = place })
+
 -- the place, where the refusal is met
 unfoldable pub placeIf : Bool → ℕ → List ℕ
 placeIf t p = if t then p ∷ [] else []

@@ -36,15 +36,17 @@ module _ (c : Characters) (s : List ℕ) (at : ℕ) where
   segments-end h = ap segments (at-end c s at h)
 
   -- elsewhere there is one, and what follows it
-  pub segments-next : (next : ℕ) → at < length s → Skips (ends 0) c s at next
-      → segments (tokensAt c s at) ≡ segmentAt c s at ∷ segments (tokensAt c s next)
+  pub segments-first : at < length s → segments (tokensAt c s at) ≡ segmentAt c s at ∷ segments (beyond (ends 0) (tokensAt c s at))
   unfolding segments segmentAt
-  segments-next next h k =
+  segments-first h =
       let (t, ts, e, p) = stands h in
       ap segments e
       ∙ cut-first (ends 0) t ts
       ∙ ap (λ (l : List Token). through (ends 0) l ∷ cut (ends 0) (beyond (ends 0) l)) (sym e)
-      ∙ ap (λ (l : List Token). through (ends 0) (tokensAt c s at) ∷ cut (ends 0) l) (sym (k .0))
+
+  pub segments-next : (next : ℕ) → at < length s → Skips (ends 0) c s at next
+      → segments (tokensAt c s at) ≡ segmentAt c s at ∷ segments (tokensAt c s next)
+  segments-next next h k = segments-first h ∙ ap (λ (l : List Token). segmentAt c s at ∷ segments l) (sym (k .0))
 
   -- it begins at this place
   pub segment-start : at < length s → start (segmentAt c s at) ≡ at

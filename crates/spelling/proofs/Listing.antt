@@ -24,7 +24,7 @@ pushed false f (x ∷ xs) = f x ∷ xs
 
 module _ {A B : Type 0} (t : A → Bool) (f : List B → List B) (x : A) (xs : List A) where
   -- the pieces as g makes them, where one more in front of a piece is f done to what g makes of it
-  cut-pushed : (g : List A → List B) → g [] ≡ [] → ((piece : List A) → g (x ∷ piece) ≡ f (g piece))
+  pub cut-pushed : (g : List A → List B) → g [] ≡ [] → ((piece : List A) → g (x ∷ piece) ≡ f (g piece))
       → map g (cut t (x ∷ xs)) ≡ pushed (t x) f (map g (cut t xs))
   unfolding cut onto
   cut-pushed g e h = step (t x) (cut t xs)

@@ -16,6 +16,7 @@ use Rattle.characters.specs.Characters.{role, released, isService, usable}
 use Rattle.reading.specs.Tokens.{Token, byte, separator, ends, segments, unreleased, releasing, taken, tokensFrom, tokens}
 use Rattle.reading.specs.Values.{byteOf, isFault, endedBy, endsInside}
 use Rattle.reading.specs.Spelling.{Bytes, SegmentList, spellByte}
+use Rattle.reading.proofs.Steps.{tokens-role}
 use Rattle.spelling.specs.Bodies.{listed, Sound, Passes}
 use Rattle.spelling.proofs.Service.{serves, Part, terminates, endsElement, endsComponent, releases, plain, part, service-serves, role-terminator, role-element, role-component, role-release}
 use Rattle.spelling.proofs.Listing.{push, listed-next}
@@ -65,12 +66,6 @@ module _ (c : Characters) where
         ∙ ap₂ (λ (us : List Token) (n : ℕ). us ++ tokens c n more) (sym (step rest)) (omega (arith, length-append first rest));
     holds = rw (step rest) (hold-next t (tokens c (place + length first) rest) list list′ f e grow (r .holds));
   }
-
-  -- the tokens from an unreleased byte on, by the part that it plays
-  tokens-role : (place b : ℕ) (more : Bytes) (o : Role) → role c b ≡ o
-      → tokens c place (b ∷ more) ≡ unreleased o b place (tokensFrom c (releasing o place) (place + 1) more)
-  unfolding tokens tokensFrom
-  tokens-role place b more o r = ap (λ (o : Role). unreleased o b place (tokensFrom c (releasing o place) (place + 1) more)) r
 
   -- a service character behind a release character is a byte of a value
   serving : (o : Role) (b from place : ℕ) (rest : List Token) → serves o ≡ true → taken o b from place rest ≡ byte b from place ∷ rest

@@ -12,6 +12,7 @@ use Rattle.lists.proofs.Pieces.{beyond, beyond-hit, beyond-miss}
 use Rattle.characters.specs.declared.Characters.{Characters}
 use Rattle.reading.specs.Tokens.{Token, ends}
 use Rattle.reading.specs.Values.{byteOf, bytesOf, endedBy}
+use Rattle.reading.proofs.Ends.{ended-behind}
 use Rattle.reading.proofs.Steps.{tokensAt, ends-yes}
 use Rattle.scanner.specs.declared.Lexed.the-variants.{Byte, Separator, Stray, End}
 use Rattle.scanner.proofs.Lexing.{Lexes}
@@ -30,12 +31,6 @@ module _ {A : Type 0} (t : A → Bool) where
   pub through-miss : {x : A} {xs rest : List A} → xs ≡ x ∷ rest → t x ≡ false → through t xs ≡ x ∷ through t rest
   unfolding through
   through-miss {x} {xs} {rest} e h = ap (through t) e ∙ ap (λ (l : List A). x ∷ l) (if-false (t x) [] (through t rest) h)
-
--- a token that ends nothing leaves it to the tokens behind it
-pub ended-behind : (kind : ℕ) (t : Token) (ts : List Token) → ends kind t ≡ false → endedBy kind (t ∷ ts) ≡ endedBy kind ts
-unfolding endedBy lastOr
-ended-behind kind t [] h = h
-ended-behind kind t (u ∷ us) h = refl
 
 -- a token that ends nothing is part of the value, and the rest of the value follows it
 module _ {ts us : List Token} {t : Token} (e : ts ≡ t ∷ us) (n : (kind : ℕ) → ends kind t ≡ false) where

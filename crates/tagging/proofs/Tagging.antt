@@ -1,18 +1,19 @@
 -- Tags by their bytes, and the tag of the segment that begins at a place. Assumes nothing.
 use Prim.Native.Nat.{ℕ}
 use mathlib.Core.Path.{_≡_, refl, sym, ap, ap₂, _∙_}
-use mathlib.Core.Bool.{Bool, true, false, false≢true}
+use mathlib.Core.Bool.{Bool, false}
 use mathlib.Core.List.{List, [], _∷_}
 use native.Mathlib.Omega.{arith}
 use lib.ListN.{length}
 use lib.Dec.{leb, lit≤}
-use borrow.Author.Tests.{ne-eqb, leb-true, le-leb}
-use Rattle.lists.specs.Lists.{if_then_else_, text, same, through}
-use Rattle.lists.proofs.Texts.{same-eq}
+use borrow.Author.Tests.{ne-eqb}
+use Rattle.lists.specs.Lists.{text}
+use Rattle.lists.proofs.Texts.{same-length}
 use Rattle.characters.specs.declared.Characters.{Characters}
-use Rattle.reading.specs.Tokens.{Token, byte, separator, fault, ends}
+use Rattle.reading.specs.Tokens.{Token}
 use Rattle.reading.specs.Values.{bytesOf, endedBy}
 use Rattle.reading.specs.Tokens.{tokensAt}
+use Rattle.reading.proofs.Ends.{through-ends}
 use Rattle.segments.specs.declared.Kind.the-variants.{User}
 use Rattle.segments.specs.Kinds.{kindNamed}
 use Rattle.segments.specs.Tags.{tagPiece, tagOf, kindOf, isTag, tagRule}
@@ -26,14 +27,6 @@ use Rattle.tagging.specs.Naming.{wellNamed}
 -- three bytes that are known name what the known ones name
 pub named-as : {x y z a b c : ℕ} → x ≡ a → y ≡ b → z ≡ c → kindNamed (a ∷ b ∷ c ∷ []) ≡ kindNamed (x ∷ y ∷ z ∷ [])
 named-as p q r = cc
-
--- lists of different lengths are not the same
-same-length : (xs ys : List ℕ) → (length xs ≡ length ys → ⊥) → same xs ys ≡ false
-same-length xs ys h = step (same xs ys) refl
-  where
-    step : (t : Bool) → same xs ys ≡ t → t ≡ false
-    step true e = absurd (h (ap length (same-eq xs ys e)))
-    step false e = refl
 
 -- a tag that is not three bytes long names no service segment
 pub named-user : (tag : List ℕ) → (length tag ≡ 3 → ⊥) → User ≡ kindNamed tag
@@ -82,30 +75,10 @@ four-bytes (a ∷ b ∷ d ∷ e ∷ f ∷ v) h = absurd (omega arith)
 
 -- ---- the tag of a segment is the value that begins with it
 
--- what ends the longer piece ends the shorter one, so the shorter one is not cut
-through-through : {A : Type 0} (t u : A → Bool) → ((x : A) → t x ≡ true → u x ≡ true) → (xs : List A)
-    → through u (through t xs) ≡ through u xs
-unfolding through
-through-through t u h [] = refl
-through-through t u h (x ∷ xs) = step (t x) (u x) (h x) (through-through t u h xs)
-  where
-    step : (a b : Bool) → (a ≡ true → b ≡ true) → through u (through t xs) ≡ through u xs
-        → x ∷ (if b then [] else through u (if a then [] else through t xs)) ≡ x ∷ (if b then [] else through u xs)
-    step a true k ih = refl
-    step true false k ih = absurd (false≢true (k refl))
-    step false false k ih = ap (λ (l : List _). x ∷ l) ih
-
--- a terminator ends values too
-ends-value : (t : Token) → ends 0 t ≡ true → ends 2 t ≡ true
-unfolding ends
-ends-value (byte b from place) h = absurd (false≢true h)
-ends-value (separator kind place) h = le-leb kind 2 (omega (arith, leb-true kind 0 h))
-ends-value (fault place) h = absurd (false≢true h)
-
 module _ (c : Characters) (s : List ℕ) (at : ℕ) where
   pub tag-piece : tagPiece (segmentAt c s at) ≡ pieceAt c s at
   unfolding tagPiece segmentAt
-  tag-piece = through-through (ends 0) (ends 2) ends-value (tokensAt c s at)
+  tag-piece = through-ends 0 2 (lit≤ tt) (tokensAt c s at)
 
   pub kind-of-tag : kindNamed (valueAt c s at) ≡ kindOf (segmentAt c s at)
   unfolding kindOf tagOf

@@ -13,6 +13,7 @@ use Rattle.lists.proofs.Texts.{and-left, and-right}
 use Rattle.reading.specs.Tokens.{Token, byte, separator, fault, ends, segments}
 use Rattle.reading.specs.Values.{byteOf, bytesOf, endedBy, endsInside}
 use Rattle.reading.specs.Trimming.{contentsOf}
+use Rattle.reading.proofs.Ends.{ended-next}
 use Rattle.reading.specs.Spelling.{Bytes, SegmentList, spellByte, spellValue, spellElement, spellSegment, spell}
 use Rattle.operations.specs.ValueList.{Item, listElement, listSegment, listOf, listBytes, tableFrom, listTable}
 use Rattle.spelling.specs.Bodies.{shapedSegment, Shaped}
@@ -122,28 +123,22 @@ marks-hold kind k (suc count) text bytes h l =
 byte-holds : (b : ℕ) (text bytes : List ℕ) → Holds text bytes → Holds (spellByte marks b ++ text) (b ∷ bytes)
 byte-holds b text bytes h l = ap listBytes (byte-item l b text) ∙ h (itemGrow b l) ∙ append-assoc (l .value) (b ∷ []) bytes
 
--- where a token does not end the last segment, those behind it do
-ended-next : (t : Token) (ts : List Token) → ends 0 t ≡ false → endedBy 0 (t ∷ ts) ≡ true → endedBy 0 ts ≡ true
-unfolding endedBy lastOr
-ended-next t [] f h = sym f ∙ h
-ended-next t (y ∷ ys) f h = h
-
 tokens-hold : (ts : List Token) → endedBy 0 ts ≡ true → all known ts ≡ true → (e k : ℕ) → Holds (emitted marks e k ts) (bytesOf ts)
 unfolding emitted marks ends endedBy lastOr all known bytesOf byteOf gather itemsFrom readMarks listBytes
 tokens-hold [] h a e k = absurd (false≢true h)
 tokens-hold (byte b from place ∷ ts) h a e k =
-    let value = byte-holds b (emitted marks 0 0 ts) (bytesOf ts) (tokens-hold ts (ended-next (byte b from place) ts refl h) a 0 0) in
+    let value = byte-holds b (emitted marks 0 0 ts) (bytesOf ts) (tokens-hold ts (ended-next 0 (byte b from place) ts refl h) a 0 0) in
     let text = spellByte marks b ++ emitted marks 0 0 ts in
     marks-hold 1 refl e (replicate k 2 ++ text) (b ∷ bytesOf ts) (marks-hold 2 refl k text (b ∷ bytesOf ts) value)
 tokens-hold (separator zero place ∷ []) h a e k = λ l. refl
 tokens-hold (separator zero place ∷ t ∷ ts) h a e k =
     λ l. ap (λ (bs : Bytes). l .value ++ bs) (tokens-hold (t ∷ ts) h a 0 0 (item 0 []))
-tokens-hold (separator (suc zero) place ∷ ts) h a e k = tokens-hold ts (ended-next (separator 1 place) ts refl h) a (e + 1) 0
-tokens-hold (separator (suc (suc zero)) place ∷ ts) h a e k = tokens-hold ts (ended-next (separator 2 place) ts refl h) a e (k + 1)
+tokens-hold (separator (suc zero) place ∷ ts) h a e k = tokens-hold ts (ended-next 0 (separator 1 place) ts refl h) a (e + 1) 0
+tokens-hold (separator (suc (suc zero)) place ∷ ts) h a e k = tokens-hold ts (ended-next 0 (separator 2 place) ts refl h) a e (k + 1)
 tokens-hold (separator (suc (suc (suc n))) place ∷ ts) h a e k =
     let low : suc (suc (suc n)) ≤ 2 = leb-true (suc (suc (suc n))) 2 (and-left (leb (suc (suc (suc n))) 2) (all known ts) a) in
     absurd (omega arith)
-tokens-hold (fault place ∷ ts) h a e k = tokens-hold ts (ended-next (fault place) ts refl h) a e k
+tokens-hold (fault place ∷ ts) h a e k = tokens-hold ts (ended-next 0 (fault place) ts refl h) a e k
 
 -- the bytes of the contents' values are the value bytes of the tokens
 pub contents-bytes : (ts : List Token) → endsInside ts ≡ false → all known ts ≡ true → Shaped (map contentsOf (segments ts))

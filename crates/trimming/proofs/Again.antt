@@ -3,7 +3,7 @@ use mathlib.Core.Path.{_≡_, refl, sym, ap, ap₂, _∙_}
 use mathlib.Core.Bool.{Bool, true, not}
 use mathlib.Core.List.{List, [], _∷_, map}
 use Rattle.lists.specs.Lists.{isEmpty, all, trimEnd}
-use Rattle.lists.proofs.Texts.{and-left, and-right, and-both, all-append}
+use Rattle.lists.proofs.Texts.{and-left, and-right, and-both, all-append, all-map}
 use Rattle.lists.proofs.Ends.{trimEnd-again, trimEnd-map}
 use Rattle.reading.specs.Trimming.{trimElement, isIdle, trimSegment}
 use Rattle.reading.specs.Spelling.{Bytes, SegmentList}
@@ -60,14 +60,6 @@ trimmed-some : {A : Type 0} {t : A → Bool} {xs ys : List A} → Trimmed t xs y
 unfolding isEmpty
 trimmed-some nothing = refl
 trimmed-some (behindFirst x s) = refl
-
--- what holds of each value of a map holds of all that the map gives
-all-map : {A B : Type 0} (f : A → B) (p : A → Bool) (q : B → Bool) → ((x : A) → p x ≡ true → q (f x) ≡ true)
-    → (xs : List A) → all p xs ≡ true → all q (map f xs) ≡ true
-unfolding all
-all-map f p q h [] k = refl
-all-map f p q h (x ∷ xs) k =
-    and-both (q (f x)) (all q (map f xs)) (h x (and-left (p x) (all p xs) k)) (all-map f p q h xs (and-right (p x) (all p xs) k))
 
 element-shaped : (element : List Bytes) → not (isEmpty element) ≡ true → not (isEmpty (trimElement isEmpty element)) ≡ true
 element-shaped element h = ap not (trimmed-some (trimElement-trimmed isEmpty element)) ∙ h

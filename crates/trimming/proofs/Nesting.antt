@@ -2,37 +2,23 @@
 -- none is above 2 they are those of some list of segments. Assumes nothing.
 use Prim.Native.Nat.{ℕ, zero, suc}
 use mathlib.Core.Path.{_≡_, refl, sym, ap, _∙_, subst}
-use mathlib.Core.Bool.{Bool, true, false, not, false≢true}
+use mathlib.Core.Bool.{Bool, true, not, false≢true}
 use mathlib.Core.List.{List, [], _∷_, _++_, map, append-assoc}
 use lib.Dec.{leb}
 use borrow.Author.Tests.{leb-true}
 use native.Mathlib.Omega.{arith}
-use Rattle.lists.specs.Lists.{isEmpty, all, onto, cut, gather}
+use Rattle.lists.specs.Lists.{isEmpty, all, cut, gather}
 use Rattle.lists.proofs.Texts.{and-left, and-right}
 use Rattle.reading.specs.Spelling.{Bytes, SegmentList}
 use Rattle.operations.specs.ValueList.{Item, listElement, listSegment, listOf, closed, closes, segmentsListed}
 use Rattle.spelling.specs.Bodies.{shapedSegment, Shaped}
-use Rattle.spelling.proofs.Listing.{pushed}
+use Rattle.spelling.proofs.Listing.{pushed, cut-pushed}
 use Rattle.trimming.specs.Kinds.{firstKind, kindsUpTo2, Kinds}
 
 abbrev item : ℕ → Bytes → Item
 item kind value = record { kind = kind; value = value }
 
 -- ---- one value more
-
--- the pieces as g makes them, where one more in front of a piece is f done to what g makes of it
-cut-pushed : {A B : Type 0} (t : A → Bool) (f : List B → List B) (x : A) (xs : List A) (g : List A → List B) → g [] ≡ []
-    → ((piece : List A) → g (x ∷ piece) ≡ f (g piece)) → map g (cut t (x ∷ xs)) ≡ pushed (t x) f (map g (cut t xs))
-unfolding cut onto
-cut-pushed {A} {B} t f x xs g e h = step (t x) (cut t xs)
-  where
-    alone : g (x ∷ []) ≡ f []
-    alone = h [] ∙ ap f e
-
-    step : (b : Bool) (pieces : List (List A)) → map g (onto b x pieces) ≡ pushed b f (map g pieces)
-    step true pieces = ap (λ (y : List B). y ∷ map g pieces) alone
-    step false [] = ap (λ (y : List B). y ∷ []) alone
-    step false (piece ∷ pieces) = ap (λ (y : List B). y ∷ map g pieces) (h piece)
 
 -- what a value adds to the list that goes on behind it, by the kind of what follows it
 abbrev put : ℕ → Bytes → SegmentList → SegmentList

@@ -21,7 +21,8 @@ use Rattle.scanner.specs.declared.Scanned.{Scanned}
 use Rattle.scanner.specs.declared.Scanned.the-variants.{Ended, Stray, Unended}
 use Rattle.scanner.specs.Scan.{Scanning, ended, stray, unended, scanned, Scans, segmentAt}
 use Rattle.scanner.proofs.Segments.{stands, segments-end, segment-start}
-use Rattle.tagging.proofs.Reading.{through-hit, through-miss, ended-behind}
+use Rattle.reading.proofs.Ends.{ended-behind}
+use Rattle.tagging.proofs.Reading.{through-hit, through-miss}
 
 -- ---- how the first segment ends
 

@@ -4,20 +4,14 @@ ghost use mathlib.Core.Path.{_≡_};
 ghost use lib.ListN.{length};
 ghost use Rattle.refusals.specs.Refusals.{outcome};
 ghost use Rattle.reading.specs.Tokens.{tokensAt};
-ghost use Rattle.machines.specs.Walks.{worded, refuse};
+ghost use Rattle.machines.specs.Walks.{worded};
 use characters::Characters;
 use refusals::Fault;
 use refusals::Outcome;
-use refusals::Refusal;
+use refusals::failed;
 use scanner::Scanned;
 use scanner::scan;
 use tagging::tag_holds;
-
-fn failed(fault: Fault, place: usize) -> Outcome
-    ensures { λ r. ⌜ r ≡ outcome (refuse fault place) ⌝ }
-{
-    Outcome::Failed(Refusal { fault, place })
-}
 
 // The first refusal of 4, 5 and 6 from `start` on: in each segment a stray release character first,
 // then a missing terminator, then its tag.

@@ -1,92 +1,22 @@
--- `fields::blank_at` meets its contract. The loop's invariant: the element is blank from the start if it is from `at`. What is left of
--- the input falls. Assumes nothing.
-use Prim.Native.Nat.{_-_}
-use mathlib.Core.Path.{_≡_, refl, sym, _∙_}
-use native.Mathlib.Omega.{arith}
-use lib.ListN.{length}
+-- `fields::blank_at` meets its contract: no byte stands where it is not so that one does. Assumes nothing.
+use mathlib.Core.Path.{_≡_, refl, ap, _∙_}
+use mathlib.Core.Bool.{Bool, true, false, not}
 use borrow.Author.Needs.{needs}
-use Rattle.reading.specs.Tokens.{tokensAt}
-use Rattle.scanner.proofs.Lexing.{lexes-as}
+use Rattle.elements.specs.Elements.{holdsByte}
 use Rattle.fields.specs.Fields.{blankIn}
-use Rattle.fields.proofs.Steps.{blank-byte, blank-over, blank-component, blank-stray, blank-end}
 use Rattle.fields.proofs.blank_at.Statement.{statement}
 use Rattle.fields.proofs.blank_at.Tie as tie
 
-abbrev Inv-loop : tie.InvT-loop
-Inv-loop s c from at₀ at = blankIn (tokensAt c s from) ≡ blankIn (tokensAt c s at)
+not-not : (b : Bool) → not (not b) ≡ b
+not-not true = refl
+not-not false = refl
 
-abbrev μ-loop : tie.MeasureT-loop
-μ-loop s c from at₀ at = length s - at
+holds-byte-requires : tie.Need-holds-byte-requires
+holds-byte-requires c κs = search needs
 
-loop-holds : tie.Need-loop-holds Inv-loop μ-loop
-loop-holds c = refl
-
-lex-requires : tie.Need-lex-requires Inv-loop μ-loop
-lex-requires c κs = search needs
-
-enum-told : tie.Need-enum-told Inv-loop μ-loop
-enum-told c = search needs
-
-returns : tie.Need-returns Inv-loop μ-loop
-returns c =
-    let l = lexes-as _ _ _ (c .before .before .lex .ensures) (c .enum-told .given .1) in
-    sym (c .before .before .before .loop .inv ∙ blank-byte _ _ _ l)
-
-enum-known-kind : tie.Need-enum-known-kind Inv-loop μ-loop
-enum-known-kind c = search needs
-
-returns-2 : tie.Need-returns-2 Inv-loop μ-loop
-returns-2 c =
-    let l = lexes-as _ _ _ (c .before .before .before .before .lex .ensures) (c .before .before .kind .given .1) in
-    sym (c .before .before .before .before .before .loop .inv ∙ blank-over _ _ _ l (c .if1 .taken))
-
-loop-less : tie.Need-loop-less Inv-loop μ-loop
-loop-less c =
-    let l = lexes-as _ _ _ (c .before .before .before .before .lex .ensures) (c .before .before .kind .given .1) in
-    omega arith
-
-loop-again : tie.Need-loop-again Inv-loop μ-loop
-loop-again c =
-    let l = lexes-as _ _ _ (c .before .before .before .before .lex .ensures) (c .before .before .kind .given .1) in
-    c .before .before .before .before .before .loop .inv ∙ blank-component _ _ _ l (c .if1 .left)
-
-enum-known-next : tie.Need-enum-known-next Inv-loop μ-loop
-enum-known-next c = search needs
-
-loop-less-2 : tie.Need-loop-less-2 Inv-loop μ-loop
-loop-less-2 c =
-    let l = lexes-as _ _ _ (c .before .before .before .lex .ensures) (c .before .next .given .1) in
-    omega arith
-
-loop-again-2 : tie.Need-loop-again-2 Inv-loop μ-loop
-loop-again-2 c =
-    let l = lexes-as _ _ _ (c .before .before .before .lex .ensures) (c .before .next .given .1) in
-    c .before .before .before .before .loop .inv ∙ blank-stray _ _ _ l
-
-enum-told-2 : tie.Need-enum-told-2 Inv-loop μ-loop
-enum-told-2 c = search needs
-
-returns-3 : tie.Need-returns-3 Inv-loop μ-loop
-returns-3 c =
-    let l = lexes-as _ _ _ (c .before .before .lex .ensures) (c .enum-told2 .given .1) in
-    sym (c .before .before .before .loop .inv ∙ blank-end _ _ _ l)
+returns : tie.Need-returns
+unfolding blankIn holdsByte
+returns c = ap not (c .holds-byte .ensures) ∙ not-not _
 
 pub blank-at-spec : {M : Type 1} → statement M
-blank-at-spec =
-    tie.close
-    (tie.spec
-    Inv-loop
-    μ-loop
-    loop-holds
-    lex-requires
-    enum-told
-    returns
-    enum-known-kind
-    returns-2
-    loop-less
-    loop-again
-    enum-known-next
-    loop-less-2
-    loop-again-2
-    enum-told-2
-    returns-3)
+blank-at-spec = tie.close (tie.spec holds-byte-requires returns)

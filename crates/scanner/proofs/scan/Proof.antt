@@ -28,34 +28,34 @@ enum-known-next : tie.Need-enum-known-next Inv-loop μ-loop
 enum-known-next c = search needs
 
 loop-less : tie.Need-loop-less Inv-loop μ-loop
-loop-less c = let l = lexes-as (c .before .before .before .before .before .before .args .c) (c .before .before .before .before .before .before .args .s .now) (c .before .before .before .before .loop .at) (c .before .before .before .lex .ensures) (c .before .next .given .1) in omega arith
+loop-less c = let l = lexes-as _ _ _ (c .before .before .before .lex .ensures) (c .before .next .given .1) in omega arith
 
 loop-again : tie.Need-loop-again Inv-loop μ-loop
-loop-again c = let l = lexes-as (c .before .before .before .before .before .before .args .c) (c .before .before .before .before .before .before .args .s .now) (c .before .before .before .before .loop .at) (c .before .before .before .lex .ensures) (c .before .next .given .1) in (omega arith, c .before .before .before .before .loop .inv .1 ∙ scan-byte _ _ _ l)
+loop-again c = let l = lexes-as _ _ _ (c .before .before .before .lex .ensures) (c .before .next .given .1) in (omega arith, c .before .before .before .before .loop .inv .1 ∙ scan-byte _ _ _ l)
 
 enum-known-kind : tie.Need-enum-known-kind Inv-loop μ-loop
 enum-known-kind c = search needs
 
 returns : tie.Need-returns Inv-loop μ-loop
-returns c = let l = lexes-as (c .before .before .before .before .before .before .before .args .c) (c .before .before .before .before .before .before .before .args .s .now) (c .before .before .before .before .before .loop .at) (c .before .before .before .before .lex .ensures) (c .before .before .kind .given .1) in (c .before .before .before .before .before .loop .inv .1 ∙ scan-terminator _ _ _ l (c .if1 .taken), omega arith, omega arith)
+returns c = let l = lexes-as _ _ _ (c .before .before .before .before .lex .ensures) (c .before .before .kind .given .1) in (c .before .before .before .before .before .loop .inv .1 ∙ scan-terminator _ _ _ l (c .if1 .taken), omega arith, omega arith)
 
 loop-less-2 : tie.Need-loop-less-2 Inv-loop μ-loop
-loop-less-2 c = let l = lexes-as (c .before .before .before .before .before .before .before .args .c) (c .before .before .before .before .before .before .before .args .s .now) (c .before .before .before .before .before .loop .at) (c .before .before .before .before .lex .ensures) (c .before .before .kind .given .1) in omega arith
+loop-less-2 c = let l = lexes-as _ _ _ (c .before .before .before .before .lex .ensures) (c .before .before .kind .given .1) in omega arith
 
 loop-again-2 : tie.Need-loop-again-2 Inv-loop μ-loop
-loop-again-2 c = let l = lexes-as (c .before .before .before .before .before .before .before .args .c) (c .before .before .before .before .before .before .before .args .s .now) (c .before .before .before .before .before .loop .at) (c .before .before .before .before .lex .ensures) (c .before .before .kind .given .1) in (omega arith, c .before .before .before .before .before .loop .inv .1 ∙ scan-separator _ _ _ l (c .if1 .left))
+loop-again-2 c = let l = lexes-as _ _ _ (c .before .before .before .before .lex .ensures) (c .before .before .kind .given .1) in (omega arith, c .before .before .before .before .before .loop .inv .1 ∙ scan-separator _ _ _ l (c .if1 .left))
 
 enum-told : tie.Need-enum-told Inv-loop μ-loop
 enum-told c = search needs
 
 returns-2 : tie.Need-returns-2 Inv-loop μ-loop
-returns-2 c = c .before .before .before .loop .inv .1 ∙ scan-stray _ _ _ (lexes-as (c .before .before .before .before .before .args .c) (c .before .before .before .before .before .args .s .now) (c .before .before .before .loop .at) (c .before .before .lex .ensures) (c .enum-told .given .1))
+returns-2 c = c .before .before .before .loop .inv .1 ∙ scan-stray _ _ _ (lexes-as _ _ _ (c .before .before .lex .ensures) (c .enum-told .given .1))
 
 enum-told-2 : tie.Need-enum-told-2 Inv-loop μ-loop
 enum-told-2 c = search needs
 
 returns-3 : tie.Need-returns-3 Inv-loop μ-loop
-returns-3 c = c .before .before .before .loop .inv .1 ∙ scan-end _ _ _ (lexes-as (c .before .before .before .before .before .args .c) (c .before .before .before .before .before .args .s .now) (c .before .before .before .loop .at) (c .before .before .lex .ensures) (c .enum-told2 .given .1))
+returns-3 c = c .before .before .before .loop .inv .1 ∙ scan-end _ _ _ (lexes-as _ _ _ (c .before .before .lex .ensures) (c .enum-told2 .given .1))
 
 pub scan-spec : {M : Type 1} → statement M
 scan-spec =

@@ -30,12 +30,12 @@ enum-known-next : tie.Need-enum-known-next Inv-loop μ-loop
 enum-known-next c = search needs
 
 loop-less : tie.Need-loop-less Inv-loop μ-loop
-loop-less c = let l = lexes-as (c .before .before .before .before .before .before .args .c) (c .before .before .before .before .before .before .args .s .now) (c .before .before .before .before .loop .at) (c .before .before .before .lex .ensures) (c .before .next .given .1) in omega arith
+loop-less c = let l = lexes-as _ _ _ (c .before .before .before .lex .ensures) (c .before .next .given .1) in omega arith
 
 loop-again : tie.Need-loop-again Inv-loop μ-loop
 unfolding ends
 loop-again c =
-    let l = lexes-as (c .before .before .before .before .before .before .args .c) (c .before .before .before .before .before .before .args .s .now) (c .before .before .before .before .loop .at) (c .before .before .before .lex .ensures) (c .before .next .given .1) in
+    let l = lexes-as _ _ _ (c .before .before .before .lex .ensures) (c .before .next .given .1) in
     (omega arith, c .before .before .before .before .loop .inv .1 ∙ beyond-miss (ends 0) (l .0) refl, λ h. omega arith)
 
 enum-known-kind : tie.Need-enum-known-kind Inv-loop μ-loop
@@ -43,7 +43,7 @@ enum-known-kind c = search needs
 
 returns : tie.Need-returns Inv-loop μ-loop
 returns c =
-    let l = lexes-as (c .before .before .before .before .before .before .before .args .c) (c .before .before .before .before .before .before .before .args .s .now) (c .before .before .before .before .before .loop .at) (c .before .before .before .before .lex .ensures) (c .before .before .kind .given .1) in (
+    let l = lexes-as _ _ _ (c .before .before .before .before .lex .ensures) (c .before .before .kind .given .1) in (
       sym (c .before .before .before .before .before .loop .inv .1 ∙ beyond-hit (ends 0) (l .0) (ends-yes 0 _ (le-of-eq (c .if1 .taken)))),
       omega arith,
       λ h. omega arith,
@@ -51,23 +51,23 @@ returns c =
     )
 
 loop-less-2 : tie.Need-loop-less-2 Inv-loop μ-loop
-loop-less-2 c = let l = lexes-as (c .before .before .before .before .before .before .before .args .c) (c .before .before .before .before .before .before .before .args .s .now) (c .before .before .before .before .before .loop .at) (c .before .before .before .before .lex .ensures) (c .before .before .kind .given .1) in omega arith
+loop-less-2 c = let l = lexes-as _ _ _ (c .before .before .before .before .lex .ensures) (c .before .before .kind .given .1) in omega arith
 
 loop-again-2 : tie.Need-loop-again-2 Inv-loop μ-loop
 loop-again-2 c =
-    let l = lexes-as (c .before .before .before .before .before .before .before .args .c) (c .before .before .before .before .before .before .before .args .s .now) (c .before .before .before .before .before .loop .at) (c .before .before .before .before .lex .ensures) (c .before .before .kind .given .1) in
+    let l = lexes-as _ _ _ (c .before .before .before .before .lex .ensures) (c .before .before .kind .given .1) in
     (omega arith, c .before .before .before .before .before .loop .inv .1 ∙ beyond-miss (ends 0) (l .0) (ends-no 0 _ (pos-of-ne-zero (c .if1 .left))), λ h. omega arith)
 
 enum-known-next-2 : tie.Need-enum-known-next-2 Inv-loop μ-loop
 enum-known-next-2 c = search needs
 
 loop-less-3 : tie.Need-loop-less-3 Inv-loop μ-loop
-loop-less-3 c = let l = lexes-as (c .before .before .before .before .before .before .args .c) (c .before .before .before .before .before .before .args .s .now) (c .before .before .before .before .loop .at) (c .before .before .before .lex .ensures) (c .before .next2 .given .1) in omega arith
+loop-less-3 c = let l = lexes-as _ _ _ (c .before .before .before .lex .ensures) (c .before .next2 .given .1) in omega arith
 
 loop-again-3 : tie.Need-loop-again-3 Inv-loop μ-loop
 unfolding ends
 loop-again-3 c =
-    let l = lexes-as (c .before .before .before .before .before .before .args .c) (c .before .before .before .before .before .before .args .s .now) (c .before .before .before .before .loop .at) (c .before .before .before .lex .ensures) (c .before .next2 .given .1) in
+    let l = lexes-as _ _ _ (c .before .before .before .lex .ensures) (c .before .next2 .given .1) in
     (omega arith, c .before .before .before .before .loop .inv .1 ∙ beyond-miss (ends 0) (l .0) refl, λ h. omega arith)
 
 enum-told : tie.Need-enum-told Inv-loop μ-loop
@@ -76,7 +76,7 @@ enum-told c = search needs
 returns-2 : tie.Need-returns-2 Inv-loop μ-loop
 unfolding beyond
 returns-2 c =
-    let l = lexes-as (c .before .before .before .before .before .args .c) (c .before .before .before .before .before .args .s .now) (c .before .before .before .loop .at) (c .before .before .lex .ensures) (c .enum-told .given .1) in
+    let l = lexes-as _ _ _ (c .before .before .lex .ensures) (c .enum-told .given .1) in
     (sym (c .before .before .before .loop .inv .1 ∙ ap (beyond (ends 0)) (l .0) ∙ sym (l .0)), omega arith, λ h. omega arith, λ h. c .before .before .before .loop .inv .2 h)
 
 pub segment-end-past-spec : {M : Type 1} → statement M

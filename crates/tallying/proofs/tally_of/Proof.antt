@@ -38,11 +38,11 @@ with-byte-requires : tie.Need-with-byte-requires Inv-loop μ-loop
 with-byte-requires c κs = let t = c .before .before .before .before .loop .inv in let short = c .before .before .before .before .before .before .before .pre in omega arith
 
 loop-less : tie.Need-loop-less Inv-loop μ-loop
-loop-less c = let l = lexes-as (c .before .before .before .before .before .before .before .before .args .c) (c .before .before .before .before .before .before .before .before .args .s .now) (c .before .before .before .before .before .loop .at) (c .before .before .before .before .lex .ensures) (c .before .before .next .given .1) in omega arith
+loop-less c = let l = lexes-as _ _ _ (c .before .before .before .before .lex .ensures) (c .before .before .next .given .1) in omega arith
 
 loop-again : tie.Need-loop-again Inv-loop μ-loop
 loop-again c =
-    let l = lexes-as (c .before .before .before .before .before .before .before .before .args .c) (c .before .before .before .before .before .before .before .before .args .s .now) (c .before .before .before .before .before .loop .at) (c .before .before .before .before .lex .ensures) (c .before .before .next .given .1) in
+    let l = lexes-as _ _ _ (c .before .before .before .before .lex .ensures) (c .before .before .next .given .1) in
     tallied-byte (c .before .before .before .before .before .loop .l) (c .before .before .before .before .before .loop .inv) (omega arith) (l .0) (c .with-byte .ensures)
 
 enum-known-kind : tie.Need-enum-known-kind Inv-loop μ-loop
@@ -52,22 +52,22 @@ with-separator-requires : tie.Need-with-separator-requires Inv-loop μ-loop
 with-separator-requires c κs = let t = c .before .before .before .before .loop .inv in let short = c .before .before .before .before .before .before .before .pre in omega arith
 
 loop-less-2 : tie.Need-loop-less-2 Inv-loop μ-loop
-loop-less-2 c = let l = lexes-as (c .before .before .before .before .before .before .before .before .args .c) (c .before .before .before .before .before .before .before .before .args .s .now) (c .before .before .before .before .before .loop .at) (c .before .before .before .before .lex .ensures) (c .before .before .kind .given .1) in omega arith
+loop-less-2 c = let l = lexes-as _ _ _ (c .before .before .before .before .lex .ensures) (c .before .before .kind .given .1) in omega arith
 
 loop-again-2 : tie.Need-loop-again-2 Inv-loop μ-loop
 loop-again-2 c =
-    let l = lexes-as (c .before .before .before .before .before .before .before .before .args .c) (c .before .before .before .before .before .before .before .before .args .s .now) (c .before .before .before .before .before .loop .at) (c .before .before .before .before .lex .ensures) (c .before .before .kind .given .1) in
+    let l = lexes-as _ _ _ (c .before .before .before .before .lex .ensures) (c .before .before .kind .given .1) in
     tallied-separator (c .before .before .before .before .before .loop .l) (c .before .before .before .before .before .loop .inv) (omega arith) (l .0) (c .with-separator .ensures)
 
 enum-known-next-2 : tie.Need-enum-known-next-2 Inv-loop μ-loop
 enum-known-next-2 c = search needs
 
 loop-less-3 : tie.Need-loop-less-3 Inv-loop μ-loop
-loop-less-3 c = let l = lexes-as (c .before .before .before .before .before .before .before .args .c) (c .before .before .before .before .before .before .before .args .s .now) (c .before .before .before .before .loop .at) (c .before .before .before .lex .ensures) (c .before .next2 .given .1) in omega arith
+loop-less-3 c = let l = lexes-as _ _ _ (c .before .before .before .lex .ensures) (c .before .next2 .given .1) in omega arith
 
 loop-again-3 : tie.Need-loop-again-3 Inv-loop μ-loop
 loop-again-3 c =
-    let l = lexes-as (c .before .before .before .before .before .before .before .args .c) (c .before .before .before .before .before .before .before .args .s .now) (c .before .before .before .before .loop .at) (c .before .before .before .lex .ensures) (c .before .next2 .given .1) in
+    let l = lexes-as _ _ _ (c .before .before .before .lex .ensures) (c .before .next2 .given .1) in
     tallied-fault (c .before .before .before .before .loop .l) (c .before .before .before .before .loop .inv) (omega arith) (l .0)
 
 enum-told : tie.Need-enum-told Inv-loop μ-loop
@@ -81,7 +81,7 @@ mul-t12 c = let t = c .before .before .before .before .before .loop .inv in let 
 
 returns : tie.Need-returns Inv-loop μ-loop
 returns c =
-    let l = lexes-as (c .before .before .before .before .before .before .before .before .args .c) (c .before .before .before .before .before .before .before .before .args .s .now) (c .before .before .before .before .before .loop .at) (c .before .before .before .before .lex .ensures) (c .before .before .enum-told .given .1) in
+    let l = lexes-as _ _ _ (c .before .before .before .before .lex .ensures) (c .before .before .enum-told .given .1) in
     tallied-end (c .before .before .before .before .before .loop .l) (c .before .before .before .before .before .loop .inv) (l .0)
 
 pub tally-of-spec : {M : Type 1} → statement M

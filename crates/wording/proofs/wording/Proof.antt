@@ -36,6 +36,7 @@ failed-requires : tie.Need-failed-requires Inv-loop μ-loop
 failed-requires c κs = search needs
 
 returns : tie.Need-returns Inv-loop μ-loop
+unfolding outcome
 returns c =
     let h = scans-as _ _ _ (c .before .before .before .before .before .before .scan .ensures) (c .before .before .before .before .next .given .1) in
     c .failed .ensures
@@ -60,6 +61,7 @@ failed-requires-2 : tie.Need-failed-requires-2 Inv-loop μ-loop
 failed-requires-2 c κs = search needs
 
 returns-2 : tie.Need-returns-2 Inv-loop μ-loop
+unfolding outcome
 returns-2 c =
     let h = scans-as _ _ _ (c .before .before .before .before .scan .ensures) (c .before .before .place .given .1) in
     c .failed2 .ensures
@@ -72,6 +74,7 @@ failed-requires-3 : tie.Need-failed-requires-3 Inv-loop μ-loop
 failed-requires-3 c κs = search needs
 
 returns-3 : tie.Need-returns-3 Inv-loop μ-loop
+unfolding outcome
 returns-3 c =
     let h = scans-as _ _ _ (c .before .before .before .scan .ensures) (c .before .enum-told .given .1) in
     c .failed3 .ensures

@@ -1,4 +1,4 @@
--- `placing::holds_byte` meets its contract. The loop's invariant: a byte stands from the start on if one does from `at` on. What is
+-- `elements::holds_byte` meets its contract. The loop's invariant: a byte stands from the start on if one does from `at` on. What is
 -- left of the input falls. Assumes nothing.
 use Prim.Native.Nat.{_-_}
 use mathlib.Core.Path.{_≡_, refl, sym, _∙_}
@@ -8,10 +8,10 @@ use borrow.Author.Needs.{needs}
 use borrow.Author.Tests.{le-leb, lt-leb}
 use Rattle.reading.specs.Tokens.{tokensAt}
 use Rattle.scanner.proofs.Lexing.{lexes-as}
-use Rattle.placing.specs.Placing.{holdsByte}
-use Rattle.placing.proofs.Placing.{holds-byte, holds-over, holds-separator, holds-stray, holds-end}
-use Rattle.placing.proofs.holds_byte.Statement.{statement}
-use Rattle.placing.proofs.holds_byte.Tie as tie
+use Rattle.elements.specs.Elements.{holdsByte}
+use Rattle.elements.proofs.Elements.{holds-byte, holds-over, holds-separator, holds-stray, holds-end}
+use Rattle.elements.proofs.holds_byte.Statement.{statement}
+use Rattle.elements.proofs.holds_byte.Tie as tie
 
 abbrev Inv-loop : tie.InvT-loop
 Inv-loop s c from rank at₀ at = holdsByte rank (tokensAt c s from) ≡ holdsByte rank (tokensAt c s at)
