@@ -1,28 +1,18 @@
 -- All that is demanded holds. Assumes nothing.
-use Prim.Native.Nat.{ℕ, _≤_}
+use Prim.Native.Nat.{ℕ}
 use mathlib.Core.Path.{_≡_, refl, sym, ap, ap₂, _∙_}
 use mathlib.Core.Logic.{_↔_}
 use mathlib.Core.Bool.{true}
 use mathlib.Core.List.{List, [], _∷_, _++_, map}
 use mathlib.Core.Option.{Option, none, some}
-use lib.ListN.{length, drop}
-use lib.Dec.{ltb}
-use borrow.Author.Tests.{le-ltb}
 use Rattle.lists.specs.Lists.{if_then_else_, maybe}
-use Rattle.lists.proofs.Texts.{if-false}
 use Rattle.characters.specs.Characters.{usable, adviceOf, charactersOf, bodyStart, body}
-use Rattle.refusals.specs.declared.Fault.the-variants.{BufferShort}
 use Rattle.refusals.specs.declared.Refusal.{Refusal}
-use Rattle.refusals.specs.Refusals.{lowest, orElse, answering}
-use Rattle.refusals.proofs.Stages.{answering-append}
 use Rattle.reading.specs.Spelling.{spell}
 use Rattle.verdict.specs.Contents.{bodyTokens, segmentsOf, contents, interchange, normalForm}
 use Rattle.verdict.specs.Places.{strayReleases, unendedSegment}
-use Rattle.verdict.specs.Stages.{stages, refusalOf}
-use Rattle.machines.specs.Walks.{refuse}
-use Rattle.machines.proofs.Rows.{lowest-if, orElse-none}
-use Rattle.answers.specs.Answers.{given, refused, refusedInput}
-use Rattle.operations.specs.Judge.{shortFor, storedIn, unlessRefused, normaliseRefusal, normalise, normaliseBuffer}
+use Rattle.verdict.specs.Stages.{refusalOf}
+use Rattle.answers.specs.Answers.{given, refusedInput}
 use Rattle.operations.specs.Compare.{areSame, compare}
 use Rattle.operations.specs.ValueList.{trimList}
 use Rattle.spelling.specs.Bodies.{Spelled, wordsOf, listed, readList}
@@ -43,8 +33,10 @@ use Rattle.acceptance.proofs.Tags.{tags-clear}
 use Rattle.acceptance.proofs.Acceptance.{allowed-exactly, list-read}
 use Rattle.acceptance.proofs.Fakes.{x-allowed, empty-not-allowed}
 use Rattle.acceptance.proofs.Same.{compared-same, compared-different, same-self, same-back, same-on, keep-same, keep-other}
+use Rattle.trips.proofs.Written.{read-refused, write-refused}
 use Rattle.trips.proofs.Theorems.{written-back, read-back, located-contents, located-named, part-spelled}
 use Rattle.demands.specs.Demands.{Demands}
+use Rattle.demands.proofs.Buffers.{normalises, normalise-refused, form-short, judged-first, reads-exactly, reads, bytes-short, table-short, writes-exactly, writes, rewrites}
 
 -- an input's body passes exactly where 4 and 5 are not met
 four-and-five : (s : List ℕ) → usable (charactersOf s) ≡ true
@@ -63,34 +55,6 @@ contents-are s a = contents-read s ∙ ap trimList (sym (list-read s a))
 form-is : (s : List ℕ) → normalForm s ≡ adviceOf (formCharacters s) ++ spell (formCharacters s) (contents s)
 unfolding normalForm interchange
 form-is s = refl
-
-module _ (buffer s : List ℕ) where
-  from-refusal : (o : Option Refusal) → normaliseRefusal buffer s ≡ o
-      → (normalise buffer s ≡ maybe (given (length (normalForm s) ∷ [])) refused o)
-      × (normaliseBuffer buffer s ≡ unlessRefused o (storedIn buffer (normalForm s)) buffer)
-  unfolding normalise normaliseBuffer
-  from-refusal o e = (
-    ap (maybe (given (length (normalForm s) ∷ [])) refused) e,
-    ap (λ (p : Option Refusal). unlessRefused p (storedIn buffer (normalForm s)) buffer) e,
-  )
-
-  normalise-refused : {r : Refusal} → normaliseRefusal buffer s ≡ some r
-      → (normalise buffer s ≡ refused r) × (normaliseBuffer buffer s ≡ buffer)
-  unfolding maybe unlessRefused
-  normalise-refused {r} e = from-refusal (some r) e
-
-  normalises : refusalOf s ≡ none → length (normalForm s) ≤ length buffer
-      → (normalise buffer s ≡ given (length (normalForm s) ∷ []))
-      × (normaliseBuffer buffer s ≡ normalForm s ++ drop (length (normalForm s)) buffer)
-  unfolding maybe unlessRefused storedIn normaliseRefusal refusalOf answering shortFor orElse
-  normalises h fits =
-      from-refusal none
-      (answering-append (stages s) (shortFor (normalForm s) buffer ∷ [])
-      ∙ ap (λ (o : Option Refusal). orElse o (answering (shortFor (normalForm s) buffer ∷ []))) h
-      ∙ orElse-none (lowest (shortFor (normalForm s) buffer))
-      ∙ lowest-if BufferShort (ltb (length buffer) (length (normalForm s))) (length (normalForm s))
-      ∙ if-false (ltb (length buffer) (length (normalForm s))) (refuse BufferShort (length (normalForm s))) none
-      (le-ltb (length buffer) (length (normalForm s)) fits))
 
 module _ (a b : List ℕ) where
   same-contents : Same a b ↔ (Allowed a × Allowed b × (contents a ≡ contents b) × (markOf a ≡ markOf b))
@@ -150,10 +114,21 @@ demands =
       form-is = form-is;
       normalises = normalises;
       normalise-refused = normalise-refused;
+      form-short = form-short;
       cut-back = cut-forms;
       one-way = file-unique;
+      judged-first = judged-first;
+      reads-exactly = reads-exactly;
+      reads = reads;
+      read-refused = read-refused;
+      bytes-short = bytes-short;
+      table-short = table-short;
+      writes-exactly = writes-exactly;
+      writes = writes;
+      write-refused = write-refused;
       write-read = written-back;
       read-write = read-back;
+      rewrites = rewrites;
       locates = located-contents;
       names = located-named;
       hands-back = part-spelled;

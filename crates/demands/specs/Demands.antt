@@ -5,11 +5,12 @@ use mathlib.Core.Logic.{_↔_, _⊎_, ⊎-elim}
 use mathlib.Core.Bool.{true}
 use mathlib.Core.List.{List, [], _∷_, _++_, map, List·Memᴰ}
 use mathlib.Core.Option.{none, some, Option·map}
-use lib.ListN.{length, drop}
+use lib.ListN.{length, drop, replicate}
 use Rattle.lists.specs.Lists.{maybe}
 use Rattle.characters.specs.declared.Characters.{Characters}
 use Rattle.characters.specs.Characters.{usable, adviceOf, charactersOf, body}
 use Rattle.refusals.specs.declared.Fault.{Fault}
+use Rattle.refusals.specs.declared.Fault.the-variants.{BufferShort}
 use Rattle.refusals.specs.declared.Refusal.{Refusal}
 use Rattle.refusals.specs.Refusals.{number}
 use Rattle.reading.specs.Tokens.{Segment}
@@ -23,8 +24,8 @@ use Rattle.answers.specs.Answers.{given, refused, refusedInput}
 use Rattle.operations.specs.Judge.{judge, normaliseRefusal, normalise, normaliseBuffer}
 use Rattle.operations.specs.Compare.{compare, keep, ofFirst, ofSecond}
 use Rattle.operations.specs.Locate.{located, part}
-use Rattle.operations.specs.Read.{read, valueBytes, valueTable}
-use Rattle.operations.specs.Write.{write, writtenText}
+use Rattle.operations.specs.Read.{valueBytes, valueTable, readRefusal, read, readBytes, readTable}
+use Rattle.operations.specs.Write.{badList, unusableBytes, needsRelease, writtenText, writeRefusal, write, writeOutput}
 use Rattle.cases.specs.Cases.{x}
 use Rattle.operations.specs.ValueList.{trimList}
 use Rattle.spelling.specs.Bodies.{Passes, Spelled, Shaped, Releasable, wordsOf, readList}
@@ -36,7 +37,7 @@ use Rattle.acceptance.specs.Allowed.{Opening, Tagged, Allowed}
 use Rattle.acceptance.specs.Counts.{told}
 use Rattle.acceptance.specs.Refused.{Refused}
 use Rattle.acceptance.specs.Same.{Same}
-use Rattle.trips.specs.Trips.{standingAt, WrittenBack, ReadBack, Named}
+use Rattle.trips.specs.Trips.{standingAt, WrittenBack, Rewritable, ReadBack, Named}
 
 pub record Demands : Type 0 where
   -- ---- 1. Reading and spelling, under usable characters
@@ -109,6 +110,9 @@ pub record Demands : Type 0 where
   pub normalises : (buffer s : List ℕ) → refusalOf s ≡ none → length (normalForm s) ≤ length buffer
       → (normalise buffer s ≡ given (length (normalForm s) ∷ []))
       × (normaliseBuffer buffer s ≡ normalForm s ++ drop (length (normalForm s)) buffer)
+  -- it is refused by 14 alone where the input is accepted, at the length that is needed
+  pub form-short : (buffer s : List ℕ) → refusalOf s ≡ none → length buffer < length (normalForm s)
+      → normaliseRefusal buffer s ≡ some (record { fault = BufferShort; place = length (normalForm s) })
   -- where it is refused, the buffer is unchanged
   pub normalise-refused : (buffer s : List ℕ) {r : Refusal} → normaliseRefusal buffer s ≡ some r
       → (normalise buffer s ≡ refused r) × (normaliseBuffer buffer s ≡ buffer)
@@ -118,15 +122,58 @@ pub record Demands : Type 0 where
   pub cut-back : (forms : List (List ℕ)) → NormalForms forms → cutForms (endToEnd forms) ≡ forms
   pub one-way : (forms others : List (List ℕ)) → NormalForms forms → NormalForms others → endToEnd forms ≡ endToEnd others
       → forms ≡ others
-  -- ---- 7. Round trips
+  -- ---- 7. Read and Write, and round trips
 
+  -- "every operation but Write judges its input first": what refuses the input is what Normalise and Read are refused by
+  pub judged-first : (buffer table s : List ℕ) {r : Refusal} → refusalOf s ≡ some r
+      → (normaliseRefusal buffer s ≡ some r) × (readRefusal buffer table s ≡ some r)
+  -- Read is refused for nothing but its input and a lent buffer that is too short
+  pub reads-exactly : (buffer table s : List ℕ)
+      → (read buffer table s .number ≡ 0)
+      ↔ (Allowed s × (length (valueBytes s) ≤ length buffer) × (length (valueTable s) ≤ length table))
+  -- it then stores the value list of the contents, and "The rest of both buffers keeps its values."
+  pub reads : (buffer table s : List ℕ) → refusalOf s ≡ none → length (valueBytes s) ≤ length buffer
+      → length (valueTable s) ≤ length table
+      → (read buffer table s ≡ given (length (valueBytes s) ∷ length (valueTable s) ∷ []))
+      × (readBytes buffer table s ≡ valueBytes s ++ drop (length (valueBytes s)) buffer)
+      × (readTable buffer table s ≡ valueTable s ++ drop (length (valueTable s)) table)
+  -- where it is refused, both buffers are unchanged
+  pub read-refused : (buffer table s : List ℕ) {r : Refusal} → readRefusal buffer table s ≡ some r
+      → (read buffer table s ≡ refused r) × (readBytes buffer table s ≡ buffer) × (readTable buffer table s ≡ table)
+  -- "Read: byte buffer before table": whatever the table is, a byte buffer that is too short answers; the table where it alone is
+  pub bytes-short : (buffer table s : List ℕ) → refusalOf s ≡ none → length buffer < length (valueBytes s)
+      → readRefusal buffer table s ≡ some (record { fault = BufferShort; place = length (valueBytes s) })
+  pub table-short : (buffer table s : List ℕ) → refusalOf s ≡ none → length (valueBytes s) ≤ length buffer
+      → length table < length (valueTable s)
+      → readRefusal buffer table s ≡ some (record { fault = BufferShort; place = length (valueTable s) })
+  -- Write is refused for nothing but 15, 2 and 16, a text that is no interchange that the rules allow (1, 3 to 13), and 14
+  pub writes-exactly : (service bytes table output : List ℕ)
+      → let text = writtenText service bytes table in
+      (write service bytes table output .number ≡ 0)
+      ↔ ((badList bytes table ≡ [])
+      × (unusableBytes service ≡ [])
+      × (needsRelease service bytes table ≡ [])
+      × Allowed text
+      × (length text ≤ length output))
+  -- it then stores the text, and "The bytes beyond the text keep their values."
+  pub writes : (service bytes table output : List ℕ) → write service bytes table output .number ≡ 0
+      → let text = writtenText service bytes table in
+      (write service bytes table output ≡ given (length text ∷ []))
+      × (writeOutput service bytes table output ≡ text ++ drop (length text) output)
+  -- "A refused Write leaves its whole output buffer zero"
+  pub write-refused : (service bytes table output : List ℕ) {r : Refusal} → writeRefusal service bytes table output ≡ some r
+      → (write service bytes table output ≡ refused r) × (writeOutput service bytes table output ≡ replicate (length output) 0)
   -- where Write isn't refused, its text is accepted and Read gives the list back with its empty ends trimmed
   pub write-read : (service bytes table output : List ℕ) → write service bytes table output .number ≡ 0
       → WrittenBack service bytes table output (writtenText service bytes table)
-  -- Read then Write gives an interchange with the same contents
+  -- Read then Write gives an interchange with the same contents, where neither is refused
   pub read-write : (s buffer numbers service output : List ℕ) → read buffer numbers s .number ≡ 0
       → write service (valueBytes s) (valueTable s) output .number ≡ 0
       → ReadBack s buffer numbers service (writtenText service (valueBytes s) (valueTable s))
+  -- what Read gives for an accepted input can be written exactly with six usable bytes that can spell it, where the text has at most
+  -- 32,000 bytes and the output has room for it
+  pub rewrites : (s service output : List ℕ) → refusalOf s ≡ none
+      → (write service (valueBytes s) (valueTable s) output .number ≡ 0) ↔ Rewritable s service output
   -- what Locate finds at a position is what stands there in the contents
   pub locates : (s : List ℕ) (segment element component : ℕ)
       → standingAt (contents s) segment element component ≡ Option·map (λ v. v .bytes) (located s segment element component)

@@ -14,7 +14,7 @@ use Rattle.reading.specs.Trimming.{trimmed, contentsOf}
 use Rattle.reading.specs.Spelling.{SegmentList, spellValue}
 use Rattle.verdict.specs.Contents.{bodyTokens, segmentsOf, contents, interchange}
 use Rattle.verdict.specs.Stages.{refusalOf}
-use Rattle.answers.specs.Answers.{given, refused, accepted}
+use Rattle.answers.specs.Answers.{refused, accepted}
 use Rattle.operations.specs.Judge.{interchangeOf, judge}
 use Rattle.operations.specs.Compare.{areSame, compare}
 use Rattle.operations.specs.Read.{valueBytes, valueTable, readRefusal, read}
@@ -28,7 +28,7 @@ use Rattle.forms.proofs.Normal.{accepted-usable, accepted-passes}
 use Rattle.forms.proofs.Theorems.{same-exactly}
 use Rattle.trips.specs.Trips.{listGiven, standingAt, WrittenBack, Rewritable, ReadBack, Named}
 use Rattle.trips.proofs.Values.{kinds-sound}
-use Rattle.trips.proofs.Written.{write-passed, text-accepted, text-contents, text-characters, text-stored, list-read, list-sound, list-releasable, list-text, six-usable, short-enough, later-none, read-accepted, read-passes, bytes-stand, table-stands}
+use Rattle.trips.proofs.Written.{write-passed, text-accepted, text-contents, text-characters, text-stored, list-read, list-sound, list-releasable, list-text, six-usable, short-enough, later-none, read-accepted, read-passes, read-given, bytes-stand, table-stands}
 use Rattle.trips.proofs.Positions.{standing-map, every-standing}
 use Rattle.trips.proofs.Places.{named-body}
 use Rattle.trips.proofs.Respelled.{respelled-accepted}
@@ -64,7 +64,7 @@ module _ (service bytes table output : List ℕ) (h : writeRefusal service bytes
 -- Whoever gets the number 0 from Write can rely on this.
 pub written-back : (service bytes table output : List ℕ) → write service bytes table output .number ≡ 0
     → WrittenBack service bytes table output (writtenText service bytes table)
-unfolding write read valueBytes valueTable listGiven maybe
+unfolding write valueBytes valueTable listGiven maybe
 written-back service bytes table output n =
     let text : List ℕ = writtenText service bytes table in
     let h = unrefused (length text ∷ []) (writeRefusal service bytes table output) n in
@@ -77,9 +77,7 @@ written-back service bytes table output n =
       same-contents = back;
       bytes-back = ap (λ (list : SegmentList). listBytes (listOf list)) back;
       table-back = ap (λ (list : SegmentList). listTable (listOf list)) back;
-      reads = λ buffer numbers b t.
-          ap (maybe (given (length (valueBytes text) ∷ length (valueTable text) ∷ [])) refused)
-          (read-passes buffer numbers text passes b t);
+      reads = λ buffer numbers b t. read-given buffer numbers text (read-passes buffer numbers text passes b t);
     }
 
 -- ---- Read, then Write

@@ -2,14 +2,15 @@
 use Prim.Native.Nat.{ℕ, _≤_}
 use mathlib.Core.Path.{_≡_, refl, sym, ap, ap₂, subst, _∙_}
 use mathlib.Core.Bool.{Bool, true, _&&_}
-use mathlib.Core.List.{List, [], _∷_}
+use mathlib.Core.List.{List, [], _∷_, _++_}
 use mathlib.Core.Option.{Option, none, some, Option·some-ne-none}
 use mathlib.Core.Logic.{_↔_}
 use native.Mathlib.Omega.{arith}
-use lib.ListN.{length, take, drop, length-append}
+use lib.ListN.{length, take, drop, replicate, length-append}
 use lib.Seq.{take-append-seam}
 use lib.Dec.{eqb, ltb}
 use borrow.Author.Tests.{ltb-false, le-ltb, eqb-true, eq-eqb}
+use Rattle.lists.specs.Lists.{maybe}
 use Rattle.lists.proofs.Texts.{and-left, and-right, and-both}
 use Rattle.characters.specs.declared.Characters.{Characters}
 use Rattle.characters.specs.Characters.{usable, sixBytes, released, charactersOf, adviceOf, badAdvice}
@@ -22,10 +23,11 @@ use Rattle.reading.specs.Spelling.{Bytes, SegmentList, spell}
 use Rattle.verdict.specs.Contents.{contents, interchange, normalCharacters, normalForm}
 use Rattle.verdict.specs.Places.{isOver, tooLong, unusableAdvice, normalTooLong}
 use Rattle.verdict.specs.Stages.{laterStages, stages, refusalOf}
+use Rattle.answers.specs.Answers.{given, refused}
 use Rattle.operations.specs.Judge.{shortFor, storedIn, unlessRefused}
-use Rattle.operations.specs.Read.{valueBytes, valueTable, readRefusal, readBytes, readTable}
+use Rattle.operations.specs.Read.{valueBytes, valueTable, readRefusal, read, readBytes, readTable}
 use Rattle.operations.specs.ValueList.{Item, listOf, listBytes, listTable, listedIn, segmentsListed, trimList}
-use Rattle.operations.specs.Write.{badList, unusableBytes, needsRelease, writtenText, writeRefusal, writeOutput}
+use Rattle.operations.specs.Write.{badList, unusableBytes, needsRelease, writtenText, writeRefusal, write, writeOutput}
 use Rattle.spelling.specs.Bodies.{Shaped, Releasable}
 use Rattle.spelling.proofs.Grammar.{spells-list}
 use Rattle.trimming.specs.Kinds.{Kinds}
@@ -192,10 +194,30 @@ module _ (service bytes table output : List ℕ) where
   unfolding writtenText interchange
   text-characters = advice-characters (sixBytes service) (spell (sixBytes service) (trimList (segmentsListed (listedIn bytes table))))
 
-  -- it stands in the front of the output buffer
+  -- what is answered and left in the output buffer, by what is refused
+  write-by : (o : Option Refusal) → writeRefusal service bytes table output ≡ o
+      → (write service bytes table output ≡ maybe (given (length t ∷ [])) refused o)
+      × (writeOutput service bytes table output ≡ unlessRefused o (storedIn output t) (replicate (length output) 0))
+  unfolding write writeOutput
+  write-by o e = (
+    ap (maybe (given (length t ∷ [])) refused) e,
+    ap (λ (p : Option Refusal). unlessRefused p (storedIn output t) (replicate (length output) 0)) e,
+  )
+
+  pub write-refused : {r : Refusal} → writeRefusal service bytes table output ≡ some r
+      → (write service bytes table output ≡ refused r) × (writeOutput service bytes table output ≡ replicate (length output) 0)
+  unfolding maybe unlessRefused
+  write-refused {r} e = write-by (some r) e
+
+  pub write-given : writeRefusal service bytes table output ≡ none
+      → (write service bytes table output ≡ given (length t ∷ []))
+      × (writeOutput service bytes table output ≡ t ++ drop (length t) output)
+  unfolding maybe unlessRefused storedIn
+  write-given h = write-by none h
+
+  -- the text stands in the front of the output buffer
   pub text-stored : writeRefusal service bytes table output ≡ none → take (length t) (writeOutput service bytes table output) ≡ t
-  unfolding writeOutput unlessRefused storedIn
-  text-stored h = rw h (take-append-seam t (drop (length t) output))
+  text-stored h = ap (take (length t)) (write-given h .1) ∙ take-append-seam t (drop (length t) output)
 
 -- ---- the value list of an accepted input
 
@@ -264,11 +286,45 @@ module _ (buffer numbers s : List ℕ) where
       (room (valueBytes s) buffer .1 b)
       (none-first (shortFor (valueTable s) numbers) [] (room (valueTable s) numbers .1 n) refl))
 
+  -- one that is not refused had room for both parts of the value list
+  pub read-fits : readRefusal buffer numbers s ≡ none → (length (valueBytes s) ≤ length buffer) × (length (valueTable s) ≤ length numbers)
+  unfolding readRefusal
+  read-fits h =
+      let last : List Stage = shortFor (valueBytes s) buffer ∷ shortFor (valueTable s) numbers ∷ [] in
+      let rest = orElse-none (answering (stages s)) (answering last) (sym (answering-append (stages s) last) ∙ h) .1 in
+      let b = first-none (shortFor (valueBytes s) buffer) (shortFor (valueTable s) numbers ∷ []) rest in
+      let n = first-none (shortFor (valueTable s) numbers) [] (b .1) in
+      (room (valueBytes s) buffer .0 (b .0), room (valueTable s) numbers .0 (n .0))
+
+  -- what it answers and leaves in both buffers, by what is refused
+  read-by : (o : Option Refusal) → readRefusal buffer numbers s ≡ o
+      → (read buffer numbers s ≡ maybe (given (length (valueBytes s) ∷ length (valueTable s) ∷ [])) refused o)
+      × (readBytes buffer numbers s ≡ unlessRefused o (storedIn buffer (valueBytes s)) buffer)
+      × (readTable buffer numbers s ≡ unlessRefused o (storedIn numbers (valueTable s)) numbers)
+  unfolding read readBytes readTable
+  read-by o e = (
+    ap (maybe (given (length (valueBytes s) ∷ length (valueTable s) ∷ [])) refused) e,
+    ap (λ (p : Option Refusal). unlessRefused p (storedIn buffer (valueBytes s)) buffer) e,
+    ap (λ (p : Option Refusal). unlessRefused p (storedIn numbers (valueTable s)) numbers) e,
+  )
+
+  pub read-refused : {r : Refusal} → readRefusal buffer numbers s ≡ some r
+      → (read buffer numbers s ≡ refused r) × (readBytes buffer numbers s ≡ buffer) × (readTable buffer numbers s ≡ numbers)
+  unfolding maybe unlessRefused
+  read-refused {r} e = read-by (some r) e
+
+  pub read-given : readRefusal buffer numbers s ≡ none
+      → (read buffer numbers s ≡ given (length (valueBytes s) ∷ length (valueTable s) ∷ []))
+      × (readBytes buffer numbers s ≡ valueBytes s ++ drop (length (valueBytes s)) buffer)
+      × (readTable buffer numbers s ≡ valueTable s ++ drop (length (valueTable s)) numbers)
+  unfolding maybe unlessRefused storedIn
+  read-given h = read-by none h
+
   -- the value list stands in the fronts of the buffers
   pub bytes-stand : readRefusal buffer numbers s ≡ none → take (length (valueBytes s)) (readBytes buffer numbers s) ≡ valueBytes s
-  unfolding readBytes unlessRefused storedIn
-  bytes-stand h = rw h (take-append-seam (valueBytes s) (drop (length (valueBytes s)) buffer))
+  bytes-stand h =
+      ap (take (length (valueBytes s))) (read-given h .1) ∙ take-append-seam (valueBytes s) (drop (length (valueBytes s)) buffer)
 
   pub table-stands : readRefusal buffer numbers s ≡ none → take (length (valueTable s)) (readTable buffer numbers s) ≡ valueTable s
-  unfolding readTable unlessRefused storedIn
-  table-stands h = rw h (take-append-seam (valueTable s) (drop (length (valueTable s)) numbers))
+  table-stands h =
+      ap (take (length (valueTable s))) (read-given h .2) ∙ take-append-seam (valueTable s) (drop (length (valueTable s)) numbers)

@@ -2,7 +2,7 @@
 use Prim.Native.Nat.{ℕ, _≤_}
 use mathlib.Core.Path.{_≡_}
 use mathlib.Core.Bool.{true}
-use mathlib.Core.List.{List, [], _∷_}
+use mathlib.Core.List.{List, [], _∷_, _++_}
 use mathlib.Core.Option.{Option, none}
 use lib.ListN.{length, take, drop}
 use Rattle.lists.specs.Lists.{at, maybe}
@@ -39,7 +39,9 @@ pub record WrittenBack (service bytes table output : List ℕ) (text : List ℕ)
   pub bytes-back : valueBytes text ≡ listBytes (listOf (listGiven bytes table))
   pub table-back : valueTable text ≡ listTable (listOf (listGiven bytes table))
   pub reads : (buffer numbers : List ℕ) → length (valueBytes text) ≤ length buffer → length (valueTable text) ≤ length numbers
-      → read buffer numbers text ≡ given (length (valueBytes text) ∷ length (valueTable text) ∷ [])
+      → (read buffer numbers text ≡ given (length (valueBytes text) ∷ length (valueTable text) ∷ []))
+      × (readBytes buffer numbers text ≡ valueBytes text ++ drop (length (valueBytes text)) buffer)
+      × (readTable buffer numbers text ≡ valueTable text ++ drop (length (valueTable text)) numbers)
 
 -- What lets Write take what Read gave for s: six usable bytes that can spell the contents, a text of 32,000 bytes at most, and
 -- room for it.
