@@ -33,10 +33,12 @@ use Rattle.acceptance.proofs.Tags.{tags-clear}
 use Rattle.acceptance.proofs.Acceptance.{allowed-exactly, list-read}
 use Rattle.acceptance.proofs.Fakes.{x-allowed, empty-not-allowed}
 use Rattle.acceptance.proofs.Same.{compared-same, compared-different, same-self, same-back, same-on, keep-same, keep-other}
+use Rattle.trips.proofs.Placed.{one-placed}
 use Rattle.trips.proofs.Written.{read-refused, write-refused}
-use Rattle.trips.proofs.Theorems.{written-back, read-back, located-contents, located-named, part-spelled}
+use Rattle.trips.proofs.Theorems.{written-back, read-back, located-contents, located-placed, located-named, part-spelled}
 use Rattle.demands.specs.Demands.{Demands}
 use Rattle.demands.proofs.Buffers.{normalises, normalise-refused, form-short, judged-first, reads-exactly, reads, bytes-short, table-short, writes-exactly, writes, rewrites}
+use Rattle.demands.proofs.Located.{locate-refused, locate-absent, locate-found, part-is, part-none}
 
 -- an input's body passes exactly where 4 and 5 are not met
 four-and-five : (s : List ℕ) → usable (charactersOf s) ≡ true
@@ -130,7 +132,14 @@ demands =
       read-write = read-back;
       rewrites = rewrites;
       locates = located-contents;
+      stands = located-placed;
+      one-place = one-placed;
       names = located-named;
+      locate-refused = locate-refused;
+      locate-absent = locate-absent;
+      locate-found = locate-found;
+      part-is = part-is;
+      part-none = part-none;
       hands-back = part-spelled;
       compares = compared-same;
       same-contents = same-contents;

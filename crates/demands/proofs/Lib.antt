@@ -1,3 +1,4 @@
 pub mod Buffers
+pub mod Located
 pub mod Demands
 pub mod Contracts

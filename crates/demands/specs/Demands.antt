@@ -5,7 +5,7 @@ use mathlib.Core.Logic.{_↔_, _⊎_, ⊎-elim}
 use mathlib.Core.Bool.{true}
 use mathlib.Core.List.{List, [], _∷_, _++_, map, List·Memᴰ}
 use mathlib.Core.Option.{none, some, Option·map}
-use lib.ListN.{length, drop, replicate}
+use lib.ListN.{length, take, drop, replicate}
 use Rattle.lists.specs.Lists.{maybe}
 use Rattle.characters.specs.declared.Characters.{Characters}
 use Rattle.characters.specs.Characters.{usable, adviceOf, charactersOf, body}
@@ -13,17 +13,17 @@ use Rattle.refusals.specs.declared.Fault.{Fault}
 use Rattle.refusals.specs.declared.Fault.the-variants.{BufferShort}
 use Rattle.refusals.specs.declared.Refusal.{Refusal}
 use Rattle.refusals.specs.Refusals.{number}
-use Rattle.reading.specs.Tokens.{Segment}
+use Rattle.reading.specs.Tokens.{Token, Segment}
 use Rattle.reading.specs.Values.{Value}
 use Rattle.reading.specs.Spelling.{Bytes, SegmentList, spellValue, spell}
 use Rattle.control.specs.Control.{countOf, decimal}
-use Rattle.verdict.specs.Contents.{segmentsOf, contents, normalForm}
+use Rattle.verdict.specs.Contents.{bodyTokens, segmentsOf, contents, normalForm}
 use Rattle.verdict.specs.Places.{unusableAdvice, noOpening, strayReleases, unendedSegment, brokenTags, misplacedSegments, badControls, differingReferences, wrongCounts}
 use Rattle.verdict.specs.Stages.{refusalOf}
 use Rattle.answers.specs.Answers.{given, refused, refusedInput}
 use Rattle.operations.specs.Judge.{judge, normaliseRefusal, normalise, normaliseBuffer}
 use Rattle.operations.specs.Compare.{compare, keep, ofFirst, ofSecond}
-use Rattle.operations.specs.Locate.{located, part}
+use Rattle.operations.specs.Locate.{located, locate, partOffset, partLength, part}
 use Rattle.operations.specs.Read.{valueBytes, valueTable, readRefusal, read, readBytes, readTable}
 use Rattle.operations.specs.Write.{badList, unusableBytes, needsRelease, writtenText, writeRefusal, write, writeOutput}
 use Rattle.cases.specs.Cases.{x}
@@ -37,7 +37,7 @@ use Rattle.acceptance.specs.Allowed.{Opening, Tagged, Allowed}
 use Rattle.acceptance.specs.Counts.{told}
 use Rattle.acceptance.specs.Refused.{Refused}
 use Rattle.acceptance.specs.Same.{Same}
-use Rattle.trips.specs.Trips.{standingAt, WrittenBack, Rewritable, ReadBack, Named}
+use Rattle.trips.specs.Trips.{standingAt, WrittenBack, Rewritable, ReadBack, Named, Position, Placed}
 
 pub record Demands : Type 0 where
   -- ---- 1. Reading and spelling, under usable characters
@@ -174,16 +174,42 @@ pub record Demands : Type 0 where
   -- 32,000 bytes and the output has room for it
   pub rewrites : (s service output : List ℕ) → refusalOf s ≡ none
       → (write service (valueBytes s) (valueTable s) output .number ≡ 0) ↔ Rewritable s service output
-  -- what Locate finds at a position is what stands there in the contents
+  -- ---- 8. Locate
+
+  -- what is located at a position is what stands there in the contents, of any input,
   pub locates : (s : List ℕ) (segment element component : ℕ)
       → standingAt (contents s) segment element component ≡ Option·map (λ v. v .bytes) (located s segment element component)
+  -- and is the value that begins in the body where the tokens before it reach that position: no other value stands there, be its bytes
+  -- the same or not
+  pub stands : (s : List ℕ) (segment element component : ℕ) (v : Value) → located s segment element component ≡ some v
+      → Placed (bodyTokens s) (record { segment = segment; element = element; component = component }) v
+  pub one-place : (ts : List Token) (p : Position) (v w : Value) → Placed ts p v → Placed ts p w → v ≡ w
   -- in an accepted input it is named where it is spelled: with its release characters taken off, that part is the value
   pub names : (s : List ℕ) (segment element component : ℕ) → refusalOf s ≡ none
       → (v : Value) → located s segment element component ≡ some v → Named (charactersOf s) s v
-  -- and the companion hands back that spelling, or zero bytes where nothing stands
+  -- Locate answers with the input's refusal; of an accepted input with "absent", or with offset and spelled length of what is located
+  pub locate-refused : (s : List ℕ) (segment element component : ℕ) {r : Refusal} → refusalOf s ≡ some r
+      → locate s segment element component ≡ refused r
+  pub locate-absent : (s : List ℕ) (segment element component : ℕ) → refusalOf s ≡ none → located s segment element component ≡ none
+      → locate s segment element component ≡ given []
+  pub locate-found : (s : List ℕ) (segment element component : ℕ) → refusalOf s ≡ none
+      → (v : Value) → located s segment element component ≡ some v
+      → locate s segment element component ≡ given (v .offset ∷ v .spelled ∷ [])
+  -- the companion hands back the part of the input that Locate's two values name, and where it gives none, zero bytes at the start
+  pub part-is : (s : List ℕ) (segment element component offset size : ℕ)
+      → locate s segment element component ≡ given (offset ∷ size ∷ [])
+      → (partOffset s segment element component ≡ offset)
+      × (partLength s segment element component ≡ size)
+      × (part s segment element component ≡ take size (drop offset s))
+  pub part-none : (s : List ℕ) (segment element component : ℕ)
+      → ((offset size : ℕ) → locate s segment element component ≡ given (offset ∷ size ∷ []) → ⊥)
+      → (partOffset s segment element component ≡ 0)
+      × (partLength s segment element component ≡ 0)
+      × (part s segment element component ≡ [])
+  -- of an accepted input that is the spelling of what stands there in the contents, or zero bytes where nothing does
   pub hands-back : (s : List ℕ) (segment element component : ℕ) → refusalOf s ≡ none
       → part s segment element component ≡ maybe [] (spellValue (charactersOf s)) (standingAt (contents s) segment element component)
-  -- ---- 8. Compare and Keep
+  -- ---- 9. Compare and Keep
 
   -- "same" exactly when both are accepted and contents and marks are equal
   pub compares : (a b : List ℕ) → (compare a b ≡ given (1 ∷ [])) ↔ Same a b

@@ -4,4 +4,6 @@ pub mod Numbers
 pub mod Positions
 pub mod Places
 pub mod Respelled
+pub mod Splits
+pub mod Placed
 pub mod Theorems

@@ -26,11 +26,12 @@ use Rattle.trimming.proofs.Nesting.{listOf-listed}
 use Rattle.spelling.proofs.Parsing.{passes-spells}
 use Rattle.forms.proofs.Normal.{accepted-usable, accepted-passes}
 use Rattle.forms.proofs.Theorems.{same-exactly}
-use Rattle.trips.specs.Trips.{listGiven, standingAt, WrittenBack, Rewritable, ReadBack, Named}
+use Rattle.trips.specs.Trips.{listGiven, standingAt, WrittenBack, Rewritable, ReadBack, Named, Placed}
 use Rattle.trips.proofs.Values.{kinds-sound}
 use Rattle.trips.proofs.Written.{write-passed, text-accepted, text-contents, text-characters, text-stored, list-read, list-sound, list-releasable, list-text, six-usable, short-enough, later-none, read-accepted, read-passes, read-given, bytes-stand, table-stands}
 use Rattle.trips.proofs.Positions.{standing-map, every-standing}
 use Rattle.trips.proofs.Places.{named-body}
+use Rattle.trips.proofs.Placed.{standing-placed}
 use Rattle.trips.proofs.Respelled.{respelled-accepted}
 use Rattle.trips.proofs.Numbers.{unrefused}
 
@@ -180,6 +181,12 @@ module _ (s : List ℕ) (segment element component : ℕ) where
   located-none =
       let nothing = map-eq-none-iff (λ (v : Value). v .bytes) found in
       (λ e. located-contents ∙ nothing .1 e, λ e. nothing .0 (sym located-contents ∙ e))
+
+  -- It stands at that position in the body, of any input.
+  pub located-placed : (v : Value) → found ≡ some v
+      → Placed (bodyTokens s) (record { segment = segment; element = element; component = component }) v
+  unfolding located standingAt segmentsOf
+  located-placed v e = standing-placed (bodyTokens s) segment element component v e
 
   module _ (h : refusalOf s ≡ none) where
     -- In an accepted input, the part that Locate names is the value's spelling, and read alone it is the value.

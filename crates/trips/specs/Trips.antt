@@ -1,15 +1,16 @@
 -- Paper 01, "Operations": what comes back of what was written, read or located. Assumes nothing.
-use Prim.Native.Nat.{ℕ, _≤_}
+use Prim.Native.Nat.{ℕ, zero, suc, _-_, _≤_}
 use mathlib.Core.Path.{_≡_}
-use mathlib.Core.Bool.{true}
+use mathlib.Core.Bool.{true, false}
+use mathlib.Core.Logic.{_⊎_}
 use mathlib.Core.List.{List, [], _∷_, _++_}
 use mathlib.Core.Option.{Option, none}
 use lib.ListN.{length, take, drop}
-use Rattle.lists.specs.Lists.{at, maybe}
+use Rattle.lists.specs.Lists.{isEmpty, through, at, maybe}
 use Rattle.characters.specs.declared.Characters.{Characters}
 use Rattle.characters.specs.Characters.{usable, sixBytes, charactersOf}
-use Rattle.reading.specs.Tokens.{tokens}
-use Rattle.reading.specs.Values.{Value, bytesOf}
+use Rattle.reading.specs.Tokens.{Token, byte, separator, fault, tokens, ends, start}
+use Rattle.reading.specs.Values.{Value, bytesOf, endPlace, endedBy}
 use Rattle.reading.specs.Trimming.{valueAt}
 use Rattle.reading.specs.Spelling.{Bytes, SegmentList, spellValue}
 use Rattle.verdict.specs.Contents.{contents, interchange}
@@ -73,3 +74,39 @@ standingAt list segment element component = maybe none (λ elements. valueAt ele
 pub record Named (c : Characters) (s : List ℕ) (v : Value) : Type 0 where
   pub spelling : take (v .spelled) (drop (v .offset) s) ≡ spellValue c (v .bytes)
   pub alone : bytesOf (tokens c (v .offset) (take (v .spelled) (drop (v .offset) s))) ≡ v .bytes
+
+-- ---- where a value stands among the tokens of the body
+
+-- by segment, element and component, each from 0
+pub record Position : Type 0 where
+  pub segment : ℕ
+  pub element : ℕ
+  pub component : ℕ
+
+-- Behind a terminator the next segment begins, behind an element separator the next element, behind a component separator the next
+-- component. There is no separator of another kind.
+unfoldable pub passed : Position → Token → Position
+passed p (byte b from place) = p
+passed p (separator zero place) = record { segment = suc (p .segment); element = 0; component = 0 }
+passed p (separator (suc zero) place) = record { segment = p .segment; element = suc (p .element); component = 0 }
+passed p (separator (suc (suc zero)) place) = record { segment = p .segment; element = p .element; component = suc (p .component) }
+passed p (separator (suc (suc (suc k))) place) = p
+passed p (fault place) = p
+
+-- the position behind tokens, from left to right
+unfoldable pub reached : Position → List Token → Position
+reached p [] = p
+reached p (t ∷ ts) = reached (passed p t) ts
+
+-- The value stands at the position: what stands before it reaches the position and is nothing or ends in a separator, so that no byte of
+-- the value is in it; the value begins where the rest begins, and goes on to the next separator of any kind.
+pub record Placed (ts : List Token) (p : Position) (v : Value) : Type 0 where
+  pub before : List Token
+  pub rest : List Token
+  pub parts : ts ≡ before ++ rest
+  pub reaches : reached (record { segment = 0; element = 0; component = 0 }) before ≡ p
+  pub separated : (before ≡ []) ⊎ (endedBy 2 before ≡ true)
+  pub there : isEmpty rest ≡ false
+  pub bytes : v .bytes ≡ bytesOf (through (ends 2) rest)
+  pub offset : v .offset ≡ start rest
+  pub spelled : v .spelled ≡ endPlace (through (ends 2) rest) - start rest
