@@ -3,7 +3,7 @@ use Prim.Native.Nat.{ℕ, _≤_}
 use mathlib.Core.Path.{_≡_, refl, sym, ap, ap₂, subst, _∙_}
 use mathlib.Core.Bool.{Bool, true, _&&_}
 use mathlib.Core.List.{List, [], _∷_, _++_}
-use mathlib.Core.Option.{Option, none, some, Option·some-ne-none}
+use mathlib.Core.Option.{Option, none, some}
 use mathlib.Core.Logic.{_↔_}
 use native.Mathlib.Omega.{arith}
 use lib.ListN.{length, take, drop, replicate, length-append}
@@ -18,7 +18,7 @@ use Rattle.refusals.specs.declared.Fault.the-variants.{TooLong, UnusableAdvice,
 use Rattle.refusals.specs.declared.Refusal.{Refusal}
 use Rattle.refusals.specs.Refusals.{Stage, met, placeIf, lowest, orElse, answering}
 use Rattle.refusals.proofs.Lowest.{lowest-none}
-use Rattle.refusals.proofs.Stages.{met-none, answering-append}
+use Rattle.refusals.proofs.Stages.{met-none, answering-append, orElse-neither}
 use Rattle.reading.specs.Spelling.{Bytes, SegmentList, spell}
 use Rattle.verdict.specs.Contents.{contents, interchange, normalCharacters, normalForm}
 use Rattle.verdict.specs.Places.{isOver, tooLong, unusableAdvice, normalTooLong}
@@ -45,17 +45,11 @@ use Rattle.trips.proofs.Values.{kinds-sound, release-exactly, values-bo
 
 -- ---- stages that refuse nothing
 
--- neither of two refuses
-orElse-none : (o p : Option Refusal) → orElse o p ≡ none → (o ≡ none) × (p ≡ none)
-unfolding orElse
-orElse-none none p h = (refl, h)
-orElse-none (some r) p h = absurd (Option·some-ne-none r h)
-
 -- where nothing is refused, nothing is met in the first stage and the others refuse nothing
 pub first-none : (stage : Stage) (rest : List Stage) → answering (stage ∷ rest) ≡ none → (stage ≡ []) × (answering rest ≡ none)
 unfolding answering
 first-none stage rest h =
-    let parts = orElse-none (lowest stage) (answering rest) h in
+    let parts = orElse-neither (lowest stage) (answering rest) h in
     (lowest-none stage .0 (parts .0), parts .1)
 
 -- and the other way
@@ -272,7 +266,7 @@ module _ (buffer numbers s : List ℕ) where
   unfolding readRefusal refusalOf
   read-accepted h =
       let last : List Stage = shortFor (valueBytes s) buffer ∷ shortFor (valueTable s) numbers ∷ [] in
-      orElse-none (answering (stages s)) (answering last) (sym (answering-append (stages s) last) ∙ h) .0
+      orElse-neither (answering (stages s)) (answering last) (sym (answering-append (stages s) last) ∙ h) .0
 
   -- and one whose buffers hold the value list of an accepted input is not refused
   pub read-passes : refusalOf s ≡ none → length (valueBytes s) ≤ length buffer → length (valueTable s) ≤ length numbers
@@ -291,7 +285,7 @@ module _ (buffer numbers s : List ℕ) where
   unfolding readRefusal
   read-fits h =
       let last : List Stage = shortFor (valueBytes s) buffer ∷ shortFor (valueTable s) numbers ∷ [] in
-      let rest = orElse-none (answering (stages s)) (answering last) (sym (answering-append (stages s) last) ∙ h) .1 in
+      let rest = orElse-neither (answering (stages s)) (answering last) (sym (answering-append (stages s) last) ∙ h) .1 in
       let b = first-none (shortFor (valueBytes s) buffer) (shortFor (valueTable s) numbers ∷ []) rest in
       let n = first-none (shortFor (valueTable s) numbers) [] (b .1) in
       (room (valueBytes s) buffer .0 (b .0), room (valueTable s) numbers .0 (n .0))
