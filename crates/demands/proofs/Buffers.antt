@@ -1,6 +1,6 @@
 -- What Normalise, Read and Write answer and leave in the buffers that they are lent. Assumes nothing.
 use Prim.Native.Nat.{ℕ, _≤_, _<_}
-use mathlib.Core.Path.{_≡_, ap, _∙_}
+use mathlib.Core.Path.{_≡_, sym, ap, _∙_}
 use mathlib.Core.Logic.{_↔_}
 use mathlib.Core.List.{List, [], _∷_, _++_}
 use mathlib.Core.Option.{Option, none, some}
@@ -9,13 +9,14 @@ use lib.Dec.{ltb}
 use borrow.Author.Tests.{lt-ltb}
 use Rattle.lists.specs.Lists.{maybe}
 use Rattle.lists.proofs.Texts.{if-true}
-use Rattle.refusals.specs.declared.Fault.the-variants.{BufferShort}
+use Rattle.refusals.specs.declared.Fault.the-variants.{TooLong, UnusableAdvice, BadList, NeedsRelease, BufferShort}
 use Rattle.refusals.specs.declared.Refusal.{Refusal}
-use Rattle.refusals.specs.Refusals.{Stage, orElse, answering}
+use Rattle.refusals.specs.Refusals.{Stage, met, orElse, answering}
 use Rattle.refusals.proofs.Lowest.{lowest-none}
-use Rattle.refusals.proofs.Stages.{answering-append}
+use Rattle.refusals.proofs.Stages.{met-none, answering-append}
 use Rattle.verdict.specs.Contents.{normalForm}
-use Rattle.verdict.specs.Stages.{stages, refusalOf}
+use Rattle.verdict.specs.Places.{tooLong, unusableAdvice}
+use Rattle.verdict.specs.Stages.{laterStages, stages, refusalOf}
 use Rattle.machines.specs.Walks.{refuse}
 use Rattle.machines.proofs.Rows.{lowest-if}
 use Rattle.answers.specs.Answers.{Answer, given, refused}
@@ -26,7 +27,7 @@ use Rattle.acceptance.specs.Allowed.{Allowed}
 use Rattle.acceptance.proofs.Acceptance.{allowed-exactly}
 use Rattle.trips.specs.Trips.{Rewritable}
 use Rattle.trips.proofs.Numbers.{unrefused}
-use Rattle.trips.proofs.Written.{room, short-enough, later-none, write-passed, text-accepted, write-given, read-accepted, read-fits, read-passes, read-given}
+use Rattle.trips.proofs.Written.{room, short-enough, later-none, write-passed, text-advice, text-accepted, write-given, read-accepted, read-fits, read-passes, read-given}
 use Rattle.trips.proofs.Theorems.{rewritten-exactly}
 
 -- ---- stages behind those of the input
@@ -52,12 +53,15 @@ short-answers new buffer last h =
     (lowest-if BufferShort (ltb (length buffer) (length new)) (length new)
     ∙ if-true (ltb (length buffer) (length new)) (refuse BufferShort (length new)) none (lt-ltb (length buffer) (length new) h))
 
--- and one that holds the new leaves it to those behind
+-- a stage in which nothing is met leaves it to those behind
+clear-answers : (stage : Stage) (last : List Stage) → stage ≡ [] → answering (stage ∷ last) ≡ answering last
+unfolding answering orElse
+clear-answers stage last e = ap (λ (o : Option Refusal). orElse o (answering last)) (lowest-none stage .1 e)
+
+-- and so does a lent buffer that holds the new
 room-answers : (new buffer : List ℕ) (last : List Stage) → length new ≤ length buffer
     → answering (shortFor new buffer ∷ last) ≡ answering last
-unfolding answering orElse
-room-answers new buffer last h =
-    ap (λ (o : Option Refusal). orElse o (answering last)) (lowest-none (shortFor new buffer) .1 (room new buffer .1 h))
+room-answers new buffer last h = clear-answers (shortFor new buffer) last (room new buffer .1 h)
 
 -- ---- Normalise
 
@@ -169,6 +173,29 @@ module _ (service bytes table output : List ℕ) where
               later = later-none text (allowed-exactly text .1 (k .3));
             })),
       )
+
+  -- behind 15, 2, 16, 1 and 14 the stages are those that Judge goes through behind 1 and 2
+  pub as-judged : badList bytes table ≡ [] → unusableBytes service ≡ [] → needsRelease service bytes table ≡ [] → length text ≤ 32000
+      → length text ≤ length output → writeRefusal service bytes table output ≡ refusalOf text
+  unfolding writeRefusal refusalOf stages
+  as-judged list characters releases short fits =
+      let over : Stage = met TooLong (tooLong text) in
+      let unmet : over ≡ [] = met-none TooLong (tooLong text) .1 (short-enough text .1 short) in
+      let last : List Stage = laterStages text in
+      clear-answers (met BadList (badList bytes table))
+      (met UnusableAdvice (unusableBytes service) ∷ met NeedsRelease (needsRelease service bytes table) ∷ over ∷ shortFor text output ∷ last)
+      (met-none BadList (badList bytes table) .1 list)
+      ∙ clear-answers (met UnusableAdvice (unusableBytes service))
+      (met NeedsRelease (needsRelease service bytes table) ∷ over ∷ shortFor text output ∷ last)
+      (met-none UnusableAdvice (unusableBytes service) .1 characters)
+      ∙ clear-answers (met NeedsRelease (needsRelease service bytes table)) (over ∷ shortFor text output ∷ last)
+      (met-none NeedsRelease (needsRelease service bytes table) .1 releases)
+      ∙ clear-answers over (shortFor text output ∷ last) unmet
+      ∙ room-answers text output last fits
+      ∙ sym
+      (clear-answers over (met UnusableAdvice (unusableAdvice text) ∷ last) unmet
+      ∙ clear-answers (met UnusableAdvice (unusableAdvice text)) last
+      (met-none UnusableAdvice (unusableAdvice text) .1 (text-advice service bytes table output characters)))
 
 pub rewrites : (s service output : List ℕ) → refusalOf s ≡ none
     → (write service (valueBytes s) (valueTable s) output .number ≡ 0) ↔ Rewritable s service output

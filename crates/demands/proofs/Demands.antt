@@ -37,7 +37,7 @@ use Rattle.trips.proofs.Placed.{one-placed}
 use Rattle.trips.proofs.Written.{read-refused, write-refused}
 use Rattle.trips.proofs.Theorems.{written-back, read-back, located-contents, located-placed, located-named, part-spelled}
 use Rattle.demands.specs.Demands.{Demands}
-use Rattle.demands.proofs.Buffers.{normalises, normalise-refused, form-short, judged-first, reads-exactly, reads, bytes-short, table-short, writes-exactly, writes, rewrites}
+use Rattle.demands.proofs.Buffers.{normalises, normalise-refused, form-short, judged-first, reads-exactly, reads, bytes-short, table-short, writes-exactly, writes, as-judged, rewrites}
 use Rattle.demands.proofs.Located.{locate-refused, locate-absent, locate-found, part-is, part-none}
 
 -- an input's body passes exactly where 4 and 5 are not met
@@ -127,6 +127,7 @@ demands =
       table-short = table-short;
       writes-exactly = writes-exactly;
       writes = writes;
+      as-judged = as-judged;
       write-refused = write-refused;
       write-read = written-back;
       read-write = read-back;

@@ -110,7 +110,7 @@ pub record Demands : Type 0 where
   pub normalises : (buffer s : List ℕ) → refusalOf s ≡ none → length (normalForm s) ≤ length buffer
       → (normalise buffer s ≡ given (length (normalForm s) ∷ []))
       × (normaliseBuffer buffer s ≡ normalForm s ++ drop (length (normalForm s)) buffer)
-  -- it is refused by 14 alone where the input is accepted, at the length that is needed
+  -- a buffer that does not hold the normal form of an accepted input is refused by 14, at the length that is needed
   pub form-short : (buffer s : List ℕ) → refusalOf s ≡ none → length buffer < length (normalForm s)
       → normaliseRefusal buffer s ≡ some (record { fault = BufferShort; place = length (normalForm s) })
   -- where it is refused, the buffer is unchanged
@@ -160,6 +160,11 @@ pub record Demands : Type 0 where
       → let text = writtenText service bytes table in
       (write service bytes table output ≡ given (length text ∷ []))
       × (writeOutput service bytes table output ≡ text ++ drop (length text) output)
+  -- where none of 15, 2, 16, 1 and 14 is met, it is refused "as Judge would answer for the text"
+  pub as-judged : (service bytes table output : List ℕ) → badList bytes table ≡ [] → unusableBytes service ≡ []
+      → needsRelease service bytes table ≡ [] → length (writtenText service bytes table) ≤ 32000
+      → length (writtenText service bytes table) ≤ length output
+      → writeRefusal service bytes table output ≡ refusalOf (writtenText service bytes table)
   -- "A refused Write leaves its whole output buffer zero"
   pub write-refused : (service bytes table output : List ℕ) {r : Refusal} → writeRefusal service bytes table output ≡ some r
       → (write service bytes table output ≡ refused r) × (writeOutput service bytes table output ≡ replicate (length output) 0)

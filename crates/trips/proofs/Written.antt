@@ -19,7 +19,7 @@ use Rattle.refusals.specs.declared.Refusal.{Refusal}
 use Rattle.refusals.specs.Refusals.{Stage, met, placeIf, lowest, orElse, answering}
 use Rattle.refusals.proofs.Lowest.{lowest-none}
 use Rattle.refusals.proofs.Stages.{met-none, answering-append, orElse-neither}
-use Rattle.reading.specs.Spelling.{Bytes, SegmentList, spell}
+use Rattle.reading.specs.Spelling.{SegmentList, spell}
 use Rattle.verdict.specs.Contents.{contents, interchange, normalCharacters, normalForm}
 use Rattle.verdict.specs.Places.{isOver, tooLong, unusableAdvice, normalTooLong}
 use Rattle.verdict.specs.Stages.{laterStages, stages, refusalOf}
@@ -155,20 +155,22 @@ module _ (service bytes table output : List ℕ) where
           (met-none TooLong (tooLong t) .1 (p .short))
           (none-first fitting (laterStages t) (room t output .1 (p .fits)) (p .later)))))
 
-  module _ (p : Passed) where
-    abbrev usable-six : usable (sixBytes service) ≡ true
-    usable-six = six-usable service .0 (p .characters) .1
+  -- its advice is good where 2 is not met
+  pub text-advice : unusableBytes service ≡ [] → unusableAdvice t ≡ []
+  unfolding unusableAdvice writtenText interchange listGiven
+  text-advice h =
+      place-none (badAdvice t) 0 .1
+      (advice-good (sixBytes service) (spell (sixBytes service) (listGiven bytes table)) (six-usable service .0 h .1))
 
+  module _ (p : Passed) where
     -- the text is accepted
     pub text-accepted : refusalOf t ≡ none
-    unfolding refusalOf stages unusableAdvice writtenText interchange listGiven
+    unfolding refusalOf stages
     text-accepted =
-        let spelled : Bytes = spell (sixBytes service) (listGiven bytes table) in
         none-first (met TooLong (tooLong t)) (met UnusableAdvice (unusableAdvice t) ∷ laterStages t)
         (met-none TooLong (tooLong t) .1 (p .short))
         (none-first (met UnusableAdvice (unusableAdvice t)) (laterStages t)
-        (met-none UnusableAdvice (unusableAdvice t) .1
-        (place-none (badAdvice t) 0 .1 (advice-good (sixBytes service) spelled usable-six)))
+        (met-none UnusableAdvice (unusableAdvice t) .1 (text-advice (p .characters)))
         (p .later))
 
     -- its contents are the trimmed list
@@ -178,7 +180,7 @@ module _ (service bytes table output : List ℕ) where
         let items : List Item = listedIn bytes table in
         let kinds : Kinds items = kinds-sound bytes table (p .list) in
         let list : SegmentList = segmentsListed items in
-        interchange-contents (sixBytes service) (trimList list) usable-six
+        interchange-contents (sixBytes service) (trimList list) (six-usable service .0 (p .characters) .1)
         (trimList-shaped list (shaped-listed items kinds))
         (trim-releasable (sixBytes service) list (release-exactly service bytes table kinds .0 (p .releases)))
         ∙ trimList-again list
