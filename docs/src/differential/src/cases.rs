@@ -201,8 +201,9 @@ fn known_pair(run: &mut Run, change: Change) -> Checked<()> {
 /// A value list, now and then with wild numbers, written to outputs of several
 /// sizes.
 fn list(run: &mut Run) -> Checked<()> {
-    let Request::Write { service, values, mut table, .. } = request(&mut run.random, b'W') else {
-        unreachable!("a request of kind W is a Write");
+    let (service, values, mut table) = match request(&mut run.random, b'W') {
+        Request::Write { service, values, table, .. } => (service, values, table),
+        _ => unreachable!("a request of kind W is a Write"),
     };
     if run.random.chance(30) {
         make_wild(&mut run.random, &mut table, values.len() as u32);

@@ -58,9 +58,12 @@ fn command() -> Option<(u64, u64, Options)> {
 }
 
 fn main() -> ExitCode {
-    let Some((seed, count, options)) = command() else {
-        eprintln!("{USAGE}");
-        return ExitCode::from(2);
+    let (seed, count, options) = match command() {
+        Some(command) => command,
+        None => {
+            eprintln!("{USAGE}");
+            return ExitCode::from(2);
+        }
     };
     let mut run = Run::new(seed, options.tight);
     if let Err((case, disagreement)) = all(&mut run, count) {

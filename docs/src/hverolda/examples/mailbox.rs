@@ -12,9 +12,12 @@ use hverolda::{compare, judge, keep, part, Comparison};
 
 fn main() -> ExitCode {
     let files: Vec<String> = env::args().skip(1).collect();
-    let [first, second] = &files[..] else {
-        eprintln!("usage: mailbox FIRST SECOND");
-        return ExitCode::from(2);
+    let (first, second) = match &files[..] {
+        [first, second] => (first, second),
+        _ => {
+            eprintln!("usage: mailbox FIRST SECOND");
+            return ExitCode::from(2);
+        }
     };
     match check(first, second) {
         Ok(()) => ExitCode::SUCCESS,
