@@ -65,11 +65,13 @@ const FAULTS: [Fault; 16] = [
 
 impl Fault {
     /// The number of the paper's table.
+    #[must_use]
     pub fn number(self) -> u32 {
         self as u32
     }
 
     /// The fault with this number, where there is one.
+    #[must_use]
     pub fn of_number(number: u32) -> Option<Fault> {
         FAULTS.into_iter().find(|fault| fault.number() == number)
     }
@@ -126,6 +128,7 @@ pub struct Refusal {
 
 impl Refusal {
     /// The number of the paper's table.
+    #[must_use]
     pub fn number(&self) -> u32 {
         self.fault.number()
     }
