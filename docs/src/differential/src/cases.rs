@@ -15,6 +15,7 @@ use crate::limits::{limit, write_limit, Limit, WriteLimit};
 use crate::pairs::{pair, Change, CHANGES};
 use crate::run::{Checked, Run};
 use crate::tables::make_wild;
+use crate::wide;
 
 /// The paper's cases and the standard's examples, with the answers that are
 /// stated for them, and with every operation.
@@ -101,13 +102,19 @@ fn two(run: &mut Run, first: Vec<u8>, second: Vec<u8>) -> Checked<()> {
     run.check(&Call::Keep { first, second }).map(drop)
 }
 
-/// The sizes of a buffer, each with its name, where so much is needed.
+/// The sizes of a buffer, each with its name, where so much is needed. The
+/// last one is enough; now and then 16 bits do not hold it.
 fn rooms(run: &mut Run, needed: usize) -> Vec<(usize, &'static str)> {
     let longer = needed + run.random.between(1, 40);
-    match needed {
+    let mut rooms = match needed {
         0 => vec![(0, "empty"), (longer, "any")],
         _ => vec![(0, "empty"), (needed - 1, "one short"), (needed, "exact"), (longer, "longer")],
+    };
+    if run.random.chance(2) {
+        let name = if needed == 0 { "any of 65536 or more" } else { "65536 or more" };
+        rooms.push((wide::room(&mut run.random, needed), name));
     }
+    rooms
 }
 
 /// The normal form, or no bytes where there is none.
@@ -163,13 +170,12 @@ fn known_limit(run: &mut Run) -> Checked<()> {
 /// A value list at a limit, with the answer that the paper gives it.
 fn known_write_limit(run: &mut Run) -> Checked<()> {
     let WriteLimit { service, values, table, written, name } = write_limit(&mut run.random);
-    let room = LONGEST + run.random.below(3);
-    let call = Call::Write {
-        service: service.to_vec(),
-        values,
-        table,
-        output: filled(&mut run.random, room),
+    let room = match run.random.chance(50) {
+        true => LONGEST + run.random.below(3),
+        false => wide::room(&mut run.random, LONGEST),
     };
+    let output = filled(&mut run.random, room);
+    let call = Call::Write { service, values, table, output };
     let outcome = run.check(&call)?;
     run.known(outcome.answer == Answer::Write(written), &call, name)?;
     run.tally.count("limit", name);
@@ -179,7 +185,7 @@ fn known_write_limit(run: &mut Run) -> Checked<()> {
 /// Two interchanges that are known to be the same or not.
 fn known_pair(run: &mut Run, change: Change) -> Checked<()> {
     let (first, second) = pair(&mut run.random, change);
-    let same = change == Change::Respelled;
+    let same = change.is_same();
     let comparison = Comparison { same: same.into(), ..Comparison::default() };
     let kept = match (same, second.len() < first.len()) {
         (false, _) => Kept { input: 1, offset: 0, length: 0 },

@@ -22,6 +22,7 @@ mod rules;
 mod run;
 mod tables;
 mod tally;
+mod wide;
 
 use std::process::ExitCode;
 
