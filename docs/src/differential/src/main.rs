@@ -17,6 +17,7 @@ mod cases;
 mod inputs;
 mod lent;
 mod limits;
+mod owned;
 mod pairs;
 mod rules;
 mod run;

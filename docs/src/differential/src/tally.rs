@@ -22,7 +22,7 @@ const REFUSING: [(&str, &[u32]); 7] = [
 
 /// Other things that must occur: answers that are no refusals, sizes of
 /// buffers, and the ways in which two interchanges differ.
-const OTHERS: [(&str, &str); 58] = [
+const OTHERS: [(&str, &str); 60] = [
     ("judge", "accepted"),
     ("normalise", "stored"),
     ("compare", "same"),
@@ -81,6 +81,8 @@ const OTHERS: [(&str, &str); 58] = [
     ("pair", "only an unused release character changed"),
     ("pair", "respelled"),
     ("pair", "trailing space"),
+    ("wrapper's text", "refused"),
+    ("wrapper's text", "stored"),
 ];
 
 #[derive(Default)]
