@@ -60,7 +60,7 @@ pub use writing::{text_of, write};
 /// The longest input, text and normal form, in bytes (refusals 1 and 13).
 pub const LONGEST: usize = 32_000;
 
-/// The longest table of a value list, in numbers (refusal 15).
+/// The longest table that [`write()`] takes, in numbers (refusal 15).
 pub const LONGEST_TABLE: usize = 96_000;
 
 /// The example of the paper and its neighbours, for the tests.
