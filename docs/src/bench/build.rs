@@ -3,9 +3,8 @@
 
 fn main() {
     println!("cargo:rerun-if-env-changed=SURFACE_FOLDER");
-    let Ok(folder) = std::env::var("SURFACE_FOLDER") else {
-        panic!("SURFACE_FOLDER is to name the folder of libsurface.a");
-    };
+    let folder = std::env::var("SURFACE_FOLDER");
+    let folder = folder.expect("SURFACE_FOLDER is to name the folder of libsurface.a");
     println!("cargo:rerun-if-changed={folder}/libsurface.a");
     println!("cargo:rustc-link-search=native={folder}");
     println!("cargo:rustc-link-lib=static=surface");

@@ -5,7 +5,8 @@
  *
  * judges the interchanges in two files, says from whom each one is and whether they are the same,
  * which of the two to keep, and prints the normal form that they share. The exit status is 0 where
- * they are the same, 1 where they differ or one is refused, 2 where a file cannot be read.
+ * they are the same, 1 where they differ or one is refused, and 2 where that cannot be said: other
+ * than two files are named, one cannot be read, or standard output cannot be written.
  *
  *     cc -std=c99 -Wall -Wextra -Wpedantic -o mailbox docs/src/c/example.c target/staticlib/libsurface.a
  */
@@ -14,17 +15,15 @@
 
 #include "hverolda.h"
 
-enum { MOST = 32000 };
-
 /* A file's bytes. One more than the most that is allowed is read, so that a longer file is refused. */
 struct message {
     const char *name;
     size_t length;
-    uint8_t bytes[MOST + 1];
+    uint8_t bytes[HVEROLDA_LONGEST + 1];
 };
 
 static struct message first, second;
-static uint8_t normal[MOST];
+static uint8_t normal[HVEROLDA_LONGEST];
 
 /* What is wrong, for people. */
 static const char *const words[] = {
@@ -37,7 +36,7 @@ static const char *const words[] = {
     [HVEROLDA_BROKEN_TAG] = "segment tag broken",
     [HVEROLDA_FOREIGN_LEVEL] = "level or version not ours",
     [HVEROLDA_OUTSIDE_LEVEL] = "byte outside the level",
-    [HVEROLDA_MISPLACED_SEGMENT] = "segment not allowed there",
+    [HVEROLDA_MISPLACED_SEGMENT] = "segment not allowed there, or the end before UNZ",
     [HVEROLDA_BAD_CONTROL] = "count or reference malformed",
     [HVEROLDA_REFERENCE_DIFFERS] = "trailer's reference differs from its header's",
     [HVEROLDA_COUNT_WRONG] = "trailer's count wrong",
@@ -95,10 +94,38 @@ static void keep(void)
     putchar('\n');
 }
 
-int main(int count, char **names)
+/* Says all that is to be said of the two; are they the same? */
+static bool check(void)
 {
     bool accepted;
     hverolda_comparison c;
+
+    accepted = judge(&first);
+    accepted = judge(&second) && accepted;
+    if (!accepted)
+        return false;
+    c = hverolda_compare(first.bytes, first.length, second.bytes, second.length);
+    if (c.same)
+        keep();
+    else
+        puts("different");
+    return c.same;
+}
+
+/* Was all that was said written? */
+static bool written(void)
+{
+    bool whole = !ferror(stdout);
+
+    whole = fclose(stdout) == 0 && whole;
+    if (!whole)
+        fprintf(stderr, "mailbox: standard output could not be written\n");
+    return whole;
+}
+
+int main(int count, char **names)
+{
+    bool same;
 
     if (count != 3) {
         fprintf(stderr, "usage: mailbox FIRST SECOND\n");
@@ -106,14 +133,8 @@ int main(int count, char **names)
     }
     if (!load(&first, names[1]) || !load(&second, names[2]))
         return 2;
-    accepted = judge(&first);
-    accepted = judge(&second) && accepted;
-    if (!accepted)
-        return 1;
-    c = hverolda_compare(first.bytes, first.length, second.bytes, second.length);
-    if (c.same)
-        keep();
-    else
-        puts("different");
-    return c.same ? 0 : 1;
+    same = check();
+    if (!written())
+        return 2;
+    return same ? 0 : 1;
 }

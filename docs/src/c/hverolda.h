@@ -29,10 +29,14 @@
  * Stack. Compare and Keep hold two arrays of 32,000 bytes each, and take some 65,000 bytes in all.
  * The other functions take less than 2,000. There is no recursion.
  *
- * Limits. An input, a written text and a normal form have at most 32,000 bytes, a table at most
- * 96,000 numbers. So a normal form or a written text fits 32,000 bytes, and what Read stores fits
- * 32,000 bytes and 96,000 numbers, since each value in the input is followed by a separator or a
- * terminator.
+ * Limits. An input, a written text and a normal form have at most 32,000 bytes. So a normal form or a
+ * written text fits 32,000 bytes, and what Read stores fits 32,000 bytes and 96,000 numbers, since
+ * each value in the input is followed by a separator or a terminator. A table that Write is given has
+ * at most 96,000 numbers. What is longer may be given, and is refused. A buffer that is written to
+ * may have any length, Read's table with it.
+ *
+ * Structs. What a struct has between its fields and behind them is not specified: compare fields,
+ * not memory.
  */
 #ifndef HVEROLDA_H
 #define HVEROLDA_H
@@ -43,6 +47,10 @@
 #ifdef __cplusplus
 extern "C" {
 #endif
+
+/* The most bytes of an input, a text and a normal form; the most numbers of a table for Write. */
+#define HVEROLDA_LONGEST 32000
+#define HVEROLDA_LONGEST_TABLE 96000
 
 /*
  * Refusals by number, and the place that goes with each. 0 is no refusal.
@@ -56,7 +64,12 @@ enum hverolda_refusal {
     HVEROLDA_TOO_LONG = 1,
     /* Unusable advice, or shorter than its 9 bytes; Write: not six usable bytes. Place: 0. */
     HVEROLDA_UNUSABLE_ADVICE = 2,
-    /* The body doesn't begin `UNB` and the element separator. Place: 0, or 9 after an advice. */
+    /* The body doesn't begin `UNB` and the element separator. Place: 0, or 9 after an advice.
+       An advice is `UNA` and six bytes, and the body is what follows it. Without one the body is the
+       whole input, and begins `UNB+` (then `:` separates components and `+` elements, the mark is
+       `.`, the release character `?`, the terminator `'`) or `UNB` and byte 29 (then byte 31
+       separates components and 29 elements, the mark is `.`, there is no release character, and the
+       terminator is byte 28). */
     HVEROLDA_NO_OPENING = 3,
     /* Release followed by no service character, or by the end. Place: the release character. */
     HVEROLDA_STRAY_RELEASE = 4,
@@ -170,8 +183,9 @@ typedef struct hverolda_listing {
  * Judge: is this an interchange by the rules?
  *
  * Refusals, in the order in which they are asked: 1, 2, 3, (4 5 6), 7, 8, 9, (10 11 12), 13. The
- * first of these stages that fails answers; within a bracket the lowest place does, then the lowest
- * number. An interchange is accepted when none is met. These are "Judge's refusals" below.
+ * first of these stages that fails answers; within a stage, bracketed or single, the lowest place
+ * does, then the lowest number. An interchange is accepted when none is met. These are "Judge's
+ * refusals" below.
  */
 hverolda_verdict hverolda_judge(const uint8_t *input, size_t input_length);
 

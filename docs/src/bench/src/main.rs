@@ -8,7 +8,6 @@ mod orders;
 mod passes;
 mod surface;
 
-use std::hint::black_box;
 use std::time::Instant;
 
 use second::generator::{any_input, Random};
@@ -67,6 +66,13 @@ fn agreed(inputs: &[Vec<u8>], ours: &mut [u8], theirs: &mut [u8]) -> usize {
     accepted
 }
 
+/// The value, of which the compiler knows nothing any more: it leaves nothing
+/// out for what the value is, or because nobody looks at it.
+fn opaque<T: Copy>(value: T) -> T {
+    // SAFETY: the reference is to a value that lives, and that may be copied.
+    unsafe { std::ptr::read_volatile(&value) }
+}
+
 /// For each function its time on each interchange in each round.
 type Times = [Vec<Vec<u64>>; 4];
 
@@ -78,10 +84,10 @@ fn measured(inputs: &[Vec<u8>], rounds: usize, ours: &mut [u8], theirs: &mut [u8
                 let function = (turn + round) % 4;
                 let began = Instant::now();
                 match function {
-                    0 => drop(black_box(surface::judge(black_box(input)))),
-                    1 => drop(black_box(operations::judge(black_box(input)))),
-                    2 => drop(black_box(surface::normalise(black_box(input), ours))),
-                    _ => drop(black_box(operations::normalise(black_box(input), theirs))),
+                    0 => drop(opaque(surface::judge(opaque(input)))),
+                    1 => drop(opaque(operations::judge(opaque(input)))),
+                    2 => drop(opaque(surface::normalise(opaque(input), ours))),
+                    _ => drop(opaque(operations::normalise(opaque(input), theirs))),
                 }
                 times[function][number].push(began.elapsed().as_nanos() as u64);
             }
@@ -104,8 +110,9 @@ fn a_byte(times: &[Vec<u64>], bytes: usize, pick: impl Fn(&[u64]) -> u64) -> f64
 }
 
 fn report(times: &Times, bytes: usize) {
-    let best = times.each_ref().map(|times| a_byte(times, bytes, |sorted| sorted[0]));
-    let median = times.each_ref().map(|times| a_byte(times, bytes, |s| s[s.len() / 2]));
+    let functions = [0, 1, 2, 3];
+    let best = functions.map(|number| a_byte(&times[number], bytes, |sorted| sorted[0]));
+    let median = functions.map(|number| a_byte(&times[number], bytes, |s| s[s.len() / 2]));
     println!("{:<20}{:>12}{:>12}", "ns a byte", "best", "median");
     for (number, name) in NAMES.iter().enumerate() {
         println!("{name:<20}{:>12.2}{:>12.2}", best[number], median[number]);
@@ -127,7 +134,7 @@ fn report_passes(orders: &[Vec<u8>], rounds: usize) {
             for (number, input) in spoiled.iter().enumerate() {
                 for (side, judge) in [surface::judge, operations::judge].into_iter().enumerate() {
                     let began = Instant::now();
-                    let answer = black_box(judge(black_box(input)));
+                    let answer = opaque(judge(opaque(input)));
                     let time = began.elapsed().as_nanos() as u64;
                     assert_eq!(answer.err().map_or(0, |r| r.number), STAGES[number].number);
                     least[number][side] = least[number][side].min(time);

@@ -117,10 +117,28 @@ pub struct Outcome {
     pub table: Vec<u32>,
 }
 
+/// What an operation stored, or its refusal's number and place.
+pub type Told<T> = Result<T, (u32, usize)>;
+
 impl Outcome {
     /// Of an operation that stores nothing.
     pub fn of(answer: Answer) -> Outcome {
         Outcome { answer, bytes: Vec::new(), table: Vec::new() }
+    }
+
+    /// The bytes and the table numbers that were stored.
+    pub fn stored(&self) -> Told<(&[u8], &[u32])> {
+        let (number, place, bytes, numbers) = match self.answer {
+            Answer::Normalise(told) | Answer::Write(told) => {
+                (told.number, told.place, told.length, 0)
+            }
+            Answer::Read(told) => (told.number, told.place, told.bytes, told.numbers),
+            _ => (0, 0, 0, 0),
+        };
+        match number {
+            0 => Ok((&self.bytes[..bytes], &self.table[..numbers])),
+            _ => Err((number, place)),
+        }
     }
 }
 

@@ -8,13 +8,15 @@ use second::request_stream::Request;
 
 use hverolda::surface::{Comparison, Kept, Verdict};
 
-use crate::call::{Answer, Call, Outcome};
+use crate::call::{Answer, Call, Outcome, Told};
 use crate::inputs;
 use crate::lent::filled;
 use crate::limits::{limit, write_limit, Limit, WriteLimit};
+use crate::owned::{self, Parts};
 use crate::pairs::{pair, Change, CHANGES};
 use crate::run::{Checked, Run};
 use crate::tables::make_wild;
+use crate::wide;
 
 /// The paper's cases and the standard's examples, with the answers that are
 /// stated for them, and with every operation.
@@ -77,14 +79,11 @@ pub fn any(run: &mut Run) -> Checked<()> {
 
 /// Every operation that reads an interchange, with buffers of several sizes.
 fn every_operation(run: &mut Run, input: Vec<u8>) -> Checked<()> {
-    let call = Call::Judge { input: input.clone() };
-    run.check(&call)?;
+    run.check(&Call::Judge { input: input.clone() })?;
     let form = normalised(run, &input)?;
-    let owned = hverolda::normal_form(&input).unwrap_or_default();
-    run.known(owned == form, &call, "the wrapper's normal form is the one stored")?;
-    let table = read(run, &input)?;
-    let owned = hverolda::values(&input).unwrap_or_default();
-    run.known(owned.table() == table, &call, "the wrapper's values are those stored")?;
+    let list = read(run, &input)?;
+    owned::of_input(run, &input, &form, &list)?;
+    let table = list.map_or(Vec::new(), |(_, table)| table);
     for _ in 0..3 {
         let numbers = inputs::numbers(&mut run.random, &table);
         run.check(&Call::Locate { numbers, input: input.clone() })?;
@@ -101,54 +100,75 @@ fn two(run: &mut Run, first: Vec<u8>, second: Vec<u8>) -> Checked<()> {
     run.check(&Call::Keep { first, second }).map(drop)
 }
 
-/// The sizes of a buffer, each with its name, where so much is needed.
+/// The sizes of a buffer, each with its name, where so much is needed. The
+/// last one is enough; now and then 16 bits do not hold it.
 fn rooms(run: &mut Run, needed: usize) -> Vec<(usize, &'static str)> {
     let longer = needed + run.random.between(1, 40);
-    match needed {
+    let mut rooms = match needed {
         0 => vec![(0, "empty"), (longer, "any")],
         _ => vec![(0, "empty"), (needed - 1, "one short"), (needed, "exact"), (longer, "longer")],
+    };
+    if run.random.chance(2) {
+        let name = if needed == 0 { "any of 65536 or more" } else { "65536 or more" };
+        rooms.push((wide::room(&mut run.random, needed), name));
     }
+    rooms
 }
 
-/// The normal form, or no bytes where there is none.
-fn normalised(run: &mut Run, input: &[u8]) -> Checked<Vec<u8>> {
+/// The normal form, or why there is none.
+fn normalised(run: &mut Run, input: &[u8]) -> Checked<Told<Vec<u8>>> {
     let needed = operations::judge(input).map_or(0, |verdict| verdict.normal_length);
-    let mut form = Vec::new();
+    let mut form = Ok(Vec::new());
     for (room, name) in rooms(run, needed) {
         let buffer = filled(&mut run.random, room);
         let outcome = run.check(&Call::Normalise { buffer, input: input.to_vec() })?;
         run.tally.count("normalise buffer", name);
-        if name == "exact" {
-            form = outcome.bytes;
-        }
+        // the last room is enough
+        form = outcome.stored().map(|(bytes, _)| bytes.to_vec());
     }
     Ok(form)
 }
 
-/// The table of the contents, or no numbers where there are none.
-fn read(run: &mut Run, input: &[u8]) -> Checked<Vec<u32>> {
+/// The values, or why there are none.
+fn read(run: &mut Run, input: &[u8]) -> Checked<Told<Parts>> {
     let (mut bytes, mut table) = (vec![0; LONGEST], vec![0; LONGEST_TABLE]);
     let needed = operations::read(input, &mut bytes, &mut table);
     let (byte_count, number_count) = needed.map_or((0, 0), |counts| (counts.bytes, counts.numbers));
-    table.truncate(number_count);
     let (byte_rooms, table_rooms) = (rooms(run, byte_count), rooms(run, number_count));
-    for turn in 0..4 {
+    let mut list = Ok(Parts::default());
+    for turn in 0..5 {
         // the byte buffer must do for the table to be looked at
-        let (room, byte_name) = match turn {
+        let byte_room = match turn {
             0 | 1 => byte_rooms[byte_rooms.len() / 2],
-            _ => run.random.pick(&byte_rooms),
+            2 | 3 => run.random.pick(&byte_rooms),
+            _ => byte_rooms[byte_rooms.len() - 1],
         };
-        let (numbers, table_name) = run.random.pick(&table_rooms);
-        let call = Call::Read {
-            bytes: filled(&mut run.random, room),
-            table: filled(&mut run.random, numbers),
-            input: input.to_vec(),
+        // the last rooms are enough
+        let table_room = match turn {
+            0..=3 => run.random.pick(&table_rooms),
+            _ => table_rooms[table_rooms.len() - 1],
         };
-        run.check(&call)?;
-        run.tally.count("read bytes", byte_name);
-        run.tally.count("read table", table_name);
+        let outcome = read_into(run, input, byte_room, table_room)?;
+        list = outcome.stored().map(|(bytes, table)| (bytes.to_vec(), table.to_vec()));
     }
-    Ok(table)
+    Ok(list)
+}
+
+/// Read into buffers of two sizes with their names.
+fn read_into(
+    run: &mut Run,
+    input: &[u8],
+    (room, byte_name): (usize, &'static str),
+    (numbers, table_name): (usize, &'static str),
+) -> Checked<Outcome> {
+    let call = Call::Read {
+        bytes: filled(&mut run.random, room),
+        table: filled(&mut run.random, numbers),
+        input: input.to_vec(),
+    };
+    run.tally.count("read bytes", byte_name);
+    run.tally.count("read table", table_name);
+    run.check(&call)
 }
 
 /// An interchange at a limit, with the answer that the paper gives it.
@@ -163,13 +183,12 @@ fn known_limit(run: &mut Run) -> Checked<()> {
 /// A value list at a limit, with the answer that the paper gives it.
 fn known_write_limit(run: &mut Run) -> Checked<()> {
     let WriteLimit { service, values, table, written, name } = write_limit(&mut run.random);
-    let room = LONGEST + run.random.below(3);
-    let call = Call::Write {
-        service: service.to_vec(),
-        values,
-        table,
-        output: filled(&mut run.random, room),
+    let room = match run.random.chance(50) {
+        true => LONGEST + run.random.below(3),
+        false => wide::room(&mut run.random, LONGEST),
     };
+    let output = filled(&mut run.random, room);
+    let call = Call::Write { service, values, table, output };
     let outcome = run.check(&call)?;
     run.known(outcome.answer == Answer::Write(written), &call, name)?;
     run.tally.count("limit", name);
@@ -179,7 +198,7 @@ fn known_write_limit(run: &mut Run) -> Checked<()> {
 /// Two interchanges that are known to be the same or not.
 fn known_pair(run: &mut Run, change: Change) -> Checked<()> {
     let (first, second) = pair(&mut run.random, change);
-    let same = change == Change::Respelled;
+    let same = change.is_same();
     let comparison = Comparison { same: same.into(), ..Comparison::default() };
     let kept = match (same, second.len() < first.len()) {
         (false, _) => Kept { input: 1, offset: 0, length: 0 },
@@ -201,8 +220,9 @@ fn known_pair(run: &mut Run, change: Change) -> Checked<()> {
 /// A value list, now and then with wild numbers, written to outputs of several
 /// sizes.
 fn list(run: &mut Run) -> Checked<()> {
-    let Request::Write { service, values, mut table, .. } = request(&mut run.random, b'W') else {
-        unreachable!("a request of kind W is a Write");
+    let (service, values, mut table) = match request(&mut run.random, b'W') {
+        Request::Write { service, values, table, .. } => (service, values, table),
+        _ => unreachable!("a request of kind W is a Write"),
     };
     if run.random.chance(30) {
         make_wild(&mut run.random, &mut table, values.len() as u32);
@@ -217,5 +237,5 @@ fn list(run: &mut Run) -> Checked<()> {
         run.check(&Call::Write { service, values, table, output })?;
         run.tally.count("write output", name);
     }
-    Ok(())
+    owned::of_list(run, &service, &values, &table)
 }

@@ -107,18 +107,23 @@ mod tests {
     /// Memory for three bytes, one byte of which is changed, so far from them.
     fn stored_at(offset: isize) -> Lent<u8> {
         let mut lent = Lender::new(1, false).lend(&[1, 2, 3]);
-        let place = lent.before.checked_add_signed(offset).expect("a byte of the memory");
-        lent.memory[place] ^= 1;
+        let place = lent.before as isize + offset;
+        lent.memory[place as usize] ^= 1;
         lent
+    }
+
+    /// What is said of a byte stored so far from the three, outside them.
+    fn told(offset: isize) -> String {
+        stored_at(offset).exit("it").expect_err("a guard is changed")
     }
 
     #[test]
     fn guards_show_what_was_stored_outside() {
         for offset in [-8, -1] {
-            assert!(stored_at(offset).exit("it").is_err_and(|what| what.contains("before")));
+            assert!(told(offset).contains("before"));
         }
         for offset in [3, 10] {
-            assert!(stored_at(offset).exit("it").is_err_and(|what| what.contains("behind")));
+            assert!(told(offset).contains("behind"));
         }
     }
 

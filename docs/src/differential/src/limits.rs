@@ -1,7 +1,7 @@
 //! Interchanges and value lists at the limits, each with the answer that the
 //! paper gives it: 14 bytes of a reference and 6 digits of a count, 32,000
-//! bytes of input, text and normal form, as many values as these can hold, and
-//! 96,000 numbers of a table.
+//! bytes of input, text and normal form, as many values as these can hold,
+//! 96,000 numbers of a table; and those of [`wide`](crate::wide).
 //!
 //! Paper, clause "Control elements" and refusals 1, 10, 13 and 15.
 
@@ -9,6 +9,8 @@ use hverolda::surface::{Verdict, Written};
 use hverolda::{Kind, ValueList};
 use second::generator::Random;
 use second::refusal::{CONTROL, LIST, LONGEST, LONGEST_TABLE, NORMAL_LENGTH, OVER_LENGTH};
+
+use crate::wide;
 
 /// An input, Judge's answer, and what it is about.
 pub struct Limit {
@@ -18,8 +20,9 @@ pub struct Limit {
 }
 
 pub fn limit(random: &mut Random) -> Limit {
-    match random.below(4) {
+    match random.below(5) {
         0 => many_values(random),
+        1 => wide::input(random),
         _ => control_elements(random),
     }
 }
@@ -39,7 +42,7 @@ fn accepted(segments: u32, length: usize) -> Verdict {
     }
 }
 
-fn refused(number: u32, place: usize) -> Verdict {
+pub fn refused(number: u32, place: usize) -> Verdict {
     Verdict { number, place, ..Verdict::default() }
 }
 
@@ -77,9 +80,9 @@ fn many_values(random: &mut Random) -> Limit {
     Limit { input, verdict, name }
 }
 
-/// Six service bytes, a value list, Write's answer, and what it is about.
+/// Service bytes, a value list, Write's answer, and what it is about.
 pub struct WriteLimit {
-    pub service: &'static [u8; 6],
+    pub service: Vec<u8>,
     pub values: Vec<u8>,
     pub table: Vec<u32>,
     pub written: Written,
@@ -87,10 +90,10 @@ pub struct WriteLimit {
 }
 
 /// The bytes of a text with one empty value in the place of the long one.
-const FRAME: usize = "UNA:+.? 'UNB+UNOA:1++++1'UNH+1'FTX+'UNT+3+1'UNZ+1+1'".len();
+pub const FRAME: usize = "UNA:+.? 'UNB+UNOA:1++++1'UNH+1'FTX+'UNT+3+1'UNZ+1+1'".len();
 
 /// The interchange of a long value, as a list.
-fn framed(value: &[u8]) -> ValueList {
+pub fn framed(value: &[u8]) -> ValueList {
     let segments: [&[&[u8]]; 5] = [
         &[b"UNB", b"UNOA", b"", b"", b"", b"1"],
         &[b"UNH", b"1"],
@@ -110,14 +113,16 @@ fn framed(value: &[u8]) -> ValueList {
     list
 }
 
-fn stored(length: usize) -> Written {
+pub fn stored(length: usize) -> Written {
     Written { length, ..Written::default() }
 }
 
 pub fn write_limit(random: &mut Random) -> WriteLimit {
-    match random.below(3) {
+    match random.below(5) {
         0 => long_text(random),
         1 => long_normal_form(random),
+        2 => wide::service(random),
+        3 => wide::values(random),
         _ => long_table(random),
     }
 }
@@ -131,7 +136,7 @@ fn long_text(random: &mut Random) -> WriteLimit {
         _ => (Written { number: OVER_LENGTH, ..stored(0) }, "a text of 32001 bytes"),
     };
     let (values, table) = (list.bytes().to_vec(), list.table().to_vec());
-    WriteLimit { service: b":+.? '", values, table, written, name }
+    WriteLimit { service: b":+.? '".to_vec(), values, table, written, name }
 }
 
 /// A shorter text, the plus signs of which are released in the normal form.
@@ -149,21 +154,25 @@ fn long_normal_form(random: &mut Random) -> WriteLimit {
         }
     };
     let (values, table) = (list.bytes().to_vec(), list.table().to_vec());
-    WriteLimit { service: b";*.! ~", values, table, written, name }
+    WriteLimit { service: b";*.! ~".to_vec(), values, table, written, name }
 }
 
-/// A table of 96,000 numbers, most of them for empty components at the end, or
-/// of one to three more.
+/// A table of 96,000 numbers, most of them for empty components at the end; or
+/// of one to three more, or of so many that in 16 bits it ends with the list.
 fn long_table(random: &mut Random) -> WriteLimit {
     let list = framed(b"A");
     let mut table = list.table().to_vec();
+    let list_alone = table.len();
     while table.len() < LONGEST_TABLE {
         table.extend([2, 0, 0]);
     }
-    table.extend(vec![0; random.pick(&[0, 0, 0, 1, 2, 3])]);
-    let (written, name) = match table.len() {
-        LONGEST_TABLE => (stored(FRAME + 1), "a table of 96000 numbers"),
-        _ => (Written { number: LIST, ..stored(0) }, "a table over 96000 numbers"),
+    let more = random.pick(&[0, 0, 0, 1, 2, 3, 2 * wide::WIDE + list_alone - LONGEST_TABLE]);
+    table.resize(table.len() + more, 0);
+    let (written, name) = match more {
+        0 => (stored(FRAME + 1), "a table of 96000 numbers"),
+        1..=3 => (Written { number: LIST, ..stored(0) }, "a table over 96000 numbers"),
+        _ => (Written { number: LIST, ..stored(0) }, "a list's table and 131072 numbers"),
     };
-    WriteLimit { service: b":+.? '", values: list.bytes().to_vec(), table, written, name }
+    let (service, values) = (b":+.? '".to_vec(), list.bytes().to_vec());
+    WriteLimit { service, values, table, written, name }
 }

@@ -17,11 +17,13 @@ mod cases;
 mod inputs;
 mod lent;
 mod limits;
+mod owned;
 mod pairs;
 mod rules;
 mod run;
 mod tables;
 mod tally;
+mod wide;
 
 use std::process::ExitCode;
 
@@ -58,9 +60,12 @@ fn command() -> Option<(u64, u64, Options)> {
 }
 
 fn main() -> ExitCode {
-    let Some((seed, count, options)) = command() else {
-        eprintln!("{USAGE}");
-        return ExitCode::from(2);
+    let (seed, count, options) = match command() {
+        Some(command) => command,
+        None => {
+            eprintln!("{USAGE}");
+            return ExitCode::from(2);
+        }
     };
     let mut run = Run::new(seed, options.tight);
     if let Err((case, disagreement)) = all(&mut run, count) {

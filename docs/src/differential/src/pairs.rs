@@ -2,46 +2,63 @@
 //! are the same.
 //!
 //! Paper, clauses "Service characters", "From bytes to values" and "Normal
-//! form": the same contents and mark under any usable characters are the same;
-//! one byte, component, trailing space or mark makes a difference.
+//! form": the same contents and mark under any usable characters are the same,
+//! a release character that releases nothing with them; one byte, component,
+//! trailing space or mark makes a difference.
 
 use second::generator::{any_valid, Draft, Random};
-use second::level::holds;
+use second::level::{holds, Level};
 use second::service_characters::{from_six, ServiceCharacters};
 
 /// How the second differs from the first.
 #[derive(Clone, Copy, Debug, PartialEq, Eq)]
 pub enum Change {
     Respelled,
+    UnusedRelease,
     Byte,
     Component,
     TrailingSpace,
     Mark,
 }
 
-pub const CHANGES: [Change; 5] =
-    [Change::Respelled, Change::Byte, Change::Component, Change::TrailingSpace, Change::Mark];
+pub const CHANGES: [Change; 6] = [
+    Change::Respelled,
+    Change::UnusedRelease,
+    Change::Byte,
+    Change::Component,
+    Change::TrailingSpace,
+    Change::Mark,
+];
 
 impl Change {
     pub fn name(self) -> &'static str {
         match self {
             Change::Respelled => "respelled",
+            Change::UnusedRelease => "only an unused release character changed",
             Change::Byte => "one byte changed",
             Change::Component => "one component changed",
             Change::TrailingSpace => "trailing space",
             Change::Mark => "the mark changed",
         }
     }
+
+    /// Are the two the same after it?
+    pub fn is_same(self) -> bool {
+        matches!(self, Change::Respelled | Change::UnusedRelease)
+    }
 }
 
 /// Two accepted interchanges, the second respelled after this change.
 pub fn pair(random: &mut Random, change: Change) -> (Vec<u8>, Vec<u8>) {
     let mut draft = any_valid(random);
+    if change == Change::UnusedRelease {
+        return one_byte_apart(random, draft);
+    }
     // the sender, which nobody judges, so that there is a byte to change
     draft.segments[0][2][0].push(b'A');
     let mut other = draft.clone();
     match change {
-        Change::Respelled => {}
+        Change::Respelled | Change::UnusedRelease => {}
         Change::Byte => change_byte(random, &mut other),
         Change::Component => change_component(random, &mut other),
         Change::TrailingSpace => {
@@ -53,6 +70,22 @@ pub fn pair(random: &mut Random, change: Change) -> (Vec<u8>, Vec<u8>) {
         }
     }
     respell(random, &mut other);
+    (draft.spelled(), other.spelled())
+}
+
+/// Spelled with an advice under characters of no level, so that nothing is
+/// released; and again with another release character there, or with none.
+fn one_byte_apart(random: &mut Random, mut draft: Draft) -> (Vec<u8>, Vec<u8>) {
+    draft.advice = true;
+    let may_serve = may_serve(|byte| !holds(Level::B, byte));
+    draft.characters = characters_of(random, draft.characters.mark, &may_serve);
+    let mut other = draft.clone();
+    while other.characters.release == draft.characters.release {
+        let six = draft.characters.six();
+        let release = if random.chance(20) { b' ' } else { random.pick(&may_serve) };
+        let six = [six[0], six[1], six[2], release, six[4], six[5]];
+        other.characters = from_six(&six).unwrap_or(draft.characters);
+    }
     (draft.spelled(), other.spelled())
 }
 
@@ -135,12 +168,21 @@ fn respell(random: &mut Random, draft: &mut Draft) {
     }
 }
 
-/// Any usable characters with this mark, one time in five without release.
+/// The bytes of which this holds that may separate, end or release.
+fn may_serve(holds: fn(u8) -> bool) -> Vec<u8> {
+    let printable = (33..=126u8).filter(|byte| !byte.is_ascii_alphanumeric());
+    printable.chain([28, 29, 31]).filter(|&byte| holds(byte)).collect()
+}
+
+/// Any usable characters with this mark.
 fn any_characters(random: &mut Random, mark: u8) -> ServiceCharacters {
-    let may_serve: Vec<u8> =
-        (33..=126u8).filter(|byte| !byte.is_ascii_alphanumeric()).chain([28, 29, 31]).collect();
+    characters_of(random, mark, &may_serve(|_| true))
+}
+
+/// Usable characters of these, one time in five without release.
+fn characters_of(random: &mut Random, mark: u8, may_serve: &[u8]) -> ServiceCharacters {
     loop {
-        let [component, element, terminator, release] = [0; 4].map(|_: u8| random.pick(&may_serve));
+        let [component, element, terminator, release] = [0; 4].map(|_: u8| random.pick(may_serve));
         let release = if random.chance(20) { b' ' } else { release };
         if let Some(characters) = from_six(&[component, element, mark, release, b' ', terminator]) {
             return characters;
@@ -175,12 +217,22 @@ mod tests {
         for seed in 0..2_000 {
             for change in CHANGES {
                 let (first, second) = pair(&mut Random::new(seed), change);
-                let expected = match change {
-                    Change::Respelled => Comparison::Same,
-                    _ => Comparison::Different,
+                let expected = match change.is_same() {
+                    true => Comparison::Same,
+                    false => Comparison::Different,
                 };
                 assert_eq!(compare(&first, &second), expected, "{change:?}, seed {seed}");
             }
+        }
+    }
+
+    #[test]
+    fn an_unused_release_character_is_one_byte() {
+        for seed in 0..2_000 {
+            let (first, second) = pair(&mut Random::new(seed), Change::UnusedRelease);
+            let differ: Vec<usize> =
+                (0..first.len()).filter(|&place| first[place] != second[place]).collect();
+            assert_eq!((differ, first.len()), (vec![6], second.len()), "seed {seed}");
         }
     }
 }

@@ -22,7 +22,7 @@ const REFUSING: [(&str, &[u32]); 7] = [
 
 /// Other things that must occur: answers that are no refusals, sizes of
 /// buffers, and the ways in which two interchanges differ.
-const OTHERS: [(&str, &str); 45] = [
+const OTHERS: [(&str, &str); 60] = [
     ("judge", "accepted"),
     ("normalise", "stored"),
     ("compare", "same"),
@@ -41,15 +41,22 @@ const OTHERS: [(&str, &str); 45] = [
     ("normalise buffer", "exact"),
     ("normalise buffer", "longer"),
     ("normalise buffer", "one short"),
+    ("normalise buffer", "65536 or more"),
     ("read bytes", "exact"),
     ("read bytes", "one short"),
+    ("read bytes", "65536 or more"),
     ("read table", "exact"),
     ("read table", "one short"),
+    ("read table", "65536 or more"),
     ("write output", "empty"),
     ("write output", "exact"),
     ("write output", "longer"),
     ("write output", "one short"),
+    ("write output", "65536 or more"),
+    ("write output", "any of 65536 or more"),
+    ("limit", "X and 65536 bytes or twice that"),
     ("limit", "a count of 7 digits"),
+    ("limit", "a list's table and 131072 numbers"),
     ("limit", "a normal form of 31999 bytes"),
     ("limit", "a normal form of 32000 bytes"),
     ("limit", "a normal form of 32001 bytes"),
@@ -61,13 +68,21 @@ const OTHERS: [(&str, &str); 45] = [
     ("limit", "a text of 32001 bytes"),
     ("limit", "a text with a normal form of 32000 bytes"),
     ("limit", "a text with a normal form of 32001 bytes"),
+    ("limit", "a value beyond 65536 bytes or more"),
     ("limit", "an input of 32000 bytes"),
     ("limit", "an input of 32001 bytes"),
+    ("limit", "an input over 70000 bytes"),
+    ("limit", "an interchange and 65536 bytes or twice that"),
+    ("limit", "more than six service bytes"),
+    ("limit", "values of 65536 bytes or more"),
     ("pair", "one byte changed"),
     ("pair", "one component changed"),
     ("pair", "the mark changed"),
+    ("pair", "only an unused release character changed"),
     ("pair", "respelled"),
     ("pair", "trailing space"),
+    ("wrapper's text", "refused"),
+    ("wrapper's text", "stored"),
 ];
 
 #[derive(Default)]
@@ -174,7 +189,7 @@ impl fmt::Display for Tally {
             writeln!(f, "{what:<18}{counts}")?;
         }
         for ((what, how), count) in &self.others {
-            writeln!(f, "{what:<18}{how:<41}{count:>8}")?;
+            writeln!(f, "{what:<18}{how:<46}{count:>8}")?;
         }
         Ok(())
     }

@@ -67,6 +67,11 @@ impl Error for ComparisonRefused {
 
 /// Says whether two interchanges are the same.
 ///
+/// # Errors
+///
+/// Where one of them is refused, as [`judge`](crate::judge) refuses it: the
+/// first, or else the second.
+///
 /// ```
 /// use hverolda::{compare, Comparison};
 ///
@@ -103,6 +108,7 @@ pub fn compare(first: &[u8], second: &[u8]) -> Result<Comparison, ComparisonRefu
 /// assert_eq!(hverolda::keep(long, short), short);
 /// assert_eq!(hverolda::keep(long, b"UNB+"), b"");
 /// ```
+#[must_use]
 pub fn keep<'a>(first: &'a [u8], second: &'a [u8]) -> &'a [u8] {
     let kept = surface::keep(first, second);
     let input = match Which::told(kept.input) {

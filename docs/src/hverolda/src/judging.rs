@@ -12,7 +12,8 @@ pub struct ServiceCharacters {
     pub element: u8,
     /// The decimal mark, `.` or `,`.
     pub mark: u8,
-    /// The release character, where there is one.
+    /// The release character, where there is one. A space is none: in the six
+    /// bytes `Some(b' ')` and `None` are the same, and [`judge`] answers `None`.
     pub release: Option<u8>,
     /// The segment terminator.
     pub terminator: u8,
@@ -28,12 +29,13 @@ impl ServiceCharacters {
         terminator: b'\'',
     };
 
-    /// The six bytes of a service string advice, as [`write`](crate::write)
+    /// The six bytes of a service string advice, as [`write()`](crate::write())
     /// takes them: a space for no release character and for the reserved byte.
     ///
     /// ```
     /// assert_eq!(&hverolda::ServiceCharacters::STANDARD.six(), b":+.? '");
     /// ```
+    #[must_use]
     pub fn six(&self) -> [u8; 6] {
         let release = self.release.unwrap_or(b' ');
         [self.component, self.element, self.mark, release, b' ', self.terminator]
@@ -57,6 +59,10 @@ pub struct Interchange {
 }
 
 /// Judges one interchange.
+///
+/// # Errors
+///
+/// Refusals 1 to 13: what of the interchange is not by the rules, and where.
 ///
 /// ```
 /// let input = b"UNB+UNOA:1+AA+BB+260105:0930+R1'UNH+1+ORDERS:1:901:UN'\

@@ -4,8 +4,10 @@
 //! crate lends it slices and gives its answers the types of Rust.
 //!
 //! Every function takes any bytes, of any length, and answers for each: what
-//! was asked, or a [`Refusal`] with its number and place. None panics on what
-//! it is given, none keeps what it is lent.
+//! was asked, or a [`Refusal`] with its number and place. [`keep`] and [`part`]
+//! refuse nothing: they answer a part of what they are lent, of no bytes where
+//! there is none to hand back. None panics on what it is given, none keeps what
+//! it is lent.
 //!
 //! | To | lent buffers | owned |
 //! |---|---|---|
@@ -14,7 +16,7 @@
 //! | tell two apart, keep one | [`compare`], [`keep`] | |
 //! | find a component | [`locate`], [`part`] | |
 //! | read all values | [`read`] | [`values`] |
-//! | write an interchange | [`write`] | [`text_of`] |
+//! | write an interchange | [`write()`] | [`text_of`] |
 //!
 //! ```
 //! let first = b"UNB+UNOA:1+AA+BB+260105:0930+R1'UNH+1+ORDERS:1:901:UN'\
@@ -52,13 +54,13 @@ pub use locating::{locate, part};
 pub use normalising::{normal_form, normalise};
 pub use reading::{read, values, Listing};
 pub use refusal::{Fault, Refusal};
-pub use value_list::{Kind, ValueList, Values};
+pub use value_list::{Kind, UnknownKind, ValueList, Values};
 pub use writing::{text_of, write};
 
 /// The longest input, text and normal form, in bytes (refusals 1 and 13).
 pub const LONGEST: usize = 32_000;
 
-/// The longest table of a value list, in numbers (refusal 15).
+/// The longest table that [`write()`] takes, in numbers (refusal 15).
 pub const LONGEST_TABLE: usize = 96_000;
 
 /// The example of the paper and its neighbours, for the tests.

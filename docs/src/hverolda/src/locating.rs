@@ -9,6 +9,10 @@ use crate::surface;
 /// there is none. Segments, elements and components are numbered from 0;
 /// element 0 is the tag. What trimming takes away is not there.
 ///
+/// # Errors
+///
+/// Where the input is refused, as [`judge`](crate::judge) refuses it.
+///
 /// ```
 /// let input = b"UNB+UNOA:1+SENDER+RECIPIENT++1'UNH+1'UNT+2+1'UNZ+1+1'";
 /// assert_eq!(hverolda::locate(input, 0, 2, 0)?, Some(11..17));
@@ -38,6 +42,7 @@ pub fn locate(
 /// assert_eq!(hverolda::part(input, 0, 2, 0), b"O?'HARA");
 /// assert_eq!(hverolda::part(input, 9, 0, 0), b"");
 /// ```
+#[must_use]
 pub fn part(input: &[u8], segment: usize, element: usize, component: usize) -> &[u8] {
     let part = surface::part(input, segment, element, component);
     &input[part.offset..][..part.length]

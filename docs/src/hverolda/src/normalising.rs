@@ -7,6 +7,11 @@ use crate::{surface, LONGEST};
 /// answers its length. The bytes beyond it, and all of them where it is
 /// refused, keep their values.
 ///
+/// # Errors
+///
+/// Where the input is refused, as [`judge`](crate::judge) refuses it; and 14,
+/// with the bytes needed, where the buffer is too short.
+///
 /// ```
 /// let input = b"UNB+UNOA:1++++1'UNH+1'UNT+2+1'UNZ+1+1'";
 /// let mut buffer = [0; 64];
@@ -21,6 +26,10 @@ pub fn normalise(input: &[u8], buffer: &mut [u8]) -> Result<usize, Refusal> {
 }
 
 /// The normal form of an interchange.
+///
+/// # Errors
+///
+/// Where the input is refused, as [`judge`](crate::judge) refuses it.
 ///
 /// ```
 /// let input = b"UNB+UNOA:1++++1+::+'UNH+1'UNT+2+1'UNZ+1+1'";

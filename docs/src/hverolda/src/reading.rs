@@ -18,6 +18,12 @@ pub struct Listing {
 /// 2 next component), where it starts and how long it is. What is not filled,
 /// and all where it is refused, keeps its values.
 ///
+/// # Errors
+///
+/// Where the input is refused, as [`judge`](crate::judge) refuses it; and 14
+/// where a buffer is too short: `bytes` with the bytes needed, or else `table`
+/// with the numbers needed.
+///
 /// ```
 /// let input = b"UNB+UNOA:1++++1'UNH+1'UNT+2+1'UNZ+1+1'";
 /// let (mut bytes, mut table) = ([0; 64], [0; 64]);
@@ -33,6 +39,10 @@ pub fn read(input: &[u8], bytes: &mut [u8], table: &mut [u32]) -> Result<Listing
 }
 
 /// The values of an interchange.
+///
+/// # Errors
+///
+/// Where the input is refused, as [`judge`](crate::judge) refuses it.
 ///
 /// ```
 /// use hverolda::Kind;

@@ -65,11 +65,13 @@ const FAULTS: [Fault; 16] = [
 
 impl Fault {
     /// The number of the paper's table.
+    #[must_use]
     pub fn number(self) -> u32 {
         self as u32
     }
 
     /// The fault with this number, where there is one.
+    #[must_use]
     pub fn of_number(number: u32) -> Option<Fault> {
         FAULTS.into_iter().find(|fault| fault.number() == number)
     }
@@ -85,7 +87,7 @@ impl Fault {
             Fault::Tag => "the segment's tag is not one",
             Fault::Level => "the level or its version is not one that is judged",
             Fault::Byte => "the byte is outside the level",
-            Fault::Order => "no such segment is allowed here",
+            Fault::Order => "no such segment is allowed here, or the end comes before UNZ",
             Fault::Control => "a count or a reference is missing or malformed",
             Fault::Reference => "the trailer's reference is not its header's",
             Fault::Count => "the trailer's count is wrong",
@@ -126,6 +128,7 @@ pub struct Refusal {
 
 impl Refusal {
     /// The number of the paper's table.
+    #[must_use]
     pub fn number(&self) -> u32 {
         self.fault.number()
     }
@@ -184,6 +187,10 @@ mod tests {
 
     #[test]
     fn a_place_counts_in_the_units_of_its_fault() {
+        assert_eq!(
+            sentence(9, 75),
+            "refused 9 at byte 75: no such segment is allowed here, or the end comes before UNZ"
+        );
         assert_eq!(sentence(12, 67), "refused 12 at byte 67: the trailer's count is wrong");
         assert_eq!(
             sentence(13, 32_004),

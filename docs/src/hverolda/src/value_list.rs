@@ -1,5 +1,6 @@
 //! Value lists: bytes and a table of three numbers a value.
 
+use std::error::Error;
 use std::fmt;
 use std::slice::ChunksExact;
 
@@ -15,20 +16,48 @@ pub enum Kind {
     NextComponent = 2,
 }
 
-impl Kind {
-    fn of_number(number: u32) -> Kind {
+impl From<Kind> for u32 {
+    fn from(kind: Kind) -> u32 {
+        kind as u32
+    }
+}
+
+/// The kind that a table's number names.
+///
+/// ```
+/// use hverolda::Kind;
+///
+/// assert_eq!(Kind::try_from(1), Ok(Kind::NewElement));
+/// assert_eq!(Kind::try_from(3).unwrap_err().to_string(), "no value is of kind 3");
+/// ```
+impl TryFrom<u32> for Kind {
+    type Error = UnknownKind;
+
+    fn try_from(number: u32) -> Result<Kind, UnknownKind> {
         match number {
-            0 => Kind::NewSegment,
-            1 => Kind::NewElement,
-            2 => Kind::NextComponent,
-            other => unreachable!("no value is of kind {other}"),
+            0 => Ok(Kind::NewSegment),
+            1 => Ok(Kind::NewElement),
+            2 => Ok(Kind::NextComponent),
+            other => Err(UnknownKind(other)),
         }
     }
 }
 
+/// A number that no [`Kind`] has.
+#[derive(Clone, Copy, Debug, PartialEq, Eq, Hash)]
+pub struct UnknownKind(pub u32);
+
+impl fmt::Display for UnknownKind {
+    fn fmt(&self, f: &mut fmt::Formatter) -> fmt::Result {
+        write!(f, "no value is of kind {}", self.0)
+    }
+}
+
+impl Error for UnknownKind {}
+
 /// A list of values that owns its bytes and its table. The values of an
 /// interchange come from [`values`](crate::values); a list of one's own is
-/// pushed together.
+/// pushed together, or collected.
 ///
 /// ```
 /// use hverolda::{Kind, ValueList};
@@ -40,6 +69,9 @@ impl Kind {
 /// assert_eq!(list.bytes(), b"BGM220A+B");
 /// assert_eq!(list.table(), [0, 0, 3, 1, 3, 3, 2, 6, 3]);
 /// assert_eq!(list.iter().last(), Some((Kind::NextComponent, &b"A+B"[..])));
+///
+/// let tags: ValueList = ["UNB", "UNZ"].map(|tag| (Kind::NewSegment, tag)).into_iter().collect();
+/// assert_eq!(tags.bytes(), b"UNBUNZ");
 /// ```
 #[derive(Clone, Default, PartialEq, Eq, Hash)]
 pub struct ValueList {
@@ -49,6 +81,7 @@ pub struct ValueList {
 
 impl ValueList {
     /// A list of no values.
+    #[must_use]
     pub fn new() -> ValueList {
         ValueList::default()
     }
@@ -68,26 +101,30 @@ impl ValueList {
         let start = self.bytes.len();
         let number = |count: usize| u32::try_from(count).expect("a list's bytes fit 32 bits");
         number(start + value.len());
-        self.table.extend([kind as u32, number(start), number(value.len())]);
+        self.table.extend([kind.into(), number(start), number(value.len())]);
         self.bytes.extend_from_slice(value);
     }
 
     /// The bytes of all values, end to end.
+    #[must_use]
     pub fn bytes(&self) -> &[u8] {
         &self.bytes
     }
 
     /// Three numbers a value: its kind, where it starts, how long it is.
+    #[must_use]
     pub fn table(&self) -> &[u32] {
         &self.table
     }
 
     /// The number of values.
+    #[must_use]
     pub fn len(&self) -> usize {
         self.table.len() / 3
     }
 
     /// Are there no values?
+    #[must_use]
     pub fn is_empty(&self) -> bool {
         self.table.is_empty()
     }
@@ -105,6 +142,21 @@ impl fmt::Debug for ValueList {
     }
 }
 
+/// Pushes each value at the end.
+impl<V: AsRef<[u8]>> Extend<(Kind, V)> for ValueList {
+    fn extend<I: IntoIterator<Item = (Kind, V)>>(&mut self, values: I) {
+        values.into_iter().for_each(|(kind, value)| self.push(kind, value));
+    }
+}
+
+impl<V: AsRef<[u8]>> FromIterator<(Kind, V)> for ValueList {
+    fn from_iter<I: IntoIterator<Item = (Kind, V)>>(values: I) -> ValueList {
+        let mut list = ValueList::new();
+        list.extend(values);
+        list
+    }
+}
+
 impl<'a> IntoIterator for &'a ValueList {
     type Item = (Kind, &'a [u8]);
     type IntoIter = Values<'a>;
@@ -116,6 +168,7 @@ impl<'a> IntoIterator for &'a ValueList {
 
 /// Goes through the values of a list.
 #[derive(Clone, Debug)]
+#[must_use]
 pub struct Values<'a> {
     bytes: &'a [u8],
     records: ChunksExact<'a, u32>,
@@ -127,7 +180,8 @@ impl<'a> Iterator for Values<'a> {
     fn next(&mut self) -> Option<(Kind, &'a [u8])> {
         let record = self.records.next()?;
         let (start, length) = (record[1] as usize, record[2] as usize);
-        Some((Kind::of_number(record[0]), &self.bytes[start..][..length]))
+        let kind = Kind::try_from(record[0]).expect("a list's kinds are 0 to 2");
+        Some((kind, &self.bytes[start..][..length]))
     }
 
     fn size_hint(&self) -> (usize, Option<usize>) {
@@ -159,5 +213,30 @@ mod tests {
         assert!(list.iter().eq(pushed));
         assert!((&list).into_iter().eq(pushed));
         assert!(format!("{list:?}").contains("NextComponent"));
+    }
+
+    #[test]
+    fn a_collected_list_is_the_pushed_one() {
+        let pushed = [(Kind::NewSegment, "UNB"), (Kind::NewElement, ""), (Kind::NewElement, "A")];
+        let mut list = ValueList::new();
+        for (kind, value) in pushed {
+            list.push(kind, value);
+        }
+        assert_eq!(pushed.into_iter().collect::<ValueList>(), list);
+        assert_eq!(list.iter().collect::<ValueList>(), list);
+        let mut twice = list.clone();
+        twice.extend(&list);
+        assert_eq!(twice.len(), 6);
+        assert_eq!(twice.bytes(), b"UNBAUNBA");
+    }
+
+    #[test]
+    fn the_kinds_are_zero_to_two() {
+        for number in 0..3 {
+            assert_eq!(Kind::try_from(number).map(u32::from), Ok(number));
+        }
+        for number in [3, 256, u32::MAX] {
+            assert_eq!(Kind::try_from(number), Err(UnknownKind(number)));
+        }
     }
 }

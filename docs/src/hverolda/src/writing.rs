@@ -14,6 +14,13 @@ use crate::{surface, LONGEST};
 /// [`read`](crate::read) stores them; the values may stand anywhere in the
 /// bytes.
 ///
+/// # Errors
+///
+/// In this order: 15 where the table is malformed, 2 where the service bytes
+/// are not six usable ones, 16 where a value needs a release character, 1 where
+/// the text has more than 32,000 bytes, 14 with the bytes needed where `output`
+/// is too short; then as [`judge`](crate::judge) would refuse the text.
+///
 /// ```
 /// let input = b"UNB+UNOA:1++++1'UNH+1'UNT+2+1'UNZ+1+1'";
 /// let list = hverolda::values(input)?;
@@ -34,6 +41,10 @@ pub fn write(
 }
 
 /// The interchange that a value list tells, under these service characters.
+///
+/// # Errors
+///
+/// As [`write()`] refuses, but for 14.
 ///
 /// ```
 /// use hverolda::{text_of, values, ServiceCharacters};

@@ -85,14 +85,17 @@ fn lowest_fault(contents: &Contents, pair: &Pair) -> Option<Refusal> {
     let header = &contents.segments[pair.header];
     let trailer = &contents.segments[pair.trailer];
     let fault = |number, segment| Some(Refusal { place: contents.start_of(segment), number });
-    let Some(header_reference) = reference_of(contents, header, pair.header_reference) else {
-        return fault(CONTROL, header);
+    let header_reference = match reference_of(contents, header, pair.header_reference) {
+        Some(reference) => reference,
+        None => return fault(CONTROL, header),
     };
-    let Some(reference) = reference_of(contents, trailer, TRAILER_REFERENCE) else {
-        return fault(CONTROL, trailer);
+    let reference = match reference_of(contents, trailer, TRAILER_REFERENCE) {
+        Some(reference) => reference,
+        None => return fault(CONTROL, trailer),
     };
-    let Some(count) = count_of(contents, trailer, TRAILER_COUNT) else {
-        return fault(CONTROL, trailer);
+    let count = match count_of(contents, trailer, TRAILER_COUNT) {
+        Some(count) => count,
+        None => return fault(CONTROL, trailer),
     };
     if !contents.bytes(reference).eq(contents.bytes(header_reference)) {
         return fault(REFERENCE, trailer);

@@ -51,7 +51,7 @@ pub fn named_level(contents: &Contents, body: usize) -> Answer<Level> {
     let header = contents.segments.first();
     let components = header.and_then(|header| contents.numbered(header, 1)).unwrap_or(&[]);
     let is = |number: usize, bytes: &[u8]| {
-        components.get(number).is_some_and(|part| contents.value_is(part, bytes))
+        components.get(number).map_or(false, |part| contents.value_is(part, bytes))
     };
     let level = if is(0, b"UNOA") {
         Some(Level::A)

@@ -169,8 +169,9 @@ pub fn write(service: &[u8], values: &[u8], table: &[u32], output: &mut [u8]) ->
 /// The text of a value list: 15, 2, 16, 1, 14, then as Judge answers.
 fn text_of(service: &[u8], values: &[u8], table: &[u32], room: usize) -> Answer<Vec<u8>> {
     let records = records_of(table, values.len())?;
-    let Some(characters) = from_six(service) else {
-        return refuse(ADVICE, 0);
+    let characters = match from_six(service) {
+        Some(characters) => characters,
+        None => return refuse(ADVICE, 0),
     };
     check_spellable(&records, values, &characters)?;
     let mut contents = contents_of(&records, values);

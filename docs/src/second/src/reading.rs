@@ -48,10 +48,10 @@ fn read_value(input: &[u8], start: usize, characters: &ServiceCharacters) -> Ans
     let mut at = start;
     loop {
         let rest = &input[at..];
-        let Some(plain) = rest.iter().position(|&byte| characters.is_service(byte)) else {
-            return refuse(INSIDE_SEGMENT, input.len());
-        };
-        at += plain;
+        match rest.iter().position(|&byte| characters.is_service(byte)) {
+            Some(plain) => at += plain,
+            None => return refuse(INSIDE_SEGMENT, input.len()),
+        }
         if Some(input[at]) != characters.release {
             return Ok(Part { offset: start as u32, length: (at - start) as u32 });
         }

@@ -74,9 +74,7 @@ fn normal_form(input: &[u8]) -> Answer<Vec<u8>> {
 }
 
 fn check_normal_form(input: &[u8], verdict: &Verdict) -> Check {
-    let Ok(form) = normal_form(input) else {
-        return Err("accepted and not normalised".to_string());
-    };
+    let form = normal_form(input).map_err(|_| "accepted and not normalised".to_string())?;
     let length = verdict.normal_length;
     ensure(form.len() == length && length <= 2 * input.len() + 9, "normal length", input)?;
     let again = judge(&form);
@@ -127,9 +125,7 @@ fn stored(input: &[u8]) -> Answer<Stored> {
 }
 
 fn check_read(input: &[u8], verdict: &Verdict) -> Check {
-    let Ok(list) = stored(input) else {
-        return Err("accepted and not read".to_string());
-    };
+    let list = stored(input).map_err(|_| "accepted and not read".to_string())?;
     let mut end = 0;
     for record in list.table.chunks(RECORD) {
         ensure(record[1] == end, "values end to end", input)?;
@@ -181,8 +177,7 @@ fn check_located(input: &[u8], list: &Stored, verdict: &Verdict) -> Check {
         ensure(found, "spelled part", input)?;
         let located = locate(input, numbers).ok().flatten();
         let range = part.offset..part.offset + part.bytes.len();
-        let agree = located.is_some_and(|at| at.range() == range);
-        ensure(agree, "companion", input)?;
+        ensure(located.map(|at| at.range()) == Some(range), "companion", input)?;
     }
     let beyond = Numbers { segment: verdict.segments as u32, element: 0, component: 0 };
     ensure(locate(input, beyond) == Ok(None), "absent segment", input)?;
@@ -218,8 +213,9 @@ fn check_same(random: &mut Random) -> Check {
 
 /// A written text has its list; a refused Write leaves zeros.
 fn check_write(random: &mut Random) -> Check {
-    let Request::Write { service, values, table, output } = request(random, b'W') else {
-        return Ok(());
+    let (service, values, table, output) = match request(random, b'W') {
+        Request::Write { service, values, table, output } => (service, values, table, output),
+        _ => return Ok(()),
     };
     let mut written = output.clone();
     match write(&service, &values, &table, &mut written) {
@@ -229,9 +225,7 @@ fn check_write(random: &mut Random) -> Check {
             ensure(written[length..] == output[length..], "bytes beyond the text", &values)?;
             let advice = text[..3] == *b"UNA" && text[3..9] == service[..];
             ensure(advice && judge(text).is_ok(), "written text is accepted", text)?;
-            let Ok(list) = stored(text) else {
-                return Err("written and not read".to_string());
-            };
+            let list = stored(text).map_err(|_| "written and not read".to_string())?;
             let mut again = vec![FILL; length];
             let answer = write(&service, &list.bytes, &list.table, &mut again);
             ensure(answer == Ok(length) && again == text, "read and written again", text)

@@ -65,9 +65,8 @@ fn all_differ(bytes: &[u8]) -> bool {
 /// The service characters that six bytes name, or None when they are not six
 /// or not usable.
 pub fn from_six(six: &[u8]) -> Option<ServiceCharacters> {
-    let &[component, element, mark, release, reserved, terminator] = six else {
-        return None;
-    };
+    let [component, element, mark, release, reserved, terminator] =
+        <[u8; 6]>::try_from(six).ok()?;
     let mut serving = vec![component, element, terminator];
     if release != b' ' {
         serving.push(release);
@@ -99,8 +98,9 @@ pub fn opening(input: &[u8]) -> Answer<Opening> {
 }
 
 fn opening_with_advice(input: &[u8]) -> Answer<Opening> {
-    let Some(characters) = input.get(3..ADVICE_LENGTH).and_then(from_six) else {
-        return refuse(ADVICE, 0);
+    let characters = match input.get(3..ADVICE_LENGTH).and_then(from_six) {
+        Some(characters) => characters,
+        None => return refuse(ADVICE, 0),
     };
     let beginning = [b'U', b'N', b'B', characters.element];
     if !input[ADVICE_LENGTH..].starts_with(&beginning) {

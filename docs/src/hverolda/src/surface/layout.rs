@@ -6,6 +6,7 @@
 /// What Judge says.
 #[repr(C)]
 #[derive(Clone, Copy, Debug, Default, PartialEq, Eq)]
+#[must_use]
 pub struct Verdict {
     /// The refusal's number.
     pub number: u32,
@@ -36,6 +37,7 @@ pub struct Verdict {
 /// What Normalise and Write say.
 #[repr(C)]
 #[derive(Clone, Copy, Debug, Default, PartialEq, Eq)]
+#[must_use]
 pub struct Written {
     /// The refusal's number.
     pub number: u32,
@@ -48,6 +50,7 @@ pub struct Written {
 /// What Compare says.
 #[repr(C)]
 #[derive(Clone, Copy, Debug, Default, PartialEq, Eq)]
+#[must_use]
 pub struct Comparison {
     /// The refusal's number.
     pub number: u32,
@@ -62,6 +65,7 @@ pub struct Comparison {
 /// What Keep hands back: a part of one of its two inputs.
 #[repr(C)]
 #[derive(Clone, Copy, Debug, Default, PartialEq, Eq)]
+#[must_use]
 pub struct Kept {
     /// Of which input, 1 or 2.
     pub input: u32,
@@ -74,6 +78,7 @@ pub struct Kept {
 /// What Locate says.
 #[repr(C)]
 #[derive(Clone, Copy, Debug, Default, PartialEq, Eq)]
+#[must_use]
 pub struct Location {
     /// The refusal's number.
     pub number: u32,
@@ -90,6 +95,7 @@ pub struct Location {
 /// What Locate's companion hands back: a part of its input.
 #[repr(C)]
 #[derive(Clone, Copy, Debug, Default, PartialEq, Eq)]
+#[must_use]
 pub struct Part {
     /// Where it begins.
     pub offset: usize,
@@ -100,6 +106,7 @@ pub struct Part {
 /// What Read says.
 #[repr(C)]
 #[derive(Clone, Copy, Debug, Default, PartialEq, Eq)]
+#[must_use]
 pub struct Listing {
     /// The refusal's number.
     pub number: u32,

@@ -143,8 +143,9 @@ fn some_tagged(random: &mut Random, draft: &Draft, tags: &[&str]) -> Option<usiz
 fn damage_control(random: &mut Random, draft: &mut Draft) {
     let of_count = random.chance(40);
     let tags = if of_count || random.chance(50) { TRAILERS } else { HEADERS };
-    let Some(number) = some_tagged(random, draft, &tags) else {
-        return;
+    let number = match some_tagged(random, draft, &tags) {
+        Some(number) => number,
+        None => return,
     };
     let segment = &mut draft.segments[number];
     let place = if of_count { 1 } else { reference_number(&segment[0][0]) };
@@ -176,15 +177,16 @@ fn lengthen(random: &mut Random, value: &mut Value, length: usize) {
 
 fn damage_reference(random: &mut Random, draft: &mut Draft) {
     let tags = random.pick(&[HEADERS, TRAILERS]);
-    let Some(number) = some_tagged(random, draft, &tags) else {
-        return;
+    let number = match some_tagged(random, draft, &tags) {
+        Some(number) => number,
+        None => return,
     };
     let segment = &mut draft.segments[number];
     let place = reference_number(&segment[0][0]);
-    let Some(element) = segment.get_mut(place) else {
-        return;
+    let value = match segment.get_mut(place) {
+        Some(element) => &mut element[0],
+        None => return,
     };
-    let value = &mut element[0];
     match random.below(5) {
         0 => value.push(random.pick(b" A0")),
         1 => value.insert(0, b'0'),
@@ -199,11 +201,13 @@ fn damage_reference(random: &mut Random, draft: &mut Draft) {
 }
 
 fn damage_count(random: &mut Random, draft: &mut Draft) {
-    let Some(number) = some_tagged(random, draft, &TRAILERS) else {
-        return;
+    let number = match some_tagged(random, draft, &TRAILERS) {
+        Some(number) => number,
+        None => return,
     };
-    let Some(element) = draft.segments[number].get_mut(1) else {
-        return;
+    let element = match draft.segments[number].get_mut(1) {
+        Some(element) => element,
+        None => return,
     };
     let count: i64 = String::from_utf8_lossy(&element[0]).parse().unwrap_or(1);
     let wrong = match random.below(5) {
