@@ -6,7 +6,7 @@ use mathlib.Core.List.{List, [], _∷_, _++_, map, append-nil}
 use mathlib.Core.Option.{Option, none, some, Option·some-ne-none}
 use native.Mathlib.Omega.{arith}
 use lib.ListN.{length, take, drop, replicate, length-replicate}
-use lib.Seq.{sets, sets-eq, length-sets, take-at, drop-length}
+use lib.Seq.{sets, length-sets, take-at, drop-length}
 use lib.Dec.{eqb, ltb}
 use borrow.Author.Tests.{lt-ltb, le-ltb, ltb-false, eqb-true, ne-eqb, eq-eqb, not-false}
 use Rattle.lists.specs.Lists.{if_then_else_, at, maybe}
@@ -15,8 +15,7 @@ use Rattle.characters.specs.declared.Characters.{Characters}
 use Rattle.characters.specs.Characters.{sixBytes, usable, adviceOf, badAdvice}
 use Rattle.refusals.specs.declared.Fault.the-variants.{TooLong, UnusableAdvice, BufferShort, BadList}
 use Rattle.refusals.specs.declared.Refusal.{Refusal}
-use Rattle.refusals.specs.declared.Outcome.the-variants as outcome-as
-use Rattle.refusals.specs.Refusals.{Stage, met, lowest, orElse, answering, outcome}
+use Rattle.refusals.specs.Refusals.{Stage, met, lowest, orElse, answering}
 use Rattle.refusals.proofs.Stages.{answering-first}
 use Rattle.machines.specs.Walks.{refuse}
 use Rattle.machines.proofs.Rows.{lowest-if}
@@ -33,6 +32,7 @@ use Rattle.answers.specs.Answers.{given, refused, toldStored}
 use Rattle.operations.specs.Judge.{shortFor, storedIn, unlessRefused}
 use Rattle.operations.specs.ValueList.{Entry, entries, valueIn, listedIn, segmentsListed, trimList}
 use Rattle.operations.specs.Write.{badTable, badList, unusableBytes, needsRelease, writtenText, writeRefusal, write, writeOutput}
+use Rattle.operations.proofs.Answered.{front-stored}
 use Rattle.promises.specs.Promises.{Judges, Writes}
 use Rattle.judging.proofs.Told.{told-accepted, told-refused}
 use Rattle.trimming.specs.Kinds.{firstKind}
@@ -43,17 +43,6 @@ use Rattle.composing.specs.Composing.{composedText, capped}
 use Rattle.composing.proofs.Lengths.{capped-tells, capped-tells-over}
 use Rattle.composing.proofs.Composed.{composed-written}
 use Rattle.writing.specs.Writing.{Written, Passed, textOf, textStages, releaseStages, serviceStages}
-
--- ---- what is stored at the front
-
--- a text stored at the front is the text and what is beyond it
-front-stored : (l₀ text : List ℕ) → length text ≤ length l₀ → sets l₀ 0 text ≡ storedIn l₀ text
-unfolding storedIn
-front-stored l₀ text h =
-    sets-eq text l₀ 0 (omega arith) ∙ ap (λ (n : ℕ). text ++ drop n l₀) zero-more
-  where
-    zero-more : 0 + length text ≡ length text
-    zero-more = omega arith
 
 -- ---- what is refused
 
@@ -89,16 +78,6 @@ left-to-others stage others {size} {text} {before} {s} {after} e w =
 pub first-answers : (stage : Stage) (others : List Stage) {r : Refusal} → lowest stage ≡ some r → answering (stage ∷ others) ≡ some r
 unfolding orElse
 first-answers stage others {r} e = answering-first stage others (some r) e
-
-pub failed-is : (o : Option Refusal) (r : Refusal) → outcome o ≡ outcome-as.Failed r → o ≡ some r
-unfolding outcome
-failed-is none r e = cc
-failed-is (some q) r e = cc
-
-pub passed-is : (o : Option Refusal) → outcome o ≡ outcome-as.Passed → o ≡ none
-unfolding outcome
-passed-is none e = refl
-passed-is (some q) e = cc
 
 -- ---- 15
 
