@@ -3,14 +3,13 @@ use Prim.Native.Nat.{ℕ, _+_, _*_, _≤_, _<_}
 use mathlib.Core.Path.{_≡_, refl, sym, ap, _∙_}
 use mathlib.Core.Bool.{Bool, true, false}
 use mathlib.Core.List.{List, [], _∷_, _++_, map}
-use native.Mathlib.Numerals.{add-one}
 use native.Mathlib.Omega.{arith}
 use lib.Dec.{leb, ltb}
-use lib.ListN.{length, drop, getD, length-drop, length-take, length-append}
-use lib.Seq.{drop-cons}
-use borrow.Author.Tests.{ltb-true, lt-ltb, le-ltb}
+use lib.ListN.{length, drop, getD, drop-of-length-le, length-take, length-append}
+use borrow.Author.Tests.{ltb-true, lt-ltb}
 use Rattle.lists.specs.Lists.{if_then_else_, gather}
-use Rattle.lists.proofs.Texts.{if-true, if-false}
+use Rattle.lists.proofs.Texts.{if-true}
+use Rattle.lists.proofs.Numbers.{drop-next}
 use Rattle.characters.specs.declared.Characters.{Characters}
 use Rattle.reading.specs.Spelling.{Bytes, spellByte, spellValue}
 use Rattle.emission.proofs.Cases.{by-spelling}
@@ -30,9 +29,7 @@ module _ (c : Characters) (value : Bytes) (i : ℕ) where
   pub spelled-next : i < length value
       → spellValue c (drop i value) ≡ spellByte c (getD value i 0) ++ spellValue c (drop (i + 1) value)
   unfolding spellValue gather
-  spelled-next h =
-      ap (spellValue c) (drop-cons value i 0 h)
-      ∙ ap (λ (n : ℕ). spellByte c (getD value i 0) ++ spellValue c (drop n value)) (sym (add-one i))
+  spelled-next h = ap (spellValue c) (drop-next value i h)
 
   pub spelled-left : i < length value
       → length (spellValue c (drop i value)) ≡ length (spellByte c (getD value i 0)) + length (spellValue c (drop (i + 1) value))
@@ -40,11 +37,7 @@ module _ (c : Characters) (value : Bytes) (i : ℕ) where
 
   pub spelled-end : length value ≤ i → spellValue c (drop i value) ≡ []
   unfolding spellValue gather
-  spelled-end h = none-left (drop i value) (omega (arith, length-drop i value))
-    where
-      none-left : (l : Bytes) → length l ≡ 0 → spellValue c l ≡ []
-      none-left [] e = refl
-      none-left (b ∷ bs) e = absurd (omega arith)
+  spelled-end h = ap (spellValue c) (drop-of-length-le value h)
 
 -- a byte takes at most two
 pub spelled-most : (c : Characters) (b : ℕ) → length (spellByte c b) ≤ 2
