@@ -6,9 +6,9 @@ use mathlib.Core.List.{List, [], _∷_, map}
 use mathlib.Core.Logic.{_↔_}
 use native.Mathlib.Omega.{arith}
 use borrow.Author.Tests.{not-false}
-use Rattle.lists.specs.Lists.{if_then_else_, isEmpty, all, text, begins, through, onto, cut, lastOr, dropEnd, trimEnd, gather}
+use Rattle.lists.specs.Lists.{if_then_else_, isEmpty, all, text, begins, through, onto, cut, lastOr, dropEnd, trimEnd, gather, beyond}
 use Rattle.lists.proofs.Texts.{and-left, and-right, and-both}
-use Rattle.lists.proofs.Pieces.{beyond, cut-first}
+use Rattle.lists.proofs.Pieces.{cut-first}
 use Rattle.refusals.specs.Refusals.{placeIf}
 use Rattle.reading.specs.Tokens.{Token, ends, Segment, start, segments}
 use Rattle.reading.specs.Values.{bytesOf, valueOf, valuesOf, elementsOf, isFault, endedBy, endsInside, finished}

@@ -6,7 +6,6 @@ use mathlib.Core.List.{List, [], _∷_, _++_, append-eq-nil-iff, cons≢nil}
 use mathlib.Core.Logic.{_↔_}
 use Rattle.lists.specs.Lists.{all, gather}
 use Rattle.lists.proofs.Texts.{and-left, and-right, and-both}
-pub use Rattle.lists.proofs.Texts.{all-map}
 use Rattle.refusals.specs.Refusals.{placeIf}
 
 -- two parts are empty exactly where both tests say so

@@ -10,17 +10,16 @@ use lib.ListN.{length, take, drop, length-take, length-drop}
 use denote.Ref.{RefT, ptr, now}
 use Rattle.lists.specs.Lists.{through, at, cut, trimEnd, maybe}
 use Rattle.lists.proofs.Pieces.{cut-first}
+use Rattle.lists.proofs.Numbers.{at-drop, at-map}
 use Rattle.characters.specs.declared.Characters.{Characters}
 use Rattle.characters.specs.Characters.{bodyStart}
 use Rattle.refusals.specs.declared.Refusal.{Refusal}
-use Rattle.reading.specs.Tokens.{Token, ends, Segment, segments}
+use Rattle.reading.specs.Tokens.{Token, ends, Segment, segments, tokensAt}
 use Rattle.reading.specs.Values.{Value, elementsOf}
 use Rattle.reading.specs.Trimming.{trimmed, trimSegment, valueAt}
-use Rattle.reading.proofs.Steps.{tokensAt}
 use Rattle.scanner.specs.Scan.{segmentAt}
 use Rattle.verdict.specs.Contents.{bodyTokens, segmentsOf}
 use Rattle.verdict.specs.Stages.{refusalOf}
-use Rattle.heading.proofs.Trimmed.{at-map}
 use Rattle.placing.specs.Placing.{behindPieces, SegmentAt}
 use Rattle.placing.proofs.Placing.{pieces-behind}
 use Rattle.judging.proofs.Judging.{body-tokens, body-ended}
@@ -34,7 +33,6 @@ use Rattle.operations.specs.Locate.{located, locate, partOffset, partLength}
 use Rattle.promises.specs.Promises.{HandsBack}
 use Rattle.locating.specs.Locating.{placed, Inside}
 use Rattle.locating.proofs.Ends.{Whole, behind-whole}
-use Rattle.locating.proofs.Trimmed.{at-drop}
 
 module _ (s : List ℕ) (segment element component : ℕ) where
   -- Judge's refusal answers

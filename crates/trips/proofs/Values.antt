@@ -10,7 +10,7 @@ use lib.ListN.{length, length-append}
 use lib.Dec.{eqb, ltb, leb}
 use borrow.Author.Tests.{ltb-false, le-leb, eqb-true, not-true, not-false}
 use Rattle.lists.specs.Lists.{all, any, gather, at, maybe}
-use Rattle.lists.proofs.Texts.{and-both, or-none-left, or-none-right, decided, all-append}
+use Rattle.lists.proofs.Texts.{and-both, or-none-left, or-none-right, decided, all-append, all-mapped, all-map}
 use Rattle.characters.specs.declared.Characters.{Characters}
 use Rattle.characters.specs.Characters.{sixBytes, released, isService}
 use Rattle.refusals.specs.Refusals.{placeIf}
@@ -21,16 +21,11 @@ use Rattle.spelling.specs.Bodies.{Releasable}
 use Rattle.spelling.proofs.Grammar.{Spells, nothing, segmentEnd, elementEnd, componentEnd, valueByte}
 use Rattle.trimming.specs.Kinds.{firstKind, kindsUpTo2, Kinds}
 use Rattle.trimming.proofs.Nesting.{listOf-listed}
-use Rattle.forms.proofs.Tests.{all-map, none-both, place-none}
+use Rattle.forms.proofs.Tests.{none-both, place-none}
 
 -- ---- what holds of every value
 
--- a test of all that a map gives, or of all that is gathered, is a test of all
-all-mapped : {A B : Type 0} (f : A → B) (t : B → Bool) (xs : List A) → all t (map f xs) ≡ all (λ x. t (f x)) xs
-unfolding all
-all-mapped f t [] = refl
-all-mapped f t (x ∷ xs) = ap (λ (b : Bool). t (f x) && b) (all-mapped f t xs)
-
+-- a test of all that is gathered is a test of all
 all-gathered : {A B : Type 0} (f : A → List B) (t : B → Bool) (q : A → Bool) → ((x : A) → all t (f x) ≡ q x) → (xs : List A)
     → all t (gather f xs) ≡ all q xs
 unfolding all gather
