@@ -4,7 +4,7 @@ use mathlib.Core.Path.{_≡_, refl, sym, ap, _∙_}
 use mathlib.Core.Bool.{Bool, true, false}
 use mathlib.Core.List.{List, [], _∷_, _++_, map}
 use native.Mathlib.Omega.{arith}
-use lib.Dec.{leb, ltb}
+use lib.Dec.{ltb}
 use lib.ListN.{length, drop, getD, drop-of-length-le, length-take, length-append}
 use borrow.Author.Tests.{ltb-true, lt-ltb}
 use Rattle.lists.specs.Lists.{if_then_else_, gather}
@@ -16,6 +16,7 @@ use Rattle.emission.proofs.Cases.{by-spelling}
 use Rattle.emitting.proofs.Putting.{let-out-length}
 use Rattle.measuring.specs.declared.Measure.{Measure}
 use Rattle.measuring.specs.Measure.{behindSeparator}
+use Rattle.measuring.proofs.Steps.{by-separator}
 use Rattle.operations.specs.ValueList.{Item, Entry, valueIn, listedIn}
 use Rattle.value_lists.specs.declared.Record.{Record}
 use Rattle.value_lists.specs.Records.{entryOf, recordAt}
@@ -67,42 +68,15 @@ module _ (bytes table : List ℕ) (at : ℕ) where
 
 -- ---- how far the text moves on
 
--- a separator ends a segment, or is held back as one of elements or of components
-by-separator : (P : Measure → Type 0) (m : Measure) (kind : ℕ) → P (record { total = m .total + 1; elements = 0; components = 0 })
-    → P (record { total = m .total; elements = m .elements + 1; components = 0 })
-    → P (record { total = m .total; elements = m .elements; components = m .components + 1 }) → P (behindSeparator m kind)
-unfolding behindSeparator
-by-separator P m kind p q r = step (leb kind 0) (leb kind 1)
-  where
-    step : (a b : Bool)
-        → P
-        (if a then record { total = m .total + 1; elements = 0; components = 0 }
-        else if b then record { total = m .total; elements = m .elements + 1; components = 0 }
-        else record { total = m .total; elements = m .elements; components = m .components + 1 })
-    step true b = p
-    step false true = q
-    step false false = r
-
-abbrev place : Measure → ℕ
-place m = m .total
-
 abbrev waiting : Measure → ℕ
 waiting m = m .elements + m .components
 
 module _ (c : Characters) where
   pub kind-moves : (m : Measure) (kind : ℕ) → behindSeparator m kind .total ≡ m .total + length (endText c kind)
-  unfolding behindSeparator endText
-  kind-moves m kind = step (leb kind 0) (leb kind 1)
-    where
-      step : (a b : Bool)
-          → place
-          (if a then record { total = m .total + 1; elements = 0; components = 0 }
-          else if b then record { total = m .total; elements = m .elements + 1; components = 0 }
-          else record { total = m .total; elements = m .elements; components = m .components + 1 })
-          ≡ m .total + length {A = ℕ} (if a then c .terminator ∷ [] else [])
-      step true b = refl
-      step false true = omega arith
-      step false false = omega arith
+  unfolding endText
+  kind-moves m kind =
+      by-separator (λ terminates ends n. n .total ≡ m .total + length {A = ℕ} (if terminates then c .terminator ∷ [] else []))
+      m kind (λ ends. refl) (omega arith) (omega arith)
 
   pub value-moves : (m : Measure) (value : Bytes) → behindValue c m value .total ≡ m .total + length (valueText c m value)
   unfolding behindValue valueText
@@ -125,7 +99,7 @@ module _ (c : Characters) where
   unfolding behindItem
   item-holds m l =
       let kind-holds : waiting (behindSeparator m (l .kind)) ≤ waiting m + 1 =
-      by-separator (λ n. waiting n ≤ waiting m + 1) m (l .kind) (omega arith) (omega arith) (omega arith)
+      by-separator (λ terminates ends n. waiting n ≤ waiting m + 1) m (l .kind) (λ ends. omega arith) (omega arith) (omega arith)
       in
       omega (arith, value-holds (behindSeparator m (l .kind)) (l .value))
 

@@ -1,7 +1,7 @@
 -- What operations answer and leave in the buffers that they are lent, from what refuses the inputs and from the buffers' lengths.
 -- Assumes nothing.
 use Prim.Native.Nat.{ℕ, _≤_, _<_}
-use mathlib.Core.Path.{_≡_, ap, ap₂, _∙_}
+use mathlib.Core.Path.{_≡_, refl, ap, ap₂, _∙_}
 use mathlib.Core.Bool.{Bool}
 use mathlib.Core.List.{List, [], _∷_, _++_}
 use mathlib.Core.Option.{Option, none, some}
@@ -15,11 +15,13 @@ use Rattle.refusals.specs.declared.Fault.the-variants.{BufferShort}
 use Rattle.refusals.specs.declared.Refusal.{Refusal}
 use Rattle.refusals.specs.Refusals.{Stage, met, placeIf, lowerOf, lowest, orElse, answering}
 use Rattle.refusals.proofs.Stages.{answering-append}
+use Rattle.reading.specs.Values.{Value}
 use Rattle.verdict.specs.Contents.{normalForm}
 use Rattle.verdict.specs.Stages.{stages, refusalOf}
 use Rattle.answers.specs.Answers.{given, refused, refusedInput, accepted}
 use Rattle.operations.specs.Judge.{interchangeOf, judge, shortFor, storedIn, unlessRefused, normaliseRefusal, normalise, normaliseBuffer}
 use Rattle.operations.specs.Compare.{areSame, compare}
+use Rattle.operations.specs.Locate.{located, locate, partOffset, partLength}
 use Rattle.operations.specs.Read.{valueBytes, valueTable, readRefusal, read, readBytes, readTable}
 
 -- ---- Judge and Compare, by what refuses the inputs
@@ -33,6 +35,28 @@ pub compare-by : (a b : List ℕ) (o p : Option Refusal) → refusalOf a ≡ o �
 unfolding compare
 compare-by a b o p =
     ap₂ (λ (o p : Option Refusal). maybe (maybe (given ((if areSame a b then 1 else 0) ∷ [])) (refusedInput 2) p) (refusedInput 1) o)
+
+-- ---- Locate's companion
+
+-- the offset and the length of a part, from the values that are answered: none is told where there are not two
+unfoldable pub partIn : List ℕ → ℕ × ℕ
+partIn [] = (0, 0)
+partIn (offset ∷ []) = (0, 0)
+partIn (offset ∷ size ∷ rest) = (offset, size)
+
+-- Locate's answer tells the part that the companion hands back
+pub part-told : (s : List ℕ) (segment element component : ℕ)
+    → partIn (locate s segment element component .values)
+    ≡ (partOffset s segment element component, partLength s segment element component)
+unfolding locate partOffset partLength given refused maybe partIn
+part-told s segment element component = step (refusalOf s) (located s segment element component)
+  where
+    step : (o : Option Refusal) (v : Option Value)
+        → partIn (maybe (maybe (given []) (λ x. given (x .offset ∷ x .spelled ∷ [])) v) refused o .values)
+        ≡ (maybe (maybe 0 (λ x. x .offset) v) (λ r. 0) o, maybe (maybe 0 (λ x. x .spelled) v) (λ r. 0) o)
+    step none none = refl
+    step none (some v) = refl
+    step (some r) v = refl
 
 -- ---- stages behind those of the input
 
