@@ -16,7 +16,7 @@ use Rattle.reading.specs.Values.{byteOf, bytesOf, valueOf, valuesOf, elementsOf
 use Rattle.reading.specs.Trimming.{trimSegment, contentsOf}
 use Rattle.reading.specs.Spelling.{Bytes}
 use Rattle.emission.proofs.Cases.{known}
-use Rattle.operations.specs.ValueList.{Item, closed, closes, segmentsListed, trimList}
+use Rattle.operations.specs.ValueList.{Item, closed, closes, elementsListed, segmentsListed, trimList}
 use Rattle.spelling.specs.Bodies.{wordsOf}
 use Rattle.trimming.specs.Kinds.{firstKind}
 use Rattle.forms.proofs.Trimmed.{contents-words}
@@ -167,9 +167,6 @@ element-read element =
     ∙ map-map bytesOf endedTokens (map (λ l. l ∷ []) element)
     ∙ map-map (λ ls. bytesOf (endedTokens ls)) (λ l. l ∷ []) element
     ∙ ap (λ (f : Item → Bytes). map f element) (fun-ext value-read)
-
-abbrev elementsListed : List Item → List (List Bytes)
-elementsListed segment = map (map (λ l. l .value)) (cut (closes 1) segment)
 
 segment-read : (segment : List Item) → wordsOf (endedTokens segment) ≡ elementsListed segment
 unfolding wordsOf elementsOf

@@ -20,10 +20,9 @@ use Rattle.reading.specs.Tokens.{Token, placeOf}
 use Rattle.reading.specs.Values.{isFault, endsInside}
 use Rattle.segments.specs.Order.{isComplete}
 use Rattle.verdict.specs.Contents.{bodyTokens, segmentsOf, kindsOf}
-use Rattle.verdict.specs.Places.{startsWhere, tooLong, unusableAdvice, noOpening, strayReleases, unendedSegment, brokenTags, foreignLevel, outsideLevel, misplacedSegments, badControls, differingReferences, wrongCounts, normalTooLong}
+use Rattle.verdict.specs.Places.{startsWhere, tooLong, unusableAdvice, noOpening, strayReleases, unendedSegment, brokenTags, foreignLevel, outsideLevel, misplacedSegments, badControls, differingReferences, wrongCounts, normalTooLong, misplaced}
 use Rattle.verdict.specs.Stages.{laterStages, stages, refusalOf}
 use Rattle.spelling.specs.Bodies.{Sound, Passes}
-use Rattle.grammar.specs.Grammar.{misplaced}
 use Rattle.forms.specs.Forms.{BodyPasses}
 use Rattle.forms.proofs.Tests.{gather-none, place-none, place-none-not}
 

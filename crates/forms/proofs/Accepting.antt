@@ -22,11 +22,10 @@ use Rattle.segments.specs.Tags.{tagOf, kindOf, isTag}
 use Rattle.segments.specs.Order.{isOpen, standing, allowedAt, allowed, isComplete}
 use Rattle.control.specs.Control.{referenceDiffers, countWrong}
 use Rattle.verdict.specs.Contents.{bodyTokens, segmentsOf, contents, kindsOf, normalCharacters, interchange, normalForm}
-use Rattle.verdict.specs.Places.{isOver, startsWhere, tooLong, unusableAdvice, noOpening, brokenTags, foreignLevel, level, misplacedSegments, badControls, differingReferences, wrongCounts, normalTooLong}
+use Rattle.verdict.specs.Places.{isOver, startsWhere, tooLong, unusableAdvice, noOpening, brokenTags, foreignLevel, level, misplacedSegments, badControls, differingReferences, wrongCounts, normalTooLong, misplaced, badControl}
 use Rattle.verdict.specs.Stages.{refusalOf}
 use Rattle.operations.specs.ValueList.{trimList}
 use Rattle.spelling.specs.Bodies.{listed, readList, Passes}
-use Rattle.grammar.specs.Grammar.{misplaced, badControl}
 use Rattle.forms.specs.Forms.{markOf, formCharacters, listOf}
 use Rattle.forms.proofs.Tests.{place-none, place-none-not}
 use Rattle.forms.proofs.Trimmed.{allBytes, contents-read, trim-bytes}

@@ -17,8 +17,7 @@ use Rattle.segments.specs.Tags.{kindOf}
 use Rattle.segments.specs.Order.{allowed}
 use Rattle.control.specs.Positions.{positionsOf}
 use Rattle.control.specs.Control.{controlElement, standsWell, controlRule, headerOf, referenceOf, sameValue, referenceDiffers, decimal, trueCount, countOf, countWrong}
-use Rattle.verdict.specs.Places.{startsWhere}
-use Rattle.grammar.specs.Grammar.{misplaced, badControl}
+use Rattle.verdict.specs.Places.{startsWhere, misplaced, badControl}
 use Rattle.forms.proofs.Tags.{firstValue, tag-first}
 use Rattle.forms.proofs.Tests.{place-none}
 

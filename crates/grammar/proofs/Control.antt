@@ -20,7 +20,8 @@ use Rattle.segments.specs.Tags.{kindOf}
 use Rattle.segments.specs.Order.{segmentsIn, segmentsSinceHeader, messagesSinceGroup, allowed}
 use Rattle.control.specs.Positions.{positionTable, positionsOf}
 use Rattle.control.specs.Control.{controlElement, isReference, isCount, standsWell, controlRule, headerOf, referenceOf, sameValue, nearestReference, referenceDiffers, decimal, trueCount, countOf, countWrong}
-use Rattle.grammar.specs.Grammar.{messageCount, interchangeCount, Agrees, misplaced, badControl}
+use Rattle.verdict.specs.Places.{misplaced, badControl}
+use Rattle.grammar.specs.Grammar.{messageCount, interchangeCount, Agrees}
 use Rattle.grammar.proofs.Trail.{_▸_}
 use Rattle.grammar.proofs.Pieces.{kinds, number, passed-over, own, through-own, group-count, all-messages, all-groups}
 use Rattle.grammar.proofs.Passing.{Passes, Rules}

@@ -1,28 +1,22 @@
 -- Where a value that is located stands: the tokens before it reach its position, and no other value stands there. Assumes nothing.
-use Prim.Native.Nat.{ℕ, zero, suc, _+_, _-_, _≤_, _<_}
+use Prim.Native.Nat.{ℕ, zero, suc, _+_, _-_, _<_}
 use mathlib.Core.Path.{_≡_, refl, sym, ap, ap₂, subst, _∙_}
 use mathlib.Core.Bool.{Bool, true, false, not, false≢true}
 use mathlib.Core.Logic.{_⊎_, inl, inr}
 use mathlib.Core.List.{List, [], _∷_, _++_, map, append-assoc, append-nil, cons≢nil, head-eq-of-cons-eq, tail-eq-of-cons-eq}
 use mathlib.Core.Option.{some}
 use native.Mathlib.Omega.{arith}
-use borrow.Author.Tests.{leb-true, leb-false, le-leb, not-true}
+use borrow.Author.Tests.{leb-true, leb-false, not-true}
 use Rattle.lists.specs.Lists.{isEmpty, all, lastOr, through, at, cut, trimEnd}
 use Rattle.lists.proofs.Texts.{and-left, and-right}
 use Rattle.lists.proofs.Pieces.{None}
 use Rattle.reading.specs.Tokens.{Token, byte, separator, fault, ends, segments, start}
 use Rattle.reading.specs.Values.{Value, bytesOf, endPlace, endedBy, valueOf, valuesOf, elementsOf}
 use Rattle.reading.specs.Trimming.{trimElement, isIdle, trimSegment, trimmed}
+use Rattle.reading.proofs.Ends.{ends-more, through-ends}
 use Rattle.trips.specs.Trips.{standingAt, Position, passed, reached, Placed}
 use Rattle.trips.proofs.Positions.{at-mapped, at-trimmed, standing-found}
-use Rattle.trips.proofs.Splits.{Pieces, nothing, ended, within, cut-found, through-behind, through-smaller, through-there}
-
--- a separator that ends one thing ends each smaller thing
-smaller : (low high : ℕ) → low ≤ high → (t : Token) → ends low t ≡ true → ends high t ≡ true
-unfolding ends
-smaller low high h (byte b from place) e = e
-smaller low high h (separator kind place) e = le-leb kind high (omega (arith, leb-true kind low e))
-smaller low high h (fault place) e = e
+use Rattle.trips.proofs.Splits.{Pieces, nothing, ended, within, cut-found, through-behind, through-there}
 
 -- ---- one token
 
@@ -218,10 +212,10 @@ module _ (ts : List Token) (g e k : ℕ) (segment element piece : List Token) wh
       let c = cut-found (ends 2) element k piece z in
       let d = through-behind (ends 0) (a .rest) (b .before) (b .rest) (a .begins ∙ b .parts) (b .there) in
       let whole : through (ends 1) (d .rest) ≡ element =
-      sym (through-smaller (ends 0) (ends 1) (smaller 0 1 (omega arith)) (d .rest)) ∙ ap (through (ends 1)) (d .begins) ∙ b .begins in
+      sym (through-ends 0 1 (omega arith) (d .rest)) ∙ ap (through (ends 1)) (d .begins) ∙ b .begins in
       let f = through-behind (ends 1) (d .rest) (c .before) (c .rest) (whole ∙ c .parts) (c .there) in
       let value : through (ends 2) (f .rest) ≡ piece =
-      sym (through-smaller (ends 1) (ends 2) (smaller 1 2 (omega arith)) (f .rest)) ∙ ap (through (ends 2)) (f .begins) ∙ c .begins in
+      sym (through-ends 1 2 (omega arith) (f .rest)) ∙ ap (through (ends 2)) (f .begins) ∙ c .begins in
       let began : start piece ≡ start (f .rest) = ap start (sym value) ∙ start-through (ends 2) (f .rest) in
       record {
         before = a .before ++ (b .before ++ c .before);
@@ -236,9 +230,9 @@ module _ (ts : List Token) (g e k : ℕ) (segment element piece : List Token) wh
         reaches = over-all (a .pieces) (b .pieces) (d .without) (c .pieces) (f .without);
         separated =
             separated-append (a .before) (b .before ++ c .before)
-            (pieces-separated (ends 0) (smaller 0 2 (omega arith)) (a .pieces))
+            (pieces-separated (ends 0) (ends-more 0 2 (omega arith)) (a .pieces))
             (separated-append (b .before) (c .before)
-            (pieces-separated (ends 1) (smaller 1 2 (omega arith)) (b .pieces))
+            (pieces-separated (ends 1) (ends-more 1 2 (omega arith)) (b .pieces))
             (pieces-separated (ends 2) (λ x h. h) (c .pieces)));
         there = sym (through-there (ends 1) (f .rest)) ∙ ap isEmpty (f .begins) ∙ c .there;
         bytes = ap bytesOf (sym value);

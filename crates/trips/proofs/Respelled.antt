@@ -15,12 +15,11 @@ use Rattle.characters.specs.Characters.{between, upper, lower, digit, space, se
 use Rattle.reading.specs.Spelling.{Bytes, SegmentList, spellByte, spellValue, spellElement, spellSegment, spell}
 use Rattle.control.specs.Control.{referenceDiffers, countWrong}
 use Rattle.verdict.specs.Contents.{bodyTokens, segmentsOf, contents, normalCharacters, interchange, normalForm}
-use Rattle.verdict.specs.Places.{isOver, tooLong, unusableAdvice, noOpening, brokenTags, level, badControls, differingReferences, wrongCounts, normalTooLong}
+use Rattle.verdict.specs.Places.{isOver, tooLong, unusableAdvice, noOpening, brokenTags, level, badControls, differingReferences, wrongCounts, normalTooLong, badControl}
 use Rattle.verdict.specs.Stages.{refusalOf}
 use Rattle.operations.specs.ValueList.{trimList}
 use Rattle.spelling.specs.Bodies.{listed, readList, Passes, Releasable}
 use Rattle.spelling.proofs.Grammar.{Spells, nothing, segmentEnd, elementEnd, componentEnd, valueByte, spells-list}
-use Rattle.grammar.specs.Grammar.{badControl}
 use Rattle.forms.specs.Forms.{markOf, formCharacters, BodyPasses, listOf}
 use Rattle.forms.proofs.Tests.{place-none, place-none-not}
 use Rattle.forms.proofs.Trimmed.{contents-read, contents-trimmed}

@@ -95,19 +95,6 @@ module _ {A : Type 0} where
             begins = m .begins;
           }
 
-  -- what ends a larger piece ends a smaller one too: the first smaller piece is the same in the larger one
-  pub through-smaller : (t u : A → Bool) → ((x : A) → t x ≡ true → u x ≡ true) → (xs : List A)
-      → through u (through t xs) ≡ through u xs
-  unfolding through
-  through-smaller t u h [] = refl
-  through-smaller t u h (x ∷ xs) = ap (λ (l : List A). x ∷ l) (step (t x) (u x) refl refl (through-smaller t u h xs))
-    where
-      step : (a b : Bool) → t x ≡ a → u x ≡ b → through u (through t xs) ≡ through u xs
-          → (if b then [] else through u (if a then [] else through t xs)) ≡ (if b then [] else through u xs)
-      step a true e f ih = refl
-      step false false e f ih = ih
-      step true false e f ih = absurd (true≢false (sym (h x e) ∙ f))
-
   pub through-there : (t : A → Bool) (xs : List A) → isEmpty (through t xs) ≡ isEmpty xs
   unfolding through isEmpty
   through-there t [] = refl

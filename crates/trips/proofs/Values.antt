@@ -3,12 +3,12 @@
 use Prim.Native.Nat.{ℕ, suc, _+_, _%_, _≤_}
 use mathlib.Core.Path.{_≡_, refl, sym, ap, ap₂, fun-ext, _∙_}
 use mathlib.Core.Bool.{Bool, true, false, not, _&&_, _||_}
-use mathlib.Core.List.{List, [], _∷_, map, append-eq-nil-iff}
+use mathlib.Core.List.{List, [], _∷_, append-eq-nil-iff}
 use mathlib.Core.Logic.{_↔_, ⊎-elim}
 use native.Mathlib.Omega.{arith}
 use lib.ListN.{length, length-append}
 use lib.Dec.{eqb, ltb, leb}
-use borrow.Author.Tests.{ltb-false, le-leb, eqb-true, not-true, not-false}
+use borrow.Author.Tests.{ltb-false, le-leb, not-true}
 use Rattle.lists.specs.Lists.{all, any, gather, at, maybe}
 use Rattle.lists.proofs.Texts.{and-both, or-none-left, or-none-right, decided, all-append, all-mapped, all-map}
 use Rattle.characters.specs.declared.Characters.{Characters}
@@ -21,6 +21,7 @@ use Rattle.spelling.specs.Bodies.{Releasable}
 use Rattle.spelling.proofs.Grammar.{Spells, nothing, segmentEnd, elementEnd, componentEnd, valueByte}
 use Rattle.trimming.specs.Kinds.{firstKind, kindsUpTo2, Kinds}
 use Rattle.trimming.proofs.Nesting.{listOf-listed}
+use Rattle.trimming.proofs.Tables.{first-listed}
 use Rattle.forms.proofs.Tests.{none-both, place-none}
 
 -- ---- what holds of every value
@@ -77,7 +78,7 @@ module _ (bytes table : List ℕ) where
       let over : Bool = ltb 96000 (length table) || not (eqb (length table % 3) 0) in
       let late : Bool = maybe false (λ e. not (eqb (e .kind) 0)) (at (entries table) 0) in
       record {
-        first = begins (entries table) (or-none-right over late (place-none (badTable table) 0 .0 (parts .0)));
+        first = first-listed bytes (entries table) (or-none-right over late (place-none (badTable table) 0 .0 (parts .0)));
         highest =
             all-map (λ e. record { kind = e .kind; value = valueIn bytes e }) (λ e. not (badEntry bytes e)) (λ l. leb (l .kind) 2)
             low
@@ -85,11 +86,6 @@ module _ (bytes table : List ℕ) where
             (numbers-none (badEntry bytes) 0 (entries table) .0 (parts .1));
       }
     where
-      begins : (es : List Entry) → maybe false (λ e. not (eqb (e .kind) 0)) (at es 0) ≡ false
-          → firstKind (map (λ e. record { kind = e .kind; value = valueIn bytes e }) es) ≡ 0
-      begins [] k = refl
-      begins (e ∷ es) k = eqb-true (e .kind) 0 (not-false (eqb (e .kind) 0) k)
-
       low : (e : Entry) → not (badEntry bytes e) ≡ true → leb (e .kind) 2 ≡ true
       low e k =
           let high : Bool = ltb 2 (e .kind) in
