@@ -2,22 +2,21 @@
 use Prim.Native.Nat.{ℕ, _≤_}
 use mathlib.Core.Path.{_≡_, refl, sym, ap, ap₂, _∙_}
 use mathlib.Core.Bool.{Bool, true, false, _&&_}
-use mathlib.Core.List.{List, [], _∷_, List·Memᴰ, List·Memᴰ·head, List·Memᴰ·tail, cons≢nil}
+use mathlib.Core.List.{List, [], _∷_, List·Memᴰ, List·Memᴰ·head, List·Memᴰ·tail}
 use mathlib.Core.Option.{Option, none, some}
 use native.Mathlib.Nat.{le-of-eq}
 use native.Mathlib.Omega.{arith}
-use lib.Dec.{ltb}
 use lib.ListN.{length, take, drop, replicate, length-append, length-replicate}
 use lib.Seq.{take-at}
-use borrow.Author.Tests.{ltb-false}
 use Rattle.lists.specs.Lists.{if_then_else_, same, maybe}
 use Rattle.refusals.specs.declared.Fault.the-variants.{NormalTooLong}
 use Rattle.refusals.specs.declared.Refusal.{Refusal}
-use Rattle.refusals.specs.Refusals.{met, placeIf}
+use Rattle.refusals.specs.Refusals.{met}
 use Rattle.refusals.proofs.Stages.{met-none, answering-none}
 use Rattle.verdict.specs.Contents.{normalForm}
-use Rattle.verdict.specs.Places.{isOver, normalTooLong}
+use Rattle.verdict.specs.Places.{normalTooLong}
 use Rattle.verdict.specs.Stages.{laterStages, stages, refusalOf}
+use Rattle.verdict.proofs.Over.{within}
 use Rattle.answers.specs.declared.Compared.{Compared}
 use Rattle.answers.specs.declared.Compared.the-variants.{Same, Different, FirstRefused, SecondRefused}
 use Rattle.answers.specs.Answers.{Answer, given, refusedInput, toldCompared}
@@ -29,19 +28,14 @@ use Rattle.operations.proofs.Answered.{compare-by, normalises}
 
 -- its normal form is not over 32,000 bytes
 pub form-fits : (s : List ℕ) → refusalOf s ≡ none → length (normalForm s) ≤ 32000
-unfolding refusalOf stages laterStages normalTooLong isOver placeIf
+unfolding refusalOf stages laterStages normalTooLong
 form-fits s e =
-    ltb-false 32000 (length (normalForm s))
-    (not-met (ltb 32000 (length (normalForm s))) (length (normalForm s))
+    within (normalForm s) (length (normalForm s)) .0
     (met-none NormalTooLong (normalTooLong s) .0
-    (answering-none (stages s) .0 e (met NormalTooLong (normalTooLong s)) (behind (behind (behind (behind (behind (behind (behind (behind (List·Memᴰ·head refl))))))))))))
+    (answering-none (stages s) .0 e (met NormalTooLong (normalTooLong s)) (behind (behind (behind (behind (behind (behind (behind (behind (List·Memᴰ·head refl)))))))))))
   where
     behind : {A : Type 0} {x y : A} {l : List A} → List·Memᴰ x l → List·Memᴰ x (y ∷ l)
     behind = List·Memᴰ·tail
-
-    not-met : (t : Bool) (p : ℕ) → (if t then p ∷ [] else []) ≡ [] → t ≡ false
-    not-met true p h = absurd (cons≢nil h)
-    not-met false p h = refl
 
 -- so many zeros leave room for as many bytes
 pub room-in : (n : ℕ) → n ≤ length (replicate {A = ℕ} n 0)

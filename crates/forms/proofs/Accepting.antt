@@ -11,6 +11,7 @@ use Rattle.lists.proofs.Texts.{and-left, same-eq, all-map}
 use Rattle.characters.specs.declared.Characters.{Characters}
 use Rattle.characters.specs.Characters.{upper, digit, between, released, serviceCharacters, isService, sixBytes, bodyStart, badAdvice, opens}
 use Rattle.refusals.specs.Refusals.{placeIf}
+use Rattle.refusals.proofs.Stages.{place-none, place-none-not}
 use Rattle.reading.specs.Tokens.{Segment, start}
 use Rattle.reading.specs.Trimming.{trimSegment, valueAt, contentsOf}
 use Rattle.reading.specs.Spelling.{Bytes, SegmentList, spellByte, spellValue, spellElement, spellSegment, spell}
@@ -27,7 +28,6 @@ use Rattle.verdict.specs.Stages.{refusalOf}
 use Rattle.operations.specs.ValueList.{trimList}
 use Rattle.spelling.specs.Bodies.{listed, readList, Passes}
 use Rattle.forms.specs.Forms.{markOf, formCharacters, listOf}
-use Rattle.forms.proofs.Tests.{place-none, place-none-not}
 use Rattle.forms.proofs.Trimmed.{allBytes, contents-read, trim-bytes}
 use Rattle.forms.proofs.Openings.{advice-characters, advice-body, advice-good}
 use Rattle.forms.proofs.Accepted.{Accepted, accepted-exactly, passes-accepted, order-accepted}

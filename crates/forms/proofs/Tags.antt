@@ -10,6 +10,7 @@ use Rattle.lists.specs.Lists.{if_then_else_, isEmpty, all, text, begins, throug
 use Rattle.lists.proofs.Texts.{and-left, and-right, and-both}
 use Rattle.lists.proofs.Pieces.{cut-first}
 use Rattle.refusals.specs.Refusals.{placeIf}
+use Rattle.refusals.proofs.Stages.{place-none-not}
 use Rattle.reading.specs.Tokens.{Token, ends, Segment, start, segments}
 use Rattle.reading.specs.Values.{bytesOf, valueOf, valuesOf, elementsOf, isFault, endedBy, endsInside, finished}
 use Rattle.reading.specs.Trimming.{trimElement, trimSegment, contentsOf}
@@ -21,7 +22,7 @@ use Rattle.segments.specs.Tags.{tagPiece, tagOf, kindOf, isTag, tagRule}
 use Rattle.spelling.specs.Bodies.{wordsOf, Sound}
 use Rattle.verdict.specs.Places.{startsWhere, brokenTag}
 use Rattle.forms.proofs.Trimmed.{contents-words}
-use Rattle.forms.proofs.Tests.{none-both, place-none-not}
+use Rattle.forms.proofs.Tests.{none-both}
 
 -- ---- the rule, of a segment's values
 

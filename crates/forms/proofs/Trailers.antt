@@ -4,6 +4,7 @@ use mathlib.Core.Bool.{Bool, true, false, not, _||_, false≢true, true≢false,
 use mathlib.Core.List.{List, [], _∷_, _++_, map, reverse, reverseAux, append-eq-nil-iff}
 use Rattle.lists.specs.Lists.{if_then_else_, any}
 use Rattle.refusals.specs.Refusals.{placeIf}
+use Rattle.refusals.proofs.Stages.{place-none-not}
 use Rattle.reading.specs.Tokens.{Segment, start}
 use Rattle.segments.specs.declared.Kind.{Kind}
 use Rattle.segments.specs.declared.Kind.the-variants.{Unb, Unz}
@@ -12,7 +13,6 @@ use Rattle.segments.specs.Tags.{kindOf}
 use Rattle.segments.specs.Order.{isOpen, standing, allowedAt, allowed, isComplete}
 use Rattle.verdict.specs.Places.{startsWhere, misplaced}
 use Rattle.forms.specs.Forms.{behindTrailer}
-use Rattle.forms.proofs.Tests.{place-none-not}
 
 -- what is open was opened
 open-any : (nearer farther : Kind) (past : List Kind) → isOpen nearer farther past ≡ true → any (is nearer) past ≡ true

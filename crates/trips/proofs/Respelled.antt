@@ -21,7 +21,7 @@ use Rattle.operations.specs.ValueList.{trimList}
 use Rattle.spelling.specs.Bodies.{listed, readList, Passes, Releasable}
 use Rattle.spelling.proofs.Grammar.{Spells, nothing, segmentEnd, elementEnd, componentEnd, valueByte, spells-list}
 use Rattle.forms.specs.Forms.{markOf, formCharacters, BodyPasses, listOf}
-use Rattle.forms.proofs.Tests.{place-none, place-none-not}
+use Rattle.refusals.proofs.Stages.{place-none, place-none-not}
 use Rattle.forms.proofs.Trimmed.{contents-read, contents-trimmed}
 use Rattle.forms.proofs.Openings.{advice-characters, advice-body, advice-good, interchange-passes, interchange-read, interchange-contents}
 use Rattle.forms.proofs.Accepted.{Accepted, accepted-exactly, passes-accepted}

@@ -14,6 +14,7 @@ use Rattle.lists.proofs.Texts.{and-both, or-none-left, or-none-right, decided, 
 use Rattle.characters.specs.declared.Characters.{Characters}
 use Rattle.characters.specs.Characters.{sixBytes, released, isService}
 use Rattle.refusals.specs.Refusals.{placeIf}
+use Rattle.refusals.proofs.Stages.{place-none}
 use Rattle.reading.specs.Spelling.{Bytes, SegmentList, spellByte}
 use Rattle.operations.specs.ValueList.{Item, listElement, listSegment, listOf, Entry, entries, valueIn, listedIn, segmentsListed}
 use Rattle.operations.specs.Write.{numbersWhere, badTable, badEntry, badList, lacksRelease, needsRelease}
@@ -22,7 +23,7 @@ use Rattle.spelling.proofs.Grammar.{Spells, nothing, segmentEnd, elementEnd, co
 use Rattle.trimming.specs.Kinds.{firstKind, kindsUpTo2, Kinds}
 use Rattle.trimming.proofs.Nesting.{listOf-listed}
 use Rattle.trimming.proofs.Tables.{first-listed}
-use Rattle.forms.proofs.Tests.{none-both, place-none}
+use Rattle.forms.proofs.Tests.{none-both}
 
 -- ---- what holds of every value
 

@@ -18,11 +18,12 @@ use Rattle.refusals.specs.declared.Fault.the-variants.{TooLong, UnusableAdvice,
 use Rattle.refusals.specs.declared.Refusal.{Refusal}
 use Rattle.refusals.specs.Refusals.{Stage, met, placeIf, lowest, orElse, answering}
 use Rattle.refusals.proofs.Lowest.{lowest-none}
-use Rattle.refusals.proofs.Stages.{met-none, orElse-neither, answering-append}
+use Rattle.refusals.proofs.Stages.{met-none, orElse-neither, answering-append, place-none, place-none-not}
 use Rattle.reading.specs.Spelling.{Bytes, SegmentList, spell}
 use Rattle.verdict.specs.Contents.{contents, interchange, normalCharacters, normalForm}
-use Rattle.verdict.specs.Places.{isOver, tooLong, unusableAdvice, normalTooLong}
+use Rattle.verdict.specs.Places.{tooLong, unusableAdvice, normalTooLong}
 use Rattle.verdict.specs.Stages.{laterStages, stages, refusalOf}
+use Rattle.verdict.proofs.Over.{within}
 use Rattle.answers.specs.Answers.{given, refused}
 use Rattle.operations.specs.Judge.{shortFor, storedIn, unlessRefused}
 use Rattle.operations.specs.Read.{valueBytes, valueTable, readRefusal, readBytes, readTable}
@@ -36,7 +37,6 @@ use Rattle.trimming.proofs.Nesting.{shaped-listed, kinds-listOf}
 use Rattle.trimming.proofs.Again.{trimList-again, trimList-shaped}
 use Rattle.trimming.proofs.Tables.{listed-table, segments-table, listOf-sound}
 use Rattle.forms.specs.Forms.{markOf}
-use Rattle.forms.proofs.Tests.{place-none, place-none-not}
 use Rattle.forms.proofs.Trimmed.{contents-trimmed, trim-releasable}
 use Rattle.forms.proofs.Openings.{advice-characters, advice-good, interchange-contents}
 use Rattle.forms.proofs.Accepted.{accepted-exactly}
@@ -89,10 +89,8 @@ six-usable service =
 
 -- 1 is not met exactly by 32,000 bytes or fewer
 pub short-enough : (s : List ℕ) → (tooLong s ≡ []) ↔ (length s ≤ 32000)
-unfolding tooLong isOver
-short-enough s =
-    let test = place-none (ltb 32000 (length s)) 0 in
-    (λ h. ltb-false 32000 (length s) (test .0 h), λ h. test .1 (le-ltb 32000 (length s) h))
+unfolding tooLong
+short-enough s = within s 0
 
 -- ---- Write
 
@@ -224,14 +222,13 @@ module _ (s : List ℕ) (accepted : refusalOf s ≡ none) where
 
   -- it has at most 32,000 values, since the normal form has a separator for each
   values-few : length (listOf (contents s)) ≤ 32000
-  unfolding normalTooLong isOver normalForm interchange
+  unfolding normalTooLong normalForm interchange
   values-few =
       let c : Characters = normalCharacters (markOf s) in
       let list : SegmentList = contents s in
-      let long : Bool = ltb 32000 (length (normalForm s)) in
       omega (
         arith,
-        ltb-false 32000 (length (normalForm s)) (place-none long (length (normalForm s)) .0 (accepted-exactly s .0 accepted .normal)),
+        within (normalForm s) (length (normalForm s)) .0 (accepted-exactly s .0 accepted .normal),
         length-append (adviceOf c) (spell c list),
         values-bound c (spells-list c list (contents-shaped s accepted) (normal-releasable (markOf s) list)),
       )
