@@ -1,37 +1,26 @@
 -- An input is accepted exactly where it is allowed. Assumes nothing.
-use Prim.Native.Nat.{ℕ, _≤_}
+use Prim.Native.Nat.{ℕ}
 use mathlib.Core.Path.{_≡_, sym, ap, subst, _∙_}
 use mathlib.Core.Logic.{_↔_}
 use mathlib.Core.Bool.{true}
 use mathlib.Core.List.{List, [], _∷_, _++_, List·Memᴰ}
 use mathlib.Core.Option.{none}
 use lib.ListN.{length}
-use lib.Dec.{ltb}
-use borrow.Author.Tests.{ltb-false, le-ltb}
 use Rattle.lists.specs.Lists.{all}
 use Rattle.characters.specs.Characters.{usable, charactersOf, bodyStart, body}
-use Rattle.refusals.specs.Refusals.{placeIf}
 use Rattle.verdict.specs.Contents.{normalForm}
-use Rattle.verdict.specs.Places.{isOver, tooLong, normalTooLong}
+use Rattle.verdict.specs.Places.{tooLong, normalTooLong}
 use Rattle.verdict.specs.Stages.{refusalOf}
+use Rattle.verdict.proofs.Over.{within}
 use Rattle.spelling.specs.Bodies.{readList, Spelled}
 use Rattle.spelling.proofs.Laws.{passes-exactly, read-spelling}
 use Rattle.grammar.proofs.Theorem.{input-interchange}
 use Rattle.forms.specs.Forms.{listOf}
-use Rattle.forms.proofs.Tests.{place-none}
 use Rattle.forms.proofs.Accepted.{Accepted, accepted-exactly, passes-accepted, usable-accepted}
 use Rattle.acceptance.specs.Allowed.{holds, Allowed}
 use Rattle.acceptance.proofs.Opening.{opening-clear}
 use Rattle.acceptance.proofs.Tags.{tags-clear}
 use Rattle.acceptance.proofs.Levels.{levels-clear, clear-levels, inside-clear}
-
--- a limit is kept exactly where it is not passed
-within : (xs : List ℕ) (p : ℕ) → (placeIf (isOver xs) p ≡ []) ↔ (length xs ≤ 32000)
-unfolding isOver
-within xs p = (
-  λ h. ltb-false 32000 (length xs) (place-none (ltb 32000 (length xs)) p .0 h),
-  λ h. place-none (ltb 32000 (length xs)) p .1 (le-ltb 32000 (length xs) h),
-)
 
 module _ (s : List ℕ) where
   -- under usable service characters, the list by which the body is spelled is the one that it is read as

@@ -3,7 +3,7 @@
 use Prim.Native.Nat.{_+_}
 use mathlib.Core.Path.{_≡_, refl, sym, ap, _∙_}
 use mathlib.Core.Logic.{⊎-elim, inl, inr}
-use mathlib.Core.List.{List, [], _∷_, _++_, map, reverse}
+use mathlib.Core.List.{List, [], _∷_, map, reverse}
 use native.Mathlib.Omega.{arith}
 use native.Mathlib.Nat.{zero-add}
 use lib.ListN.{length}
@@ -14,8 +14,8 @@ use Rattle.segments.specs.declared.Kind.the-variants.{Ung, Unh}
 use Rattle.segments.specs.Kinds.{is}
 use Rattle.segments.specs.Tags.{kindOf}
 use Rattle.grammar.specs.Grammar.{Frame, OneOrMore, one, more, size, Group, Content, Agrees, Interchange}
-use Rattle.grammar.proofs.Trail.{_▸_, ▸-append, ▸-map}
-use Rattle.grammar.proofs.Pieces.{number, number-▸, messages-size, groups-size, messages-groups}
+use Rattle.grammar.proofs.Trail.{▸-map}
+use Rattle.grammar.proofs.Pieces.{number, number-▸, number-append, number-frame, messages-size, groups-size, messages-groups}
 use Rattle.acceptance.specs.Counts.{messagesOf, messages, groups}
 
 module _ (kind : Kind) where
@@ -25,24 +25,11 @@ module _ (kind : Kind) where
   number-back gs =
       ap (λ (l : List Kind). length (those (is kind) l)) (sym (▸-map kindOf [] gs)) ∙ number-▸ kind [] gs ∙ zero-add (number kind gs)
 
-  number-append : (xs ys : List Segment) → number kind (xs ++ ys) ≡ number kind xs + number kind ys
-  unfolding those
-  number-append xs ys =
-      omega (arith, number-▸ kind [] (xs ++ ys), ap (number kind) (▸-append [] xs ys), number-▸ kind ([] ▸ xs) ys, number-▸ kind [] xs)
-
   -- a frame whose header and trailer are of other kinds has those of its middle
   number-middle : {header trailer : Kind} {Middle : List Segment → Type 0} {Asked : Segment → List Segment → Segment → Type 0}
       {gs : List Segment} (f : Frame header trailer Middle Asked gs)
       → length (those (is kind) (header ∷ [])) + length (those (is kind) (trailer ∷ [])) ≡ 0 → number kind gs ≡ number kind (f .middle)
-  number-middle f others =
-      omega (
-        arith,
-        ap (number kind) (f .shape),
-        number-append (f .head ∷ []) (f .middle ++ f .tail ∷ []),
-        number-append (f .middle) (f .tail ∷ []),
-        ap (λ (k : Kind). length (those (is kind) (k ∷ []))) (f .opening),
-        ap (λ (k : Kind). length (those (is kind) (k ∷ []))) (f .closing),
-      )
+  number-middle f others = omega (arith, number-frame kind f, others)
 
 -- the messages of groups are as many as UNH
 group-messages : {gs : List Segment} (h : OneOrMore (Group Agrees) gs) → number Unh gs ≡ messagesOf h

@@ -1,13 +1,11 @@
 -- What Judge answers: number 0 and the counts of the contents exactly where the input is allowed, else the one refusal that the
 -- paper names. Assumes nothing.
-use Prim.Native.Nat.{ℕ, suc}
+use Prim.Native.Nat.{ℕ}
 use mathlib.Core.Path.{_≡_, refl, sym, ap, ap₂, _∙_}
 use mathlib.Core.Logic.{_↔_, _⊎_, inl, inr, ⊎-elim}
-use mathlib.Core.Bool.{true}
 use mathlib.Core.List.{List, [], _∷_, _++_, map}
 use mathlib.Core.Option.{Option, none, some, Option·none-ne-some, Option·some-injective}
-use native.Mathlib.Omega.{arith}
-use lib.ListN.{length, getD, length-reverse}
+use lib.ListN.{length, getD, length-map, length-reverse}
 use Rattle.lists.specs.Lists.{maybe}
 use Rattle.characters.specs.Characters.{spelledOut, charactersOf}
 use Rattle.refusals.specs.declared.Fault.{Fault}
@@ -21,6 +19,7 @@ use Rattle.verdict.specs.Contents.{bodyTokens, segmentsOf, kindsOf, normalForm}
 use Rattle.verdict.specs.Stages.{refusalOf}
 use Rattle.answers.specs.Answers.{Answer, given, refused, accepted}
 use Rattle.operations.specs.Judge.{interchangeOf, judge}
+use Rattle.operations.proofs.Answered.{judge-by}
 use Rattle.spelling.specs.Bodies.{wordsOf, listed, readList}
 use Rattle.acceptance.specs.Allowed.{Allowed}
 use Rattle.acceptance.specs.Refused.{Refused}
@@ -32,20 +31,7 @@ use Rattle.acceptance.proofs.Counts.{number-back, message-headers, grou
 abbrev at : Fault → ℕ → Refusal
 at f p = record { fault = f; place = p }
 
-length-map : {A B : Type 0} (f : A → B) (xs : List A) → length (map f xs) ≡ length xs
-length-map f [] = refl
-length-map f (x ∷ xs) = ap suc (length-map f xs)
-
 module _ (s : List ℕ) where
-  -- an answer is an acceptance or a refusal, by what is refused
-  judge-none : refusalOf s ≡ none → judge s ≡ accepted (interchangeOf s)
-  unfolding judge maybe
-  judge-none e = ap (maybe (accepted (interchangeOf s)) refused) e
-
-  judge-some : (r : Refusal) → refusalOf s ≡ some r → judge s ≡ refused r
-  unfolding judge maybe
-  judge-some r e = ap (maybe (accepted (interchangeOf s)) refused) e
-
   -- ---- accepted
 
   module _ (a : Allowed s) where
@@ -53,8 +39,8 @@ module _ (s : List ℕ) where
     unfolding segmentsIn kindsOf segmentsOf bodyTokens listed readList
     counted-segments =
         length-reverse (map kindOf (segmentsOf s))
-        ∙ length-map kindOf (segmentsOf s)
-        ∙ sym (length-map wordsOf (segmentsOf s))
+        ∙ length-map (segmentsOf s) kindOf
+        ∙ sym (length-map (segmentsOf s) wordsOf)
         ∙ ap length (sym (list-read s a))
 
     counted-messages : messagesIn (kindsOf s) ≡ messages (a .order)
@@ -67,9 +53,9 @@ module _ (s : List ℕ) where
 
     -- the counts are those of the contents
     pub judged-accepted : judge s ≡ given (told s a)
-    unfolding accepted interchangeOf
+    unfolding accepted interchangeOf maybe
     judged-accepted =
-        judge-none (allowed-exactly s .1 a)
+        judge-by s none (allowed-exactly s .1 a)
         ∙ ap (λ (n : ℕ). told-as n (messagesIn (kindsOf s)) (groupsIn (kindsOf s))) counted-segments
         ∙ ap₂ (told-as (length (a .spelled .list))) counted-messages counted-groups
       where
@@ -80,13 +66,13 @@ module _ (s : List ℕ) where
 
   -- the number and the place are those that the paper names
   pub judged-refused : (f : Fault) (p : ℕ) → (judge s ≡ record { number = number f; values = p ∷ [] }) ↔ Refused s f p
-  unfolding accepted given refused
-  judged-refused f p = (λ e. refused-exactly s f p .0 (step (refusalOf s) refl e), λ d. judge-some (at f p) (refused-exactly s f p .1 d))
+  unfolding accepted given refused maybe
+  judged-refused f p = (λ e. refused-exactly s f p .0 (step (refusalOf s) refl e), λ d. judge-by s (some (at f p)) (refused-exactly s f p .1 d))
     where
       step : (o : Option Refusal) → refusalOf s ≡ o → judge s ≡ refused (at f p) → refusalOf s ≡ some (at f p)
-      step none e h = absurd (number-not-zero f (ap (λ (x : Answer). x .number) (sym h ∙ judge-none e)))
+      step none e h = absurd (number-not-zero f (ap (λ (x : Answer). x .number) (sym h ∙ judge-by s none e)))
       step (some q) e h =
-          let k : refused q ≡ refused (at f p) = sym (judge-some q e) ∙ h in
+          let k : refused q ≡ refused (at f p) = sym (judge-by s (some q) e) ∙ h in
           let n : number (q .fault) ≡ number f = ap (λ (x : Answer). x .number) k in
           let place : q .place ≡ p = ap (λ (x : Answer). getD (x .values) 0 0) k in
           e ∙ ap₂ (λ (g : Fault) (m : ℕ). some (at g m)) (number-tells (q .fault) f n) place
@@ -114,7 +100,7 @@ module _ (s : List ℕ) where
 
   -- the answer's number says which
   pub judged-number : (judge s .number ≡ 0) ↔ Allowed s
-  unfolding accepted given refused
+  unfolding accepted given refused maybe
   judged-number = (
     λ e.
         ⊎-elim (λ a. a)
@@ -122,5 +108,5 @@ module _ (s : List ℕ) where
         let is = judged-refused (d .0) (d .1) .1 (d .2) in
         absurd (number-not-zero (d .0) (ap (λ (x : Answer). x .number) (sym is) ∙ e)))
         judged,
-    λ a. ap (λ (x : Answer). x .number) (judge-none (allowed-exactly s .1 a)),
+    λ a. ap (λ (x : Answer). x .number) (judge-by s none (allowed-exactly s .1 a)),
   )

@@ -14,7 +14,7 @@ use Rattle.lists.proofs.Texts.{and-left, and-right, and-both, or-none-left, or-
 use Rattle.characters.specs.declared.Characters.{Characters}
 use Rattle.characters.specs.Characters.{usable, sixBytes, spelledOut, advised, adviceOf, plusCharacters, controlCharacters, charactersOf, bodyStart, body, badAdvice, opens}
 use Rattle.verdict.specs.Places.{unusableAdvice, noOpening}
-use Rattle.forms.proofs.Tests.{place-none, place-none-not}
+use Rattle.refusals.proofs.Stages.{place-none, place-none-not}
 use Rattle.forms.proofs.Openings.{advice-good}
 use Rattle.acceptance.specs.Allowed.{Opening, advice, plus, control}
 

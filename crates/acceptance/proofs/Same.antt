@@ -1,7 +1,7 @@
 -- Compare says "same" exactly of interchanges that are the same, which is an equivalence of accepted ones; Keep hands back the
 -- whole of the shorter one, or nothing. Assumes nothing.
 use Prim.Native.Nat.{ℕ, _≤_, _<_}
-use mathlib.Core.Path.{_≡_, refl, sym, ap, ap₂, subst, _∙_}
+use mathlib.Core.Path.{_≡_, refl, sym, ap, subst, _∙_}
 use mathlib.Core.Logic.{_↔_, _⊎_, inl, inr, ⊎-elim}
 use mathlib.Core.Bool.{Bool, true, false, false≢true}
 use mathlib.Core.List.{List, [], _∷_}
@@ -17,6 +17,7 @@ use Rattle.refusals.specs.declared.Refusal.{Refusal}
 use Rattle.verdict.specs.Stages.{refusalOf}
 use Rattle.answers.specs.Answers.{Answer, given, refusedInput}
 use Rattle.operations.specs.Compare.{areSame, compare, Part, ofFirst, ofSecond, keep}
+use Rattle.operations.proofs.Answered.{compare-by}
 use Rattle.forms.proofs.Theorems.{same-normal, same-exactly}
 use Rattle.acceptance.specs.Allowed.{Allowed}
 use Rattle.acceptance.specs.Same.{Same, handed}
@@ -73,10 +74,8 @@ module _ (a b : List ℕ) where
       step (some r) e p f h = absurd (number-not-zero (r .fault) h)
 
   compare-told : Allowed a → Allowed b → compare a b ≡ given (word (areSame a b) ∷ [])
-  unfolding compare maybe
-  compare-told h k =
-      ap₂ (λ (o p : Option Refusal). maybe (maybe (given (word (areSame a b) ∷ [])) (refusedInput 2) p) (refusedInput 1) o)
-      (allowed-exactly a .1 h) (allowed-exactly b .1 k)
+  unfolding maybe
+  compare-told h k = compare-by a b none none (allowed-exactly a .1 h) (allowed-exactly b .1 k)
 
   -- "same" exactly where they are the same
   pub compared-same : (compare a b ≡ given (1 ∷ [])) ↔ Same a b

@@ -11,7 +11,6 @@ use lib.ListN.{length, take, getD}
 use lib.Seq.{take-suc, length-take-le}
 use borrow.Author.Tests.{eqb-true, eq-eqb, ne-eqb}
 use Rattle.lists.specs.Lists.{same}
-use Rattle.lists.proofs.Texts.{same-eq}
 
 -- ---- bits
 
@@ -72,11 +71,3 @@ module _ (a b : List ℕ) where
     where
       one-more : (l : List ℕ) → i < length l → take (i + 1) l ≡ take i l ++ (getD l i 0 ∷ [])
       one-more l h = ap (λ (n : ℕ). take n l) (add-one i) ∙ take-suc l i 0 h
-
--- texts of different lengths differ
-pub lengths-differ : (xs ys : List ℕ) → (length xs ≡ length ys → ⊥) → same xs ys ≡ false
-lengths-differ xs ys h = step (same xs ys) refl
-  where
-    step : (t : Bool) → same xs ys ≡ t → t ≡ false
-    step true e = absurd (h (ap length (same-eq xs ys e)))
-    step false e = refl

@@ -2,66 +2,51 @@
 use Prim.Native.Nat.{ℕ, _≤_}
 use mathlib.Core.Path.{_≡_, refl, sym, ap, ap₂, _∙_}
 use mathlib.Core.Bool.{Bool, true, false, _&&_}
-use mathlib.Core.List.{List, [], _∷_, _++_, List·Memᴰ, List·Memᴰ·head, List·Memᴰ·tail, cons≢nil}
+use mathlib.Core.List.{List, [], _∷_, List·Memᴰ, List·Memᴰ·head, List·Memᴰ·tail}
 use mathlib.Core.Option.{Option, none, some}
 use native.Mathlib.Nat.{le-of-eq}
 use native.Mathlib.Omega.{arith}
-use lib.Dec.{ltb}
 use lib.ListN.{length, take, drop, replicate, length-append, length-replicate}
 use lib.Seq.{take-at}
-use borrow.Author.Tests.{ltb-false, le-ltb}
 use Rattle.lists.specs.Lists.{if_then_else_, same, maybe}
-use Rattle.refusals.specs.declared.Fault.the-variants.{NormalTooLong, BufferShort}
+use Rattle.refusals.specs.declared.Fault.the-variants.{NormalTooLong}
 use Rattle.refusals.specs.declared.Refusal.{Refusal}
-use Rattle.refusals.specs.Refusals.{met, placeIf, lowest, orElse, answering}
-use Rattle.refusals.proofs.Stages.{met-none, answering-append, answering-none}
+use Rattle.refusals.specs.Refusals.{met}
+use Rattle.refusals.proofs.Stages.{met-none, answering-none}
 use Rattle.verdict.specs.Contents.{normalForm}
-use Rattle.verdict.specs.Places.{isOver, normalTooLong}
+use Rattle.verdict.specs.Places.{normalTooLong}
 use Rattle.verdict.specs.Stages.{laterStages, stages, refusalOf}
+use Rattle.verdict.proofs.Over.{within}
 use Rattle.answers.specs.declared.Compared.{Compared}
 use Rattle.answers.specs.declared.Compared.the-variants.{Same, Different, FirstRefused, SecondRefused}
 use Rattle.answers.specs.Answers.{Answer, given, refusedInput, toldCompared}
-use Rattle.operations.specs.Judge.{shortFor, storedIn, unlessRefused, normaliseRefusal, normaliseBuffer}
+use Rattle.operations.specs.Judge.{normaliseBuffer}
 use Rattle.operations.specs.Compare.{isAccepted, areSame, compare}
+use Rattle.operations.proofs.Answered.{compare-by, normalises}
 
 -- ---- what is known of an accepted input
 
 -- its normal form is not over 32,000 bytes
 pub form-fits : (s : List ℕ) → refusalOf s ≡ none → length (normalForm s) ≤ 32000
-unfolding refusalOf stages laterStages normalTooLong isOver placeIf
+unfolding refusalOf stages laterStages normalTooLong
 form-fits s e =
-    ltb-false 32000 (length (normalForm s))
-    (not-met (ltb 32000 (length (normalForm s))) (length (normalForm s))
+    within (normalForm s) (length (normalForm s)) .0
     (met-none NormalTooLong (normalTooLong s) .0
-    (answering-none (stages s) .0 e (met NormalTooLong (normalTooLong s)) (behind (behind (behind (behind (behind (behind (behind (behind (List·Memᴰ·head refl))))))))))))
+    (answering-none (stages s) .0 e (met NormalTooLong (normalTooLong s)) (behind (behind (behind (behind (behind (behind (behind (behind (List·Memᴰ·head refl)))))))))))
   where
     behind : {A : Type 0} {x y : A} {l : List A} → List·Memᴰ x l → List·Memᴰ x (y ∷ l)
     behind = List·Memᴰ·tail
-
-    not-met : (t : Bool) (p : ℕ) → (if t then p ∷ [] else []) ≡ [] → t ≡ false
-    not-met true p h = absurd (cons≢nil h)
-    not-met false p h = refl
 
 -- so many zeros leave room for as many bytes
 pub room-in : (n : ℕ) → n ≤ length (replicate {A = ℕ} n 0)
 room-in n = le-of-eq (sym (length-replicate n 0))
 
 module _ (s buffer : List ℕ) (e : refusalOf s ≡ none) (room : 32000 ≤ length buffer) where
-  -- a buffer with room for any normal form takes it at its front
-  form-stored : normaliseBuffer buffer s ≡ normalForm s ++ drop (length (normalForm s)) buffer
-  unfolding normaliseBuffer normaliseRefusal refusalOf answering orElse shortFor placeIf met lowest unlessRefused storedIn
-  form-stored =
-      let short : Bool → Option Refusal = λ t. answering (met BufferShort (placeIf t (length (normalForm s))) ∷ []) in
-      ap (λ (o : Option Refusal). unlessRefused o (storedIn buffer (normalForm s)) buffer)
-      (answering-append (stages s) (shortFor (normalForm s) buffer ∷ [])
-      ∙ ap (λ (o : Option Refusal). orElse o (short (ltb (length buffer) (length (normalForm s))))) e
-      ∙ ap short (le-ltb (length buffer) (length (normalForm s)) (omega (arith, form-fits s e, room))))
-
-  -- it is what the buffer begins with
+  -- a buffer with room for any normal form begins with it
   pub form-held : {n : ℕ} {after : List ℕ} → n ≡ length (normalForm s) → after ≡ normaliseBuffer buffer s
       → (n ≤ length after) × (take n after ≡ normalForm s)
   form-held {n} {after} h d =
-      let holds = d ∙ form-stored in
+      let holds = d ∙ normalises buffer s e (omega (arith, form-fits s e)) .1 in
       let sum = ap length holds ∙ length-append (normalForm s) (drop (length (normalForm s)) buffer) in (
         omega (arith, h, sum),
         ap (take n) holds ∙ take-at (normalForm s) (drop (length (normalForm s)) buffer) n (sym h),
@@ -70,32 +55,23 @@ module _ (s buffer : List ℕ) (e : refusalOf s ≡ none) (room : 32000 ≤ leng
 -- ---- what is answered
 
 module _ (first second : List ℕ) where
-  -- the answer, from the refusals of both
-  answerFor : Option Refusal → Option Refusal → Answer
-  answerFor a b =
-      maybe
-      (maybe (given ((if maybe true (λ r. false) a && maybe true (λ r. false) b && same (normalForm first) (normalForm second) then 1 else 0) ∷ [])) (refusedInput 2) b)
-      (refusedInput 1)
-      a
-
-  by-refusals : {a b : Option Refusal} → refusalOf first ≡ a → refusalOf second ≡ b → compare first second ≡ answerFor a b
-  unfolding compare areSame isAccepted answerFor
-  by-refusals = ap₂ answerFor
-
   -- the first is refused
   pub first-refused : {r : Refusal} → refusalOf first ≡ some r → toldCompared (FirstRefused r) ≡ compare first second
-  unfolding toldCompared maybe answerFor
-  first-refused e = sym (by-refusals e refl)
+  unfolding toldCompared maybe
+  first-refused {r} e = sym (compare-by first second (some r) (refusalOf second) e refl)
 
   -- the second is, and the first is not
   pub second-refused : {r : Refusal} → refusalOf first ≡ none → refusalOf second ≡ some r → toldCompared (SecondRefused r) ≡ compare first second
-  unfolding toldCompared maybe answerFor
-  second-refused e f = sym (by-refusals e f)
+  unfolding toldCompared maybe
+  second-refused {r} e f = sym (compare-by first second none (some r) e f)
 
   module _ (e : refusalOf first ≡ none) (f : refusalOf second ≡ none) where
     by-forms : (t : Bool) → same (normalForm first) (normalForm second) ≡ t → compare first second ≡ given ((if t then 1 else 0) ∷ [])
-    unfolding maybe answerFor
-    by-forms t h = by-refusals e f ∙ ap (λ (t : Bool). given ((if t then 1 else 0) ∷ [])) h
+    unfolding areSame isAccepted maybe
+    by-forms t h =
+        compare-by first second none none e f
+        ∙ ap (λ (t : Bool). given ((if t then 1 else 0) ∷ []))
+        (ap₂ (λ (a b : Option Refusal). maybe true (λ r. false) a && maybe true (λ r. false) b && same (normalForm first) (normalForm second)) e f ∙ h)
 
     -- both are accepted, and their normal forms are equal
     pub forms-same : same (normalForm first) (normalForm second) ≡ true → toldCompared Same ≡ compare first second
@@ -128,7 +104,7 @@ told-so (SecondRefused r) = refl
 
 -- the answer says "same" exactly where the two are the same
 pub told-same : (first second : List ℕ) (r q : Compared) → toldCompared r ≡ compare first second → r ≡ q → isSame q ≡ areSame first second
-unfolding compare areSame isAccepted answerFor saysSame given refusedInput same maybe
+unfolding compare areSame isAccepted saysSame given refusedInput same maybe
 told-same first second r q e d =
     sym (ap isSame d) ∙ told-so r ∙ ap saysSame e ∙ step (refusalOf first) (refusalOf second) (same (normalForm first) (normalForm second))
   where

@@ -1,9 +1,7 @@
 -- The text of a value list is the trimmed list, spelled behind its advice. Assumes nothing.
 use Prim.Native.Nat.{ℕ, _+_}
 use mathlib.Core.Path.{_≡_, refl, sym, ap, _∙_}
-use mathlib.Core.Bool.{Bool, true, false}
 use mathlib.Core.List.{List, [], _∷_, _++_, map, append-assoc}
-use lib.Dec.{leb}
 use Rattle.lists.specs.Lists.{if_then_else_, gather}
 use Rattle.characters.specs.declared.Characters.{Characters}
 use Rattle.characters.specs.Characters.{adviceOf, spelledOut}
@@ -15,6 +13,7 @@ use Rattle.emission.proofs.Spelled.{spelled-emitted}
 use Rattle.emitting.proofs.Putting.{let-out-append}
 use Rattle.measuring.specs.declared.Measure.{Measure}
 use Rattle.measuring.specs.Measure.{behindSeparator}
+use Rattle.measuring.proofs.Steps.{by-separator}
 use Rattle.operations.specs.ValueList.{Item, closed, segmentsListed, trimList}
 use Rattle.trimming.specs.Kinds.{firstKind}
 use Rattle.composing.specs.Composing.{firstMeasure, endText, valueText, behindValue, behindItem, itemText, composed, adviceFront, composedText}
@@ -28,20 +27,13 @@ module _ (c : Characters) where
   -- the separator in front of a record
   emit-kind : (m : Measure) (kind : ℕ) (ts : List Token)
       → emittedFrom m (separator (endKind kind) 0 ∷ ts) ≡ endText c kind ++ emittedFrom (behindSeparator m kind) ts
-  unfolding emitted endKind endText behindSeparator
-  emit-kind m kind ts = step (leb kind 0) (leb kind 1)
-    where
-      step : (a b : Bool)
-          → emittedFrom m (separator (if a then 0 else if b then 1 else 2) 0 ∷ ts)
-          ≡ (if a then c .terminator ∷ [] else [])
-          ++ emittedFrom
-          (if a then record { total = m .total + 1; elements = 0; components = 0 }
-          else if b then record { total = m .total; elements = m .elements + 1; components = 0 }
-          else record { total = m .total; elements = m .elements; components = m .components + 1 })
-          ts
-      step true b = refl
-      step false true = refl
-      step false false = refl
+  unfolding emitted endKind endText
+  emit-kind m kind ts =
+      by-separator
+      (λ terminates ends n.
+      emittedFrom m (separator (if terminates then 0 else if ends then 1 else 2) 0 ∷ ts)
+      ≡ (if terminates then c .terminator ∷ [] else []) ++ emittedFrom n ts)
+      m kind (λ ends. refl) refl refl
 
   -- the bytes of a value, with nothing held back
   emit-bytes : (bs : Bytes) (ts : List Token) → emitted c 0 0 (map valueByte bs ++ ts) ≡ spellValue c bs ++ emitted c 0 0 ts

@@ -3,20 +3,20 @@ use Prim.Native.Nat.{ℕ, _+_, _*_, _≤_, _<_}
 use mathlib.Core.Path.{_≡_, refl, sym, ap, _∙_}
 use mathlib.Core.Bool.{Bool, true, false}
 use mathlib.Core.List.{List, [], _∷_, _++_, map}
-use native.Mathlib.Numerals.{add-one}
 use native.Mathlib.Omega.{arith}
-use lib.Dec.{leb, ltb}
-use lib.ListN.{length, drop, getD, length-drop, length-take, length-append}
-use lib.Seq.{drop-cons}
-use borrow.Author.Tests.{ltb-true, lt-ltb, le-ltb}
+use lib.Dec.{ltb}
+use lib.ListN.{length, drop, getD, drop-of-length-le, length-take, length-append}
+use borrow.Author.Tests.{ltb-true, lt-ltb}
 use Rattle.lists.specs.Lists.{if_then_else_, gather}
-use Rattle.lists.proofs.Texts.{if-true, if-false}
+use Rattle.lists.proofs.Texts.{if-true}
+use Rattle.lists.proofs.Numbers.{drop-next}
 use Rattle.characters.specs.declared.Characters.{Characters}
 use Rattle.reading.specs.Spelling.{Bytes, spellByte, spellValue}
 use Rattle.emission.proofs.Cases.{by-spelling}
 use Rattle.emitting.proofs.Putting.{let-out-length}
 use Rattle.measuring.specs.declared.Measure.{Measure}
 use Rattle.measuring.specs.Measure.{behindSeparator}
+use Rattle.measuring.proofs.Steps.{by-separator}
 use Rattle.operations.specs.ValueList.{Item, Entry, valueIn, listedIn}
 use Rattle.value_lists.specs.declared.Record.{Record}
 use Rattle.value_lists.specs.Records.{entryOf, recordAt}
@@ -30,9 +30,7 @@ module _ (c : Characters) (value : Bytes) (i : ℕ) where
   pub spelled-next : i < length value
       → spellValue c (drop i value) ≡ spellByte c (getD value i 0) ++ spellValue c (drop (i + 1) value)
   unfolding spellValue gather
-  spelled-next h =
-      ap (spellValue c) (drop-cons value i 0 h)
-      ∙ ap (λ (n : ℕ). spellByte c (getD value i 0) ++ spellValue c (drop n value)) (sym (add-one i))
+  spelled-next h = ap (spellValue c) (drop-next value i h)
 
   pub spelled-left : i < length value
       → length (spellValue c (drop i value)) ≡ length (spellByte c (getD value i 0)) + length (spellValue c (drop (i + 1) value))
@@ -40,11 +38,7 @@ module _ (c : Characters) (value : Bytes) (i : ℕ) where
 
   pub spelled-end : length value ≤ i → spellValue c (drop i value) ≡ []
   unfolding spellValue gather
-  spelled-end h = none-left (drop i value) (omega (arith, length-drop i value))
-    where
-      none-left : (l : Bytes) → length l ≡ 0 → spellValue c l ≡ []
-      none-left [] e = refl
-      none-left (b ∷ bs) e = absurd (omega arith)
+  spelled-end h = ap (spellValue c) (drop-of-length-le value h)
 
 -- a byte takes at most two
 pub spelled-most : (c : Characters) (b : ℕ) → length (spellByte c b) ≤ 2
@@ -74,42 +68,15 @@ module _ (bytes table : List ℕ) (at : ℕ) where
 
 -- ---- how far the text moves on
 
--- a separator ends a segment, or is held back as one of elements or of components
-by-separator : (P : Measure → Type 0) (m : Measure) (kind : ℕ) → P (record { total = m .total + 1; elements = 0; components = 0 })
-    → P (record { total = m .total; elements = m .elements + 1; components = 0 })
-    → P (record { total = m .total; elements = m .elements; components = m .components + 1 }) → P (behindSeparator m kind)
-unfolding behindSeparator
-by-separator P m kind p q r = step (leb kind 0) (leb kind 1)
-  where
-    step : (a b : Bool)
-        → P
-        (if a then record { total = m .total + 1; elements = 0; components = 0 }
-        else if b then record { total = m .total; elements = m .elements + 1; components = 0 }
-        else record { total = m .total; elements = m .elements; components = m .components + 1 })
-    step true b = p
-    step false true = q
-    step false false = r
-
-abbrev place : Measure → ℕ
-place m = m .total
-
 abbrev waiting : Measure → ℕ
 waiting m = m .elements + m .components
 
 module _ (c : Characters) where
   pub kind-moves : (m : Measure) (kind : ℕ) → behindSeparator m kind .total ≡ m .total + length (endText c kind)
-  unfolding behindSeparator endText
-  kind-moves m kind = step (leb kind 0) (leb kind 1)
-    where
-      step : (a b : Bool)
-          → place
-          (if a then record { total = m .total + 1; elements = 0; components = 0 }
-          else if b then record { total = m .total; elements = m .elements + 1; components = 0 }
-          else record { total = m .total; elements = m .elements; components = m .components + 1 })
-          ≡ m .total + length {A = ℕ} (if a then c .terminator ∷ [] else [])
-      step true b = refl
-      step false true = omega arith
-      step false false = omega arith
+  unfolding endText
+  kind-moves m kind =
+      by-separator (λ terminates ends n. n .total ≡ m .total + length {A = ℕ} (if terminates then c .terminator ∷ [] else []))
+      m kind (λ ends. refl) (omega arith) (omega arith)
 
   pub value-moves : (m : Measure) (value : Bytes) → behindValue c m value .total ≡ m .total + length (valueText c m value)
   unfolding behindValue valueText
@@ -132,7 +99,7 @@ module _ (c : Characters) where
   unfolding behindItem
   item-holds m l =
       let kind-holds : waiting (behindSeparator m (l .kind)) ≤ waiting m + 1 =
-      by-separator (λ n. waiting n ≤ waiting m + 1) m (l .kind) (omega arith) (omega arith) (omega arith)
+      by-separator (λ terminates ends n. waiting n ≤ waiting m + 1) m (l .kind) (λ ends. omega arith) (omega arith) (omega arith)
       in
       omega (arith, value-holds (behindSeparator m (l .kind)) (l .value))
 

@@ -16,7 +16,7 @@ use Rattle.reading.specs.Values.{byteOf, bytesOf, valueOf, valuesOf, elementsOf
 use Rattle.reading.specs.Trimming.{trimSegment, contentsOf}
 use Rattle.reading.specs.Spelling.{Bytes}
 use Rattle.emission.proofs.Cases.{known}
-use Rattle.operations.specs.ValueList.{Item, closed, closes, segmentsListed, trimList}
+use Rattle.operations.specs.ValueList.{Item, closed, closes, elementsListed, segmentsListed, trimList}
 use Rattle.spelling.specs.Bodies.{wordsOf}
 use Rattle.trimming.specs.Kinds.{firstKind}
 use Rattle.forms.proofs.Trimmed.{contents-words}
@@ -135,14 +135,18 @@ end-of-element l =
     step false true h = refl
     step false false h = refl
 
-end-of-value : (l : Item) → ends 2 (ending l) ≡ true
-unfolding ends endKind
-end-of-value l = step (leb (l .kind) 0) (leb (l .kind) 1)
+end-known : (kind : ℕ) → leb (endKind kind) 2 ≡ true
+unfolding endKind
+end-known kind = step (leb kind 0) (leb kind 1)
   where
     step : (a b : Bool) → leb (if a then 0 else if b then 1 else 2) 2 ≡ true
     step true b = refl
     step false true = refl
     step false false = refl
+
+end-of-value : (l : Item) → ends 2 (ending l) ≡ true
+unfolding ends
+end-of-value l = end-known (l .kind)
 
 -- the bytes of a value, read back
 value-read : (l : Item) → bytesOf (endedTokens (l ∷ [])) ≡ l .value
@@ -163,9 +167,6 @@ element-read element =
     ∙ map-map bytesOf endedTokens (map (λ l. l ∷ []) element)
     ∙ map-map (λ ls. bytesOf (endedTokens ls)) (λ l. l ∷ []) element
     ∙ ap (λ (f : Item → Bytes). map f element) (fun-ext value-read)
-
-abbrev elementsListed : List Item → List (List Bytes)
-elementsListed segment = map (map (λ l. l .value)) (cut (closes 1) segment)
 
 segment-read : (segment : List Item) → wordsOf (endedTokens segment) ≡ elementsListed segment
 unfolding wordsOf elementsOf
@@ -218,15 +219,10 @@ behind-known : (items : List Item) → all known (tokensBehind items) ≡ true
 unfolding all known itemTokens closed gather endKind firstKind
 behind-known [] = refl
 behind-known (l ∷ ls) =
-    ap (λ (b : Bool). b && all known (itemTokens (l ∷ ls))) (step (leb (l .kind) 0) (leb (l .kind) 1))
+    ap (λ (b : Bool). b && all known (itemTokens (l ∷ ls))) (end-known (l .kind))
     ∙ ap (all known) (item-tokens l ls)
     ∙ known-value (l .value) (tokensBehind ls)
     ∙ behind-known ls
-  where
-    step : (a b : Bool) → leb (if a then 0 else if b then 1 else 2) 2 ≡ true
-    step true b = refl
-    step false true = refl
-    step false false = refl
 
 pub tokens-whole : (items : List Item) → endsInside (itemTokens items) ≡ false
 unfolding endsInside isEmpty itemTokens closed gather

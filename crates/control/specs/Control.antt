@@ -1,11 +1,11 @@
 -- Paper 01, "Control elements": what a count and a reference look like, and what a trailer says of what it closes.
 -- What passed is a list of segments, the nearest first. Assumes nothing.
-use Prim.Native.Nat.{ℕ, zero, suc, _+_, _*_, _-_}
+use Prim.Native.Nat.{ℕ, _+_, _*_, _-_}
 use mathlib.Core.Bool.{Bool, true, false, not, _&&_, _||_}
 use mathlib.Core.List.{List, [], _∷_, map}
 use mathlib.Core.Option.{Option, none, some}
 use lib.ListN.{length}
-use lib.Dec.{eqb, leb}
+use lib.Dec.{eqb}
 use Rattle.lists.specs.Lists.{if_then_else_, same, all, first, at, maybe}
 use Rattle.characters.specs.Characters.{between, digit}
 use Rattle.reading.specs.Tokens.{Segment}
@@ -69,12 +69,14 @@ sameValue none (some w) = false
 sameValue (some v) none = false
 sameValue (some v) (some w) = same v w
 
+-- the reference of the nearest segment of a kind
+abbrev pub nearestReference : Kind → List Segment → Option (List ℕ)
+nearestReference kind past = maybe none referenceOf (first (λ g. is kind (kindOf g)) past)
+
 -- refusal 11: "trailer's reference differs from its header's", which is the nearest
 unfoldable pub referenceDiffers : List Segment → Segment → Bool
 referenceDiffers past segment =
-    maybe false
-    (λ header. not (sameValue (referenceOf segment) (maybe none referenceOf (first (λ g. is header (kindOf g)) past))))
-    (headerOf (kindOf segment))
+    maybe false (λ header. not (sameValue (referenceOf segment) (nearestReference header past))) (headerOf (kindOf segment))
 
 -- the number that digits spell
 unfoldable pub decimalFrom : ℕ → List ℕ → ℕ

@@ -13,9 +13,9 @@ use Rattle.lists.specs.Lists.{if_then_else_, same, through, first, gather, mayb
 use Rattle.lists.proofs.Texts.{and-left, and-right}
 use Rattle.characters.specs.declared.Characters.{Characters}
 use Rattle.characters.specs.Characters.{between}
-use Rattle.reading.specs.Tokens.{Token, Segment}
+use Rattle.reading.specs.Tokens.{Token, Segment, tokensAt}
 use Rattle.reading.specs.Values.{bytesOf}
-use Rattle.reading.proofs.Steps.{tokensAt, at-end}
+use Rattle.reading.proofs.Steps.{at-end}
 use Rattle.scanner.specs.Scan.{segmentAt}
 use Rattle.segments.specs.declared.Kind.{Kind}
 use Rattle.segments.specs.declared.Kind.the-variants.{Unb, Ung, Unh}
@@ -24,7 +24,7 @@ use Rattle.segments.specs.Kinds.{index, is}
 use Rattle.segments.specs.Tags.{kindOf}
 use Rattle.segments.specs.Order.{walkOver}
 use Rattle.control.specs.Positions.{positionTable, positionsOf}
-use Rattle.control.specs.Control.{isReference, isCount, standsWell, controlRule, referenceOf, sameValue}
+use Rattle.control.specs.Control.{isReference, isCount, standsWell, controlRule, referenceOf, sameValue, nearestReference}
 use Rattle.elements.specs.Elements.{ElementAt}
 use Rattle.fields.specs.Fields.{valueIn}
 use Rattle.fields.proofs.Control.{reference-value-at}
@@ -58,10 +58,6 @@ same-unless (b ∷ bs) (d ∷ ds) h = refl
 
 -- ---- the nearest header
 
--- the reference of the nearest segment of that kind
-abbrev pub nearest : Kind → List Segment → Option (List ℕ)
-nearest header past = maybe none referenceOf (first (λ g. is header (kindOf g)) past)
-
 -- a segment of the same kind has its reference at the same number
 same-position : (header kind : Kind) → is header kind ≡ true → positionsOf kind .reference ≡ positionsOf header .reference
 unfolding is positionsOf
@@ -71,7 +67,7 @@ same-position header kind h =
 module _ (c : Characters) (s : List ℕ) where
   -- it is spelled at this place; nothing is, where there is none
   abbrev pub Spelled : Kind → List Segment → ℕ → Type 0
-  Spelled header past place = nearest header past ≡ unlessEmpty (valueIn (tokensAt c s place))
+  Spelled header past place = nearestReference header past ≡ unlessEmpty (valueIn (tokensAt c s place))
 
   spelled-none : (header : Kind) → Spelled header [] (length s)
   unfolding maybe first unlessEmpty valueIn bytesOf gather through

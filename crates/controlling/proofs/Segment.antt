@@ -14,8 +14,7 @@ use Rattle.refusals.specs.declared.Fault.the-variants.{BadControl, ReferenceDif
 use Rattle.refusals.specs.declared.Outcome.{Outcome}
 use Rattle.refusals.specs.declared.Outcome.the-variants.{Passed}
 use Rattle.refusals.specs.Refusals.{outcome, failedAt}
-use Rattle.reading.specs.Tokens.{Token, Segment}
-use Rattle.reading.specs.Tokens.{tokensAt}
+use Rattle.reading.specs.Tokens.{Token, Segment, tokensAt}
 use Rattle.scanner.specs.Scan.{segmentAt}
 use Rattle.scanner.proofs.Segments.{segment-start}
 use Rattle.segments.specs.declared.Kind.{Kind}
@@ -26,14 +25,14 @@ use Rattle.segments.specs.Tags.{kindOf}
 use Rattle.segments.specs.Order.{segmentsIn, segmentsSinceHeader}
 use Rattle.control.specs.declared.Positions.{Positions}
 use Rattle.control.specs.Positions.{positionTable, positionsOf}
-use Rattle.control.specs.Control.{isReference, standsWell, controlRule, headerOf, referenceOf, sameValue, referenceDiffers, decimal, trueCount, countOf, countWrong}
+use Rattle.control.specs.Control.{isReference, standsWell, controlRule, headerOf, referenceOf, sameValue, nearestReference, referenceDiffers, decimal, trueCount, countOf, countWrong}
 use Rattle.machines.specs.Walks.{refuse, controlledSegment}
 use Rattle.elements.specs.Elements.{elementFrom, ElementAt}
 use Rattle.fields.specs.Fields.{valueIn, fieldOf, spellsReference, spellsCount}
 use Rattle.fields.proofs.Control.{count-is, count-number, reference-at, reference-value-at}
 use Rattle.controlling.specs.declared.Headers.{Headers}
 use Rattle.controlling.specs.Controlling.{headerKept, countDue, trailerBy, controlledBy}
-use Rattle.controlling.proofs.Kept.{reference-filled, same-unless, nearest, Spelled, Kept}
+use Rattle.controlling.proofs.Kept.{reference-filled, same-unless, Spelled, Kept}
 
 -- ---- the answers, by what the tests say
 
@@ -163,7 +162,7 @@ module _ (c : Characters) (s : List ℕ) (past : List Segment) (walk : Walk) (he
   differs-is header place h k n =
       let r = reference-at c s at (p .reference) e ∙ n in
       let value = reference-value-at c s at (p .reference) e r in
-      ap (maybe false (λ (header : Kind). not (sameValue (referenceOf g) (nearest header past)))) h
+      ap (maybe false (λ (header : Kind). not (sameValue (referenceOf g) (nearestReference header past)))) h
       ∙ ap₂ (λ (v w : Option (List ℕ)). not (sameValue v w)) value k
       ∙ ap not
       (same-unless (valueIn (tokensAt c s reference)) (valueIn (tokensAt c s place))
@@ -204,7 +203,7 @@ module _ (c : Characters) (s : List ℕ) (past : List Segment) (walk : Walk) (he
         ∙ plain-answers at unnamed named a-count alike right
         ∙ comes-to
         (rule-is ∙ ap (λ (b : Bool). (b || a-count) && (unnamed || named)) (h .uncounted))
-        (ap (maybe false (λ (header : Kind). not (sameValue (referenceOf g) (nearest header past)))) (h .no-header))
+        (ap (maybe false (λ (header : Kind). not (sameValue (referenceOf g) (nearestReference header past)))) (h .no-header))
         (ap (maybe false (λ (count : ℕ). not (eqb (maybe 0 decimal (countOf g)) count))) (h .no-count))
 
     trailer : Trailer c s past walk headers (kindOf g) → Judged

@@ -13,8 +13,7 @@ use Rattle.refusals.specs.declared.Refusal.{Refusal}
 use Rattle.refusals.specs.declared.Outcome.{Outcome}
 use Rattle.refusals.specs.declared.Outcome.the-variants.{Passed, Failed}
 use Rattle.refusals.specs.Refusals.{orElse, outcome}
-use Rattle.reading.specs.Tokens.{Segment, ends, segments, start}
-use Rattle.reading.specs.Tokens.{tokensAt}
+use Rattle.reading.specs.Tokens.{Segment, ends, segments, start, tokensAt}
 use Rattle.scanner.specs.Scan.{segmentAt, Skips}
 use Rattle.scanner.proofs.Segments.{segments-end, segments-next}
 use Rattle.segments.specs.declared.Kind.{Kind}

@@ -9,8 +9,7 @@ use Rattle.refusals.specs.declared.Fault.the-variants.{BadControl, ReferenceDif
 use Rattle.refusals.specs.declared.Outcome.{Outcome}
 use Rattle.refusals.specs.declared.Outcome.the-variants.{Passed}
 use Rattle.refusals.specs.Refusals.{failedAt}
-use Rattle.reading.specs.Tokens.{Token}
-use Rattle.reading.specs.Tokens.{tokensAt}
+use Rattle.reading.specs.Tokens.{Token, tokensAt}
 use Rattle.segments.specs.declared.Kind.{Kind}
 use Rattle.segments.specs.declared.Kind.the-variants.{Unb, Ung, Unh, Uns, Unt, Une, Unz, User}
 use Rattle.segments.specs.declared.Walk.{Walk}

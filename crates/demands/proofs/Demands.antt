@@ -1,20 +1,21 @@
 -- All that is demanded holds. Assumes nothing.
 use Prim.Native.Nat.{ℕ}
-use mathlib.Core.Path.{_≡_, refl, sym, ap, ap₂, _∙_}
+use mathlib.Core.Path.{_≡_, refl, sym, ap, _∙_}
 use mathlib.Core.Logic.{_↔_}
 use mathlib.Core.Bool.{true}
-use mathlib.Core.List.{List, [], _∷_, _++_, map}
-use mathlib.Core.Option.{Option, none, some}
-use Rattle.lists.specs.Lists.{if_then_else_, maybe}
+use mathlib.Core.List.{List, [], _++_, map}
+use mathlib.Core.Option.{none, some}
+use Rattle.lists.specs.Lists.{maybe}
 use Rattle.characters.specs.Characters.{usable, adviceOf, charactersOf, bodyStart, body}
 use Rattle.refusals.specs.declared.Refusal.{Refusal}
 use Rattle.reading.specs.Spelling.{spell}
 use Rattle.verdict.specs.Contents.{bodyTokens, segmentsOf, contents, interchange, normalForm}
 use Rattle.verdict.specs.Places.{strayReleases, unendedSegment}
 use Rattle.verdict.specs.Stages.{refusalOf}
-use Rattle.answers.specs.Answers.{given, refusedInput}
-use Rattle.operations.specs.Compare.{areSame, compare}
+use Rattle.answers.specs.Answers.{refusedInput}
+use Rattle.operations.specs.Compare.{compare}
 use Rattle.operations.specs.ValueList.{trimList}
+use Rattle.operations.proofs.Answered.{compare-by, normalise-refused, normalises, form-short, read-refused, bytes-short, table-short}
 use Rattle.spelling.specs.Bodies.{Spelled, wordsOf, listed, readList}
 use Rattle.spelling.proofs.Laws.{passes-exactly, only-one, spell-read, read-spelling, spelling-unique}
 use Rattle.trimming.proofs.Trimmed.{trimList-trimmed, list-only}
@@ -34,10 +35,10 @@ use Rattle.acceptance.proofs.Acceptance.{allowed-exactly, list-read}
 use Rattle.acceptance.proofs.Fakes.{x-allowed, empty-not-allowed}
 use Rattle.acceptance.proofs.Same.{compared-same, compared-different, same-self, same-back, same-on, keep-same, keep-other}
 use Rattle.trips.proofs.Placed.{one-placed}
-use Rattle.trips.proofs.Written.{read-refused, write-refused}
+use Rattle.trips.proofs.Written.{write-refused}
 use Rattle.trips.proofs.Theorems.{written-back, read-back, located-contents, located-placed, located-named, part-spelled}
 use Rattle.demands.specs.Demands.{Demands}
-use Rattle.demands.proofs.Buffers.{normalises, normalise-refused, form-short, judged-first, reads-exactly, reads, bytes-short, table-short, writes-exactly, writes, as-judged, rewrites}
+use Rattle.demands.proofs.Buffers.{judged-first, reads-exactly, reads, writes-exactly, writes, as-judged, rewrites}
 use Rattle.demands.proofs.Located.{locate-refused, locate-absent, locate-found, part-is, part-none}
 
 -- an input's body passes exactly where 4 and 5 are not met
@@ -73,14 +74,12 @@ module _ (a b : List ℕ) where
   )
 
   first-refused : {r : Refusal} → refusalOf a ≡ some r → compare a b ≡ refusedInput 1 r
-  unfolding compare maybe
-  first-refused e =
-      ap (maybe (maybe (given ((if areSame a b then 1 else 0) ∷ [])) (refusedInput 2) (refusalOf b)) (refusedInput 1)) e
+  unfolding maybe
+  first-refused {r} e = compare-by a b (some r) (refusalOf b) e refl
 
   second-refused : {r : Refusal} → refusalOf a ≡ none → refusalOf b ≡ some r → compare a b ≡ refusedInput 2 r
-  unfolding compare maybe
-  second-refused h e =
-      ap₂ (λ (o p : Option Refusal). maybe (maybe (given ((if areSame a b then 1 else 0) ∷ [])) (refusedInput 2) p) (refusedInput 1) o) h e
+  unfolding maybe
+  second-refused {r} h e = compare-by a b none (some r) h e
 
 pub demands : Demands
 demands =

@@ -13,12 +13,9 @@ use Rattle.lists.proofs.Texts.{if-true, if-false}
 use Rattle.lists.proofs.Numbers.{drop-nothing, at-drop}
 use Rattle.lists.proofs.Pieces.{drop-onto}
 use Rattle.characters.specs.declared.Characters.{Characters}
-use Rattle.reading.specs.Tokens.{Token, byte, separator, fault, ends}
-use Rattle.reading.specs.Tokens.{tokensAt}
+use Rattle.reading.specs.Tokens.{Token, byte, separator, fault, ends, tokensAt}
 use Rattle.reading.specs.Values.{byteOf, bytesOf}
 use Rattle.reading.proofs.Ends.{pieces-first}
-pub use Rattle.lists.proofs.Pieces.{through-through}
-pub use Rattle.reading.proofs.Ends.{ends-more}
 use Rattle.scanner.specs.Scan.{segmentAt}
 use Rattle.elements.specs.Elements.{pieceFrom, firstPiece, holdsByte, ElementAt}
 

@@ -7,8 +7,7 @@ use mathlib.Core.Option.{Option, none, some}
 use lib.ListN.{length}
 use Rattle.lists.specs.Lists.{if_then_else_, isEmpty, through}
 use Rattle.characters.specs.declared.Characters.{Characters}
-use Rattle.reading.specs.Tokens.{Token, ends}
-use Rattle.reading.specs.Tokens.{tokensAt}
+use Rattle.reading.specs.Tokens.{Token, ends, tokensAt}
 use Rattle.reading.specs.Values.{bytesOf}
 
 module _ {A : Type 0} where

@@ -4,8 +4,8 @@ use Prim.Native.Nat.{ℕ}
 use mathlib.Core.Path.{_≡_, refl, sym, ap, _∙_}
 use mathlib.Core.Bool.{Bool}
 use mathlib.Core.List.{List, [], _∷_, _++_, map}
-use Rattle.lists.specs.Lists.{if_then_else_, isEmpty, through, cut, unlessIdle, dropEnd, trimEnd, behind, joined}
-use Rattle.lists.proofs.Pieces.{beyond, cut-first}
+use Rattle.lists.specs.Lists.{if_then_else_, isEmpty, through, cut, unlessIdle, dropEnd, trimEnd, behind, joined, beyond}
+use Rattle.lists.proofs.Pieces.{cut-first}
 use Rattle.emission.proofs.Held.{held}
 
 -- the pieces, trimmed and spelled

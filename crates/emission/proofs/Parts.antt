@@ -4,8 +4,8 @@ use mathlib.Core.Path.{_≡_, refl, sym, ap, _∙_}
 use mathlib.Core.Bool.{Bool, true, false}
 use mathlib.Core.List.{List, [], _∷_, _++_, map, append-nil, append-assoc, map-map}
 use lib.Dec.{leb}
-use Rattle.lists.specs.Lists.{isEmpty, gather, through, onto, cut, trimEnd, dropEnd, behind, joined}
-use Rattle.lists.proofs.Pieces.{beyond, cut-first}
+use Rattle.lists.specs.Lists.{isEmpty, gather, through, onto, cut, trimEnd, dropEnd, behind, joined, beyond}
+use Rattle.lists.proofs.Pieces.{cut-first}
 use Rattle.characters.specs.declared.Characters.{Characters}
 use Rattle.reading.specs.Tokens.{Token, byte, separator, fault, ends, Segment}
 use Rattle.reading.specs.Values.{Value, byteOf, bytesOf, valueOf, valuesOf, elementsOf}

@@ -2,13 +2,13 @@
 use Prim.Native.Nat.{ℕ, zero, suc, _+_, _≤_}
 use native.Mathlib.Omega.{arith}
 use mathlib.Core.Path.{_≡_, refl, sym, ap, _∙_}
-use mathlib.Core.Bool.{true, false, not, false≢true}
+use mathlib.Core.Bool.{true, false, false≢true}
 use mathlib.Core.List.{List, [], _∷_, _++_, map, append-assoc}
 use lib.Dec.{leb}
 use borrow.Author.Tests.{leb-true, not-false}
-use Rattle.lists.specs.Lists.{isEmpty, all, gather, through, cut, lastOr, joined, trimEnd}
+use Rattle.lists.specs.Lists.{isEmpty, all, gather, through, cut, lastOr, joined, trimEnd, beyond}
 use Rattle.lists.proofs.Texts.{and-left}
-use Rattle.lists.proofs.Pieces.{beyond, cut-first}
+use Rattle.lists.proofs.Pieces.{cut-first}
 use Rattle.characters.specs.declared.Characters.{Characters}
 use Rattle.reading.specs.Tokens.{Token, byte, separator, fault, ends, Segment, segments}
 use Rattle.reading.specs.Values.{endedBy, endsInside}
@@ -19,8 +19,7 @@ use Rattle.emission.specs.Emission.{letOut, emitted}
 use Rattle.emission.proofs.Cases.{by-spelling, known}
 use Rattle.emission.proofs.Held.{held, held-none, held-more, held-both}
 use Rattle.emission.proofs.Level.{whole}
-use Rattle.emission.proofs.Parts.{elementText, element-byte, element-fault, element-separator, element-ended}
-use Rattle.emission.proofs.Parts.{segmentText, segment-step, contents-spelled}
+use Rattle.emission.proofs.Parts.{elementText, element-byte, element-fault, element-separator, element-ended, segmentText, segment-step, contents-spelled}
 
 module _ (c : Characters) where
   -- ---- inside a segment

@@ -18,6 +18,7 @@ use Rattle.reading.specs.Tokens.{Token, byte, separator, fault}
 use Rattle.emission.specs.Emission.{letOut, emitted}
 use Rattle.measuring.specs.declared.Measure.{Measure}
 use Rattle.measuring.specs.Measure.{width, behindByte, behindSeparator}
+use Rattle.measuring.proofs.Steps.{by-separator}
 use Rattle.emitting.specs.Emitting.{endText, emittedFrom}
 use Rattle.storing.proofs.Stores.{sets-append}
 
@@ -104,22 +105,15 @@ module _ (mark : ℕ) (m : Measure) (ts : List Token) where
   -- a terminator ends the segment; another separator is held back
   pub emit-separator : (kind place : ℕ)
       → emittedFrom mark m (separator kind place ∷ ts) ≡ endText kind ++ emittedFrom mark (behindSeparator m kind) ts
-  unfolding emittedFrom emitted behindSeparator endText normalCharacters sixBytes
-  emit-separator kind place = step (leb kind 0) (leb kind 1)
-    where
-      step : (terminates ends : Bool)
-          → (if terminates then 39 ∷ emitted (normalCharacters mark) 0 0 ts
-          else if ends then emitted (normalCharacters mark) (m .elements + 1) 0 ts
-          else emitted (normalCharacters mark) (m .elements) (m .components + 1) ts)
-          ≡ (if terminates then 39 ∷ [] else [])
-          ++ emittedFrom mark
-          (if terminates then record { total = m .total + 1; elements = 0; components = 0 }
-          else if ends then record { total = m .total; elements = m .elements + 1; components = 0 }
-          else record { total = m .total; elements = m .elements; components = m .components + 1 })
-          ts
-      step true ends = refl
-      step false true = refl
-      step false false = refl
+  unfolding emittedFrom emitted endText normalCharacters sixBytes
+  emit-separator kind place =
+      by-separator
+      (λ terminates ends n.
+      (if terminates then 39 ∷ emitted (normalCharacters mark) 0 0 ts
+      else if ends then emitted (normalCharacters mark) (m .elements + 1) 0 ts
+      else emitted (normalCharacters mark) (m .elements) (m .components + 1) ts)
+      ≡ (if terminates then 39 ∷ [] else []) ++ emittedFrom mark n ts)
+      m kind (λ ends. refl) refl refl
 
   -- how far the place moves
   pub byte-moves : (b : ℕ)
@@ -130,22 +124,11 @@ module _ (mark : ℕ) (m : Measure) (ts : List Token) where
       let room = let-out-length (normalCharacters mark) (m .elements) (m .components) (spellByte (normalCharacters mark) b) in
       omega (arith, room, width-is mark b)
 
-abbrev place : Measure → ℕ
-place m = m .total
-
 pub separator-moves : (m : Measure) (kind : ℕ) → behindSeparator m kind .total ≡ m .total + length (endText kind)
-unfolding behindSeparator endText
-separator-moves m kind = step (leb kind 0) (leb kind 1)
-  where
-    step : (terminates ends : Bool)
-        → place
-        (if terminates then record { total = m .total + 1; elements = 0; components = 0 }
-        else if ends then record { total = m .total; elements = m .elements + 1; components = 0 }
-        else record { total = m .total; elements = m .elements; components = m .components + 1 })
-        ≡ m .total + length {A = ℕ} (if terminates then 39 ∷ [] else [])
-    step true ends = refl
-    step false true = omega arith
-    step false false = omega arith
+unfolding endText
+separator-moves m kind =
+    by-separator (λ terminates ends n. n .total ≡ m .total + length {A = ℕ} (if terminates then 39 ∷ [] else []))
+    m kind (λ ends. refl) (omega arith) (omega arith)
 
 -- what a separator stores
 pub end-stored : (buffer : List ℕ) (at kind : ℕ) → kind ≡ 0 → set buffer at 39 ≡ sets buffer at (endText kind)

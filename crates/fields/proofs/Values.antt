@@ -5,8 +5,8 @@ use mathlib.Core.List.{List, [], _∷_, _++_, map}
 use native.Mathlib.Omega.{arith}
 use lib.Dec.{leb, lit≤}
 use borrow.Author.Tests.{lt-leb, leb-false}
-use Rattle.lists.specs.Lists.{if_then_else_, isEmpty, all, through, cut, gather}
-use Rattle.lists.proofs.Pieces.{beyond, gather-cut}
+use Rattle.lists.specs.Lists.{if_then_else_, isEmpty, all, through, cut, gather, beyond}
+use Rattle.lists.proofs.Pieces.{gather-cut}
 use Rattle.reading.specs.Tokens.{Token, byte, separator, fault, ends}
 use Rattle.reading.specs.Values.{byteOf, bytesOf}
 use Rattle.reading.proofs.Ends.{pieces-first}

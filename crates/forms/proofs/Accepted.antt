@@ -15,17 +15,16 @@ use Rattle.characters.specs.Characters.{between, upper, lower, digit, separates
 use Rattle.refusals.specs.declared.Fault.{Fault}
 use Rattle.refusals.specs.declared.Fault.the-variants.{TooLong, UnusableAdvice, NoOpening, StrayRelease, UnendedSegment, BrokenTag, ForeignLevel, OutsideLevel, MisplacedSegment, BadControl, ReferenceDiffers, CountWrong, NormalTooLong}
 use Rattle.refusals.specs.Refusals.{Stage, met, placeIf, lowest, orElse, answering}
-use Rattle.refusals.proofs.Stages.{NoneMet, met-none, answering-none}
+use Rattle.refusals.proofs.Stages.{NoneMet, met-none, answering-none, place-none, place-none-not}
 use Rattle.reading.specs.Tokens.{Token, placeOf}
 use Rattle.reading.specs.Values.{isFault, endsInside}
 use Rattle.segments.specs.Order.{isComplete}
 use Rattle.verdict.specs.Contents.{bodyTokens, segmentsOf, kindsOf}
-use Rattle.verdict.specs.Places.{startsWhere, tooLong, unusableAdvice, noOpening, strayReleases, unendedSegment, brokenTags, foreignLevel, outsideLevel, misplacedSegments, badControls, differingReferences, wrongCounts, normalTooLong}
+use Rattle.verdict.specs.Places.{startsWhere, tooLong, unusableAdvice, noOpening, strayReleases, unendedSegment, brokenTags, foreignLevel, outsideLevel, misplacedSegments, badControls, differingReferences, wrongCounts, normalTooLong, misplaced}
 use Rattle.verdict.specs.Stages.{laterStages, stages, refusalOf}
 use Rattle.spelling.specs.Bodies.{Sound, Passes}
-use Rattle.grammar.specs.Grammar.{misplaced}
 use Rattle.forms.specs.Forms.{BodyPasses}
-use Rattle.forms.proofs.Tests.{gather-none, place-none, place-none-not}
+use Rattle.forms.proofs.Tests.{gather-none}
 
 -- none of 1 to 13 is met
 pub record Accepted (s : List ℕ) : Type 0 where

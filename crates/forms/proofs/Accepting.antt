@@ -11,6 +11,7 @@ use Rattle.lists.proofs.Texts.{and-left, same-eq, all-map}
 use Rattle.characters.specs.declared.Characters.{Characters}
 use Rattle.characters.specs.Characters.{upper, digit, between, released, serviceCharacters, isService, sixBytes, bodyStart, badAdvice, opens}
 use Rattle.refusals.specs.Refusals.{placeIf}
+use Rattle.refusals.proofs.Stages.{place-none, place-none-not}
 use Rattle.reading.specs.Tokens.{Segment, start}
 use Rattle.reading.specs.Trimming.{trimSegment, valueAt, contentsOf}
 use Rattle.reading.specs.Spelling.{Bytes, SegmentList, spellByte, spellValue, spellElement, spellSegment, spell}
@@ -22,13 +23,11 @@ use Rattle.segments.specs.Tags.{tagOf, kindOf, isTag}
 use Rattle.segments.specs.Order.{isOpen, standing, allowedAt, allowed, isComplete}
 use Rattle.control.specs.Control.{referenceDiffers, countWrong}
 use Rattle.verdict.specs.Contents.{bodyTokens, segmentsOf, contents, kindsOf, normalCharacters, interchange, normalForm}
-use Rattle.verdict.specs.Places.{isOver, startsWhere, tooLong, unusableAdvice, noOpening, brokenTags, foreignLevel, level, misplacedSegments, badControls, differingReferences, wrongCounts, normalTooLong}
+use Rattle.verdict.specs.Places.{isOver, startsWhere, tooLong, unusableAdvice, noOpening, brokenTags, foreignLevel, level, misplacedSegments, badControls, differingReferences, wrongCounts, normalTooLong, misplaced, badControl}
 use Rattle.verdict.specs.Stages.{refusalOf}
 use Rattle.operations.specs.ValueList.{trimList}
 use Rattle.spelling.specs.Bodies.{listed, readList, Passes}
-use Rattle.grammar.specs.Grammar.{misplaced, badControl}
 use Rattle.forms.specs.Forms.{markOf, formCharacters, listOf}
-use Rattle.forms.proofs.Tests.{place-none, place-none-not}
 use Rattle.forms.proofs.Trimmed.{allBytes, contents-read, trim-bytes}
 use Rattle.forms.proofs.Openings.{advice-characters, advice-body, advice-good}
 use Rattle.forms.proofs.Accepted.{Accepted, accepted-exactly, passes-accepted, order-accepted}
@@ -37,11 +36,11 @@ use Rattle.forms.proofs.Tags.{firstValue, isSingle, lone, tagStands, ta
 use Rattle.forms.proofs.Alike.{Alike, ByContents, first-alike, level-alike, kinds-alike, starts-alike, order-by-contents, controls-by-contents, references-by-contents, counts-by-contents}
 use Rattle.forms.proofs.LevelBytes.{level-bytes}
 
--- ---- the level
+-- ---- inputs with equal contents
 
 module _ (s t : List ℕ) (alike : Alike (segmentsOf s) (segmentsOf t)) where
-  -- inputs with equal contents name the same level
-  same-level : level s ≡ level t
+  -- they name the same level, and the one names one where the other does
+  pub same-level : level s ≡ level t
   unfolding level maybe
   same-level =
       let named : Option Segment → ℕ = maybe 0 (λ unb. maybe 0 (λ n. n) (levelOf unb)) in
@@ -51,7 +50,7 @@ module _ (s t : List ℕ) (alike : Alike (segmentsOf s) (segmentsOf t)) where
       (segmentsOf t)
       alike
 
-  same-named : foreignLevel s ≡ [] → foreignLevel t ≡ []
+  pub same-named : foreignLevel s ≡ [] → foreignLevel t ≡ []
   unfolding foreignLevel maybe
   same-named =
       let foreign : Option Segment → List ℕ = maybe [] (λ unb. maybe (start unb ∷ []) (λ n. []) (levelOf unb)) in
@@ -64,6 +63,20 @@ module _ (s t : List ℕ) (alike : Alike (segmentsOf s) (segmentsOf t)) where
       known : (o : Option ℕ) (p q : ℕ) → maybe (p ∷ []) (λ n. []) o ≡ [] → maybe (q ∷ []) (λ n. []) o ≡ []
       known none p q h = absurd (cons≢nil h)
       known (some n) p q h = refl
+
+  -- a test that goes by contents and refuses no segment of the one refuses none of the other
+  pub same-starts : (fails : List Segment → Segment → Bool) → ByContents fails → startsWhere fails [] (segmentsOf s) ≡ []
+      → startsWhere fails [] (segmentsOf t) ≡ []
+  same-starts fails by = starts-alike fails by [] [] (segmentsOf s) (segmentsOf t) refl alike
+
+  pub same-order : misplacedSegments s ≡ [] → misplacedSegments t ≡ []
+  unfolding kindsOf
+  same-order h =
+      let order = order-accepted s .0 h in
+      order-accepted t .1 (
+        same-starts misplaced order-by-contents (order .0),
+        ap (λ (kinds : List Kind). isComplete (reverse kinds)) (sym (kinds-alike (segmentsOf s) (segmentsOf t) alike)) ∙ order .1,
+      )
 
 -- ---- the opening
 
@@ -133,11 +146,6 @@ module _ (s : List ℕ) (accepted : refusalOf s ≡ none) where
   unfolding contents
   alike = sym (normal-contents s accepted)
 
-  -- a test that goes by contents and refuses no segment of the input refuses none of the normal form
-  normal-starts : (fails : List Segment → Segment → Bool) → ByContents fails → startsWhere fails [] (segmentsOf s) ≡ []
-      → startsWhere fails [] (segmentsOf (normalForm s)) ≡ []
-  normal-starts fails by = starts-alike fails by [] [] (segmentsOf s) (segmentsOf (normalForm s)) refl alike
-
   -- the tags of the contents stand to the rule
   contents-tags : all tagStands (contents s) ≡ true
   unfolding brokenTags segmentsOf bodyTokens readList listed trimList Passes
@@ -153,15 +161,6 @@ module _ (s : List ℕ) (accepted : refusalOf s ≡ none) where
   -- each segment is allowed where it stands, and UNZ comes before the end
   order : (startsWhere misplaced [] (segmentsOf s) ≡ []) × (isComplete (kindsOf s) ≡ true)
   order = order-accepted s .0 (nowhere .order)
-
-  normal-order : misplacedSegments (normalForm s) ≡ []
-  unfolding kindsOf
-  normal-order =
-      order-accepted (normalForm s) .1 (
-        normal-starts misplaced order-by-contents (order .0),
-        ap (λ (kinds : List Kind). isComplete (reverse kinds)) (sym (kinds-alike (segmentsOf s) (segmentsOf (normalForm s)) alike))
-            ∙ order .1,
-      )
 
   normal-advice : badAdvice (normalForm s) ≡ false
   unfolding normalForm interchange
@@ -191,10 +190,10 @@ module _ (s : List ℕ) (accepted : refusalOf s ≡ none) where
         tags = tags-words [] (segmentsOf n) finished .1 (rw (normal-read s accepted) contents-tags);
         level = same-named s n alike (nowhere .level);
         bytes = level-bytes n .1 (rw (normal-read s accepted, ← same-level s n alike) contents-level);
-        order = normal-order;
-        controls = normal-starts badControl controls-by-contents (nowhere .controls);
-        references = normal-starts referenceDiffers references-by-contents (nowhere .references);
-        counts = normal-starts countWrong counts-by-contents (nowhere .counts);
+        order = same-order s n alike (nowhere .order);
+        controls = same-starts s n alike badControl controls-by-contents (nowhere .controls);
+        references = same-starts s n alike referenceDiffers references-by-contents (nowhere .references);
+        counts = same-starts s n alike countWrong counts-by-contents (nowhere .counts);
         normal = place-none (isOver (normalForm n)) (length (normalForm n)) .1 (ap isOver (normal-again s accepted) ∙ short);
       }
 

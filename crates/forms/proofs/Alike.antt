@@ -8,6 +8,7 @@ use mathlib.Core.Option.{Option, none, some}
 use lib.Dec.{eqb}
 use Rattle.lists.specs.Lists.{if_then_else_, first, at, maybe}
 use Rattle.refusals.specs.Refusals.{placeIf}
+use Rattle.refusals.proofs.Stages.{place-none}
 use Rattle.reading.specs.Tokens.{Segment, start}
 use Rattle.reading.specs.Trimming.{contentsOf}
 use Rattle.levels.specs.Levels.{isOurVersion, levelOf}
@@ -17,10 +18,8 @@ use Rattle.segments.specs.Tags.{kindOf}
 use Rattle.segments.specs.Order.{allowed}
 use Rattle.control.specs.Positions.{positionsOf}
 use Rattle.control.specs.Control.{controlElement, standsWell, controlRule, headerOf, referenceOf, sameValue, referenceDiffers, decimal, trueCount, countOf, countWrong}
-use Rattle.verdict.specs.Places.{startsWhere}
-use Rattle.grammar.specs.Grammar.{misplaced, badControl}
+use Rattle.verdict.specs.Places.{startsWhere, misplaced, badControl}
 use Rattle.forms.proofs.Tags.{firstValue, tag-first}
-use Rattle.forms.proofs.Tests.{place-none}
 
 -- the segments have equal contents, one by one
 abbrev pub Alike : List Segment → List Segment → Type 0

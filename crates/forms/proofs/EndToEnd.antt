@@ -8,8 +8,8 @@ use native.Mathlib.Omega.{arith}
 use lib.ListN.{length, take, drop, length-append}
 use lib.Seq.{take-append-seam, drop-append-seam}
 use borrow.Author.Tests.{not-false}
-use Rattle.lists.specs.Lists.{isEmpty, onto, cut, through, gather, at, maybe, lastOr}
-use Rattle.lists.proofs.Pieces.{beyond, cut-first}
+use Rattle.lists.specs.Lists.{isEmpty, onto, cut, through, gather, at, maybe, lastOr, beyond}
+use Rattle.lists.proofs.Pieces.{cut-first}
 use Rattle.characters.specs.declared.Characters.{Characters}
 use Rattle.characters.specs.declared.Role.{Role}
 use Rattle.characters.specs.declared.Role.the-variants.{Separator, Release, Plain}

@@ -16,7 +16,8 @@ use Rattle.spelling.specs.Bodies.{listed, readList}
 use Rattle.spelling.proofs.Listing.{pushed, push, listed-next}
 use Rattle.forms.specs.Forms.{listOf}
 use Rattle.forms.proofs.Trimmed.{allBytes}
-use Rattle.forms.proofs.Tests.{gather-none, place-none-not}
+use Rattle.refusals.proofs.Stages.{place-none-not}
+use Rattle.forms.proofs.Tests.{gather-none}
 
 -- what is pushed onto the first is tested besides what was there
 all-pushed : {B : Type 0} (b : Bool) (f : List B → List B) (q : List B → Bool) (a : Bool) → q [] ≡ true

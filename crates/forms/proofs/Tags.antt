@@ -6,10 +6,11 @@ use mathlib.Core.List.{List, [], _∷_, map}
 use mathlib.Core.Logic.{_↔_}
 use native.Mathlib.Omega.{arith}
 use borrow.Author.Tests.{not-false}
-use Rattle.lists.specs.Lists.{if_then_else_, isEmpty, all, text, begins, through, onto, cut, lastOr, dropEnd, trimEnd, gather}
+use Rattle.lists.specs.Lists.{if_then_else_, isEmpty, all, text, begins, through, onto, cut, lastOr, dropEnd, trimEnd, gather, beyond}
 use Rattle.lists.proofs.Texts.{and-left, and-right, and-both}
-use Rattle.lists.proofs.Pieces.{beyond, cut-first}
+use Rattle.lists.proofs.Pieces.{cut-first}
 use Rattle.refusals.specs.Refusals.{placeIf}
+use Rattle.refusals.proofs.Stages.{place-none-not}
 use Rattle.reading.specs.Tokens.{Token, ends, Segment, start, segments}
 use Rattle.reading.specs.Values.{bytesOf, valueOf, valuesOf, elementsOf, isFault, endedBy, endsInside, finished}
 use Rattle.reading.specs.Trimming.{trimElement, trimSegment, contentsOf}
@@ -19,9 +20,9 @@ use Rattle.segments.specs.declared.Kind.the-variants.{User}
 use Rattle.segments.specs.Kinds.{is, kindNamed}
 use Rattle.segments.specs.Tags.{tagPiece, tagOf, kindOf, isTag, tagRule}
 use Rattle.spelling.specs.Bodies.{wordsOf, Sound}
-use Rattle.verdict.specs.Places.{startsWhere}
+use Rattle.verdict.specs.Places.{startsWhere, brokenTag}
 use Rattle.forms.proofs.Trimmed.{contents-words}
-use Rattle.forms.proofs.Tests.{none-both, place-none-not}
+use Rattle.forms.proofs.Tests.{none-both}
 
 -- ---- the rule, of a segment's values
 
@@ -145,7 +146,7 @@ rule-words g h =
 
 -- where the segments are finished, 6 is met nowhere exactly where the values of each stand to the rule
 pub tags-words : (past gs : List Segment) → all finished gs ≡ true
-    → (startsWhere (λ past g. finished g && not (tagRule g)) past gs ≡ []) ↔ (all tagStands (map wordsOf gs) ≡ true)
+    → (startsWhere brokenTag past gs ≡ []) ↔ (all tagStands (map wordsOf gs) ≡ true)
 unfolding startsWhere all
 tags-words past [] f = (λ e. refl, λ e. refl)
 tags-words past (g ∷ gs) f =
@@ -153,7 +154,7 @@ tags-words past (g ∷ gs) f =
     rw (first, rule-words g first)
     (none-both
     (placeIf (not (tagStands (wordsOf g))) (start g))
-    (startsWhere (λ past g. finished g && not (tagRule g)) (g ∷ past) gs)
+    (startsWhere brokenTag (g ∷ past) gs)
     (tagStands (wordsOf g))
     (all tagStands (map wordsOf gs))
     (place-none-not (tagStands (wordsOf g)) (start g))

@@ -1,13 +1,10 @@
--- Tests of all, and what is met nowhere. Assumes nothing.
-use Prim.Native.Nat.{ℕ}
+-- Two parts, or all, that bring nothing. Assumes nothing.
 use mathlib.Core.Path.{_≡_, refl}
-use mathlib.Core.Bool.{Bool, true, false, not, _&&_, true≢false, false≢true}
-use mathlib.Core.List.{List, [], _∷_, _++_, append-eq-nil-iff, cons≢nil}
+use mathlib.Core.Bool.{Bool, true, _&&_}
+use mathlib.Core.List.{List, [], _∷_, _++_, append-eq-nil-iff}
 use mathlib.Core.Logic.{_↔_}
 use Rattle.lists.specs.Lists.{all, gather}
 use Rattle.lists.proofs.Texts.{and-left, and-right, and-both}
-pub use Rattle.lists.proofs.Texts.{all-map}
-use Rattle.refusals.specs.Refusals.{placeIf}
 
 -- two parts are empty exactly where both tests say so
 pub none-both : {A : Type 0} (xs ys : List A) (t u : Bool) → (xs ≡ []) ↔ (t ≡ true) → (ys ≡ []) ↔ (u ≡ true)
@@ -24,14 +21,3 @@ pub gather-none : {A B : Type 0} (f : A → List B) (t : A → Bool) → ((x : A
 unfolding gather all
 gather-none f t h [] = (λ e. refl, λ e. refl)
 gather-none f t h (x ∷ xs) = none-both (f x) (gather f xs) (t x) (all t xs) (h x) (gather-none f t h xs)
-
--- a refusal is not met exactly where its test fails
-pub place-none : (t : Bool) (p : ℕ) → (placeIf t p ≡ []) ↔ (t ≡ false)
-unfolding placeIf
-place-none true p = (λ e. absurd (cons≢nil e), λ e. absurd (true≢false e))
-place-none false p = (λ e. refl, λ e. refl)
-
-pub place-none-not : (t : Bool) (p : ℕ) → (placeIf (not t) p ≡ []) ↔ (t ≡ true)
-unfolding placeIf
-place-none-not true p = (λ e. refl, λ e. refl)
-place-none-not false p = (λ e. absurd (cons≢nil e), λ e. absurd (false≢true e))

@@ -4,16 +4,15 @@ use mathlib.Core.Bool.{Bool, true, false, not, _||_, false≢true, true≢false,
 use mathlib.Core.List.{List, [], _∷_, _++_, map, reverse, reverseAux, append-eq-nil-iff}
 use Rattle.lists.specs.Lists.{if_then_else_, any}
 use Rattle.refusals.specs.Refusals.{placeIf}
+use Rattle.refusals.proofs.Stages.{place-none-not}
 use Rattle.reading.specs.Tokens.{Segment, start}
 use Rattle.segments.specs.declared.Kind.{Kind}
 use Rattle.segments.specs.declared.Kind.the-variants.{Unb, Unz}
 use Rattle.segments.specs.Kinds.{is}
 use Rattle.segments.specs.Tags.{kindOf}
 use Rattle.segments.specs.Order.{isOpen, standing, allowedAt, allowed, isComplete}
-use Rattle.verdict.specs.Places.{startsWhere}
-use Rattle.grammar.specs.Grammar.{misplaced}
+use Rattle.verdict.specs.Places.{startsWhere, misplaced}
 use Rattle.forms.specs.Forms.{behindTrailer}
-use Rattle.forms.proofs.Tests.{place-none-not}
 
 -- what is open was opened
 open-any : (nearer farther : Kind) (past : List Kind) → isOpen nearer farther past ≡ true → any (is nearer) past ≡ true
@@ -56,7 +55,7 @@ pub trailer-last : (past gs more : List Segment) → startsWhere misplaced past 
 unfolding startsWhere any behindTrailer
 trailer-last past [] more o a = absurd (false≢true a)
 trailer-last past (g ∷ gs) more o a =
-    let parts = append-eq-nil-iff {p = placeIf (not (allowed (map kindOf past) (kindOf g))) (start g)} .0 o in
+    let parts = append-eq-nil-iff {p = placeIf (misplaced past g) (start g)} .0 o in
     step (is Unz (kindOf g)) refl gs (parts .1) a (trailer-last (g ∷ past) gs more (parts .1))
   where
     step : (b : Bool) → is Unz (kindOf g) ≡ b → (gs : List Segment)

@@ -19,17 +19,14 @@ use Rattle.segments.specs.Kinds.{is}
 use Rattle.segments.specs.Tags.{kindOf}
 use Rattle.segments.specs.Order.{segmentsIn, segmentsSinceHeader, messagesSinceGroup, allowed}
 use Rattle.control.specs.Positions.{positionTable, positionsOf}
-use Rattle.control.specs.Control.{controlElement, isReference, isCount, standsWell, controlRule, headerOf, referenceOf, sameValue, referenceDiffers, decimal, trueCount, countOf, countWrong}
-use Rattle.grammar.specs.Grammar.{messageCount, interchangeCount, Agrees, misplaced, badControl}
+use Rattle.control.specs.Control.{controlElement, isReference, isCount, standsWell, controlRule, headerOf, referenceOf, sameValue, nearestReference, referenceDiffers, decimal, trueCount, countOf, countWrong}
+use Rattle.verdict.specs.Places.{misplaced, badControl}
+use Rattle.grammar.specs.Grammar.{messageCount, interchangeCount, Agrees}
 use Rattle.grammar.proofs.Trail.{_▸_}
 use Rattle.grammar.proofs.Pieces.{kinds, number, passed-over, own, through-own, group-count, all-messages, all-groups}
 use Rattle.grammar.proofs.Passing.{Passes, Rules}
 
 -- ---- what a segment has to say
-
--- the reference of the nearest segment of a kind
-abbrev pub nearestReference : Kind → List Segment → Option (List ℕ)
-nearestReference kind past = maybe none referenceOf (first (λ g. is kind (kindOf g)) past)
 
 -- a trailer's reference is that of the nearest header of its sort, and its count is the number
 pub record Closes (header : Kind) (number : ℕ) (past : List Segment) (reference count : Option (List ℕ)) : Type 0 where

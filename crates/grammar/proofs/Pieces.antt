@@ -46,13 +46,13 @@ module _ (kind : Kind) where
       step true xs ys = omega arith
       step false xs ys = refl
 
-  number-append : (xs ys : List Segment) → number kind (xs ++ ys) ≡ number kind xs + number kind ys
+  pub number-append : (xs ys : List Segment) → number kind (xs ++ ys) ≡ number kind xs + number kind ys
   unfolding those
   number-append xs ys =
       omega (arith, number-▸ [] (xs ++ ys), ap (number kind) (▸-append [] xs ys), number-▸ ([] ▸ xs) ys, number-▸ [] xs)
 
   -- a frame has those of its middle, and its header and trailer
-  number-frame : {header trailer : Kind} {Middle : List Segment → Type 0} {Asked : Segment → List Segment → Segment → Type 0}
+  pub number-frame : {header trailer : Kind} {Middle : List Segment → Type 0} {Asked : Segment → List Segment → Segment → Type 0}
       {gs : List Segment} (f : Frame header trailer Middle Asked gs)
       → number kind gs ≡ alone kind header + (number kind (f .middle) + alone kind trailer)
   number-frame f =

@@ -17,8 +17,8 @@ use Rattle.segments.specs.Tags.{kindOf}
 use Rattle.segments.specs.Order.{messagesIn, groupsIn, allowed, isComplete}
 use Rattle.control.specs.Control.{referenceDiffers, countWrong, countOf, decimal}
 use Rattle.verdict.specs.Contents.{segmentsOf, kindsOf}
-use Rattle.verdict.specs.Places.{startsWhere, misplacedSegments, badControls, differingReferences, wrongCounts}
-use Rattle.grammar.specs.Grammar.{size, interchangeCount, Asking, Group, Content, Whole, Ordered, Agrees, Interchange, misplaced, badControl, InOrder, InControl}
+use Rattle.verdict.specs.Places.{startsWhere, misplacedSegments, badControls, differingReferences, wrongCounts, misplaced, badControl}
+use Rattle.grammar.specs.Grammar.{size, interchangeCount, Asking, Group, Content, Whole, Ordered, Agrees, Interchange, InOrder, InControl}
 use Rattle.grammar.proofs.Trail.{_▸_, ▸-map, Each, none-yet, each-map, each-both}
 use Rattle.grammar.proofs.Order.{standing-complete}
 use Rattle.grammar.proofs.Pieces.{kinds, messages-groups, some-groups, messages-size, groups-size}

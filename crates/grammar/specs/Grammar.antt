@@ -2,7 +2,7 @@
 use Prim.Native.Nat.{ℕ, _+_}
 use mathlib.Core.Path.{_≡_}
 use mathlib.Core.Logic.{_⊎_}
-use mathlib.Core.Bool.{Bool, true, not, _||_}
+use mathlib.Core.Bool.{Bool, true, _||_}
 use mathlib.Core.List.{List, [], _∷_, _++_, map, reverse}
 use lib.ListN.{length}
 use lib.Dec.{eqb}
@@ -12,9 +12,9 @@ use Rattle.segments.specs.declared.Kind.{Kind}
 use Rattle.segments.specs.declared.Kind.the-variants.{Unb, Ung, Unh, Uns, Unt, Une, Unz, User}
 use Rattle.segments.specs.Kinds.{is}
 use Rattle.segments.specs.Tags.{kindOf}
-use Rattle.segments.specs.Order.{messagesIn, groupsIn, allowed, isComplete}
-use Rattle.control.specs.Control.{isReference, isCount, referenceOf, countOf, decimal, controlRule, referenceDiffers, countWrong}
-use Rattle.verdict.specs.Places.{startsWhere}
+use Rattle.segments.specs.Order.{messagesIn, groupsIn, isComplete}
+use Rattle.control.specs.Control.{isReference, isCount, referenceOf, countOf, decimal, referenceDiffers, countWrong}
+use Rattle.verdict.specs.Places.{startsWhere, misplaced, badControl}
 
 -- ---- "Order of segments"
 
@@ -100,14 +100,6 @@ abbrev pub Interchange : List Segment → Type 0
 Interchange = Whole Agrees
 
 -- ---- the tests that this grammar is held to
-
--- refusal 9: "segment not allowed there"
-abbrev pub misplaced : List Segment → Segment → Bool
-misplaced past g = not (allowed (map kindOf past) (kindOf g))
-
--- refusal 10: "control element of a service segment not as above"
-abbrev pub badControl : List Segment → Segment → Bool
-badControl past g = not (controlRule g)
 
 -- no segment meets refusal 9, and the end is not before UNZ
 abbrev pub InOrder : List Segment → Type 0

@@ -6,8 +6,7 @@ use mathlib.Core.Bool.{Bool, true, false≢true}
 use mathlib.Core.List.{List, [], _∷_, map}
 use mathlib.Core.Option.{Option, none, some}
 use Rattle.lists.specs.Lists.{at, maybe}
-pub use Rattle.lists.proofs.Numbers.{at-map}
-use Rattle.lists.proofs.Numbers.{at-trimEnd}
+use Rattle.lists.proofs.Numbers.{at-map, at-trimEnd}
 use Rattle.reading.specs.Trimming.{trimElement, isIdle, trimSegment, valueAt}
 
 module _ {A B C : Type 0} where

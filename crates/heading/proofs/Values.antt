@@ -7,21 +7,21 @@ use mathlib.Core.List.{List, [], _∷_}
 use native.Mathlib.Omega.{arith}
 use lib.Dec.{leb, lit≤}
 use borrow.Author.Tests.{lt-leb, leb-false}
-use Rattle.lists.specs.Lists.{if_then_else_, isEmpty, lastOr, through, at, cut, gather, maybe}
+use Rattle.lists.specs.Lists.{if_then_else_, isEmpty, lastOr, through, at, cut, gather, maybe, beyond}
 use Rattle.lists.proofs.Texts.{if-true, if-false}
-use Rattle.lists.proofs.Pieces.{beyond, cut-first}
+use Rattle.lists.proofs.Pieces.{cut-first}
+use Rattle.lists.proofs.Numbers.{at-map}
 use Rattle.characters.specs.declared.Characters.{Characters}
-use Rattle.reading.specs.Tokens.{Token, Segment, ends}
+use Rattle.reading.specs.Tokens.{Token, Segment, ends, tokensAt}
 use Rattle.reading.specs.Values.{Value, bytesOf, valueOf, valuesOf, elementsOf, endedBy}
 use Rattle.reading.specs.Trimming.{isBlank, trimmed, contentsOf, valueAt}
-use Rattle.reading.specs.Tokens.{tokensAt}
 use Rattle.reading.proofs.Ends.{ends-more, through-ends, ended-behind}
 use Rattle.scanner.specs.Scan.{segmentAt}
 use Rattle.elements.specs.Elements.{firstPiece, ElementAt}
 use Rattle.elements.proofs.Elements.{element-at-piece}
 use Rattle.tagging.specs.declared.Word.{Word}
 use Rattle.tagging.specs.Words.{pieceAt, Words, valueAt as readAt}
-use Rattle.heading.proofs.Trimmed.{maybe-alike, at-map, value-at, value-map, trimmed-at}
+use Rattle.heading.proofs.Trimmed.{maybe-alike, value-at, value-map, trimmed-at}
 
 -- ---- the pieces of an element, by what follows them
 

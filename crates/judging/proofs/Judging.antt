@@ -1,9 +1,9 @@
 -- What each stage of the code finds is what its stage of the paper answers. Assumes nothing.
-use Prim.Native.Nat.{ℕ, _+_, _*_, _≤_, _<_}
-use mathlib.Core.Path.{_≡_, refl, sym, ap, ap₂, subst, _∙_}
+use Prim.Native.Nat.{ℕ, _+_, _≤_, _<_}
+use mathlib.Core.Path.{_≡_, refl, sym, ap, ap₂, _∙_}
 use mathlib.Core.Bool.{Bool, true, false}
 use mathlib.Core.List.{List, [], _∷_, _++_}
-use mathlib.Core.Option.{Option, none, some}
+use mathlib.Core.Option.{none}
 use native.Mathlib.Omega.{arith}
 use lib.ListN.{length, drop, length-append, length-drop}
 use lib.Dec.{ltb}
@@ -13,14 +13,12 @@ use Rattle.lists.proofs.Texts.{if-true, if-false}
 use Rattle.characters.specs.declared.Characters.{Characters}
 use Rattle.characters.specs.Characters.{charactersOf, bodyStart, body, adviceOf, spelledOut}
 use Rattle.refusals.specs.declared.Fault.the-variants.{StrayRelease, UnendedSegment, BrokenTag, NormalTooLong}
-use Rattle.refusals.specs.declared.Refusal.{Refusal}
-use Rattle.refusals.specs.Refusals.{Stage, met, lowest, placeIf}
+use Rattle.refusals.specs.Refusals.{Stage, met, placeIf}
 use Rattle.refusals.proofs.Lowest.{lowest-none}
 use Rattle.refusals.proofs.Stages.{met-none}
-use Rattle.reading.specs.Tokens.{Token, byte, separator, fault, placeOf, tokens}
+use Rattle.reading.specs.Tokens.{Token, byte, separator, fault, placeOf, tokens, tokensAt}
 use Rattle.reading.specs.Values.{isFault, endsInside}
 use Rattle.reading.specs.Spelling.{spell}
-use Rattle.reading.specs.Tokens.{tokensAt}
 use Rattle.segments.specs.declared.Walk.{Walk}
 use Rattle.segments.specs.Order.{walkOver}
 use Rattle.verdict.specs.Contents.{bodyTokens, segmentsOf, contents, kindsOf, normalCharacters, interchange, normalForm}
@@ -32,8 +30,6 @@ use Rattle.machines.specs.Walks.{refuse, worded}
 use Rattle.machines.proofs.Rows.{lowest-if}
 use Rattle.machines.proofs.Worded.{worded-answers}
 use Rattle.opening.proofs.Openings.{Opening}
-use Rattle.answers.specs.declared.Interchange.{Interchange}
-use Rattle.answers.specs.declared.Judged.{Judged}
 use Rattle.answers.specs.declared.Judged.the-variants.{Accepted, Refused}
 use Rattle.operations.specs.Judge.{interchangeOf}
 use Rattle.judging.specs.Judging.{verdictOf, judged, fromLength}

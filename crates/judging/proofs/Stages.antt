@@ -1,12 +1,12 @@
 -- One stage behind the other: what a stage's answer says of the whole. Assumes nothing.
-use Prim.Native.Nat.{ℕ, _+_, _≤_, _<_}
-use mathlib.Core.Path.{_≡_, refl, sym, ap, ap₂, subst, _∙_}
-use mathlib.Core.Bool.{Bool, true, false, _||_}
+use Prim.Native.Nat.{ℕ, _<_}
+use mathlib.Core.Path.{_≡_, refl, sym, ap, _∙_}
+use mathlib.Core.Bool.{Bool, true, false}
 use mathlib.Core.List.{List, [], _∷_, map, reverse}
 use mathlib.Core.Option.{Option, none, some}
 use native.Mathlib.Omega.{arith}
 use lib.ListN.{length}
-use Rattle.lists.specs.Lists.{if_then_else_, text, same, at, maybe, cut}
+use Rattle.lists.specs.Lists.{if_then_else_, text, same, at, maybe}
 use Rattle.lists.proofs.Pieces.{cut-first}
 use Rattle.characters.specs.declared.Characters.{Characters}
 use Rattle.refusals.specs.declared.Fault.the-variants.{ForeignLevel}
@@ -14,9 +14,9 @@ use Rattle.refusals.specs.declared.Refusal.{Refusal}
 use Rattle.refusals.specs.declared.Outcome.{Outcome}
 use Rattle.refusals.specs.declared.Outcome.the-variants.{Passed, Failed}
 use Rattle.refusals.specs.Refusals.{met, lowest, lowerOf, orElse, answering, outcome}
-use Rattle.reading.specs.Tokens.{Token, Segment, ends, segments, start as startOf}
+use Rattle.refusals.proofs.Stages.{orElse-neither, failed-is, passed-is}
+use Rattle.reading.specs.Tokens.{Token, Segment, ends, segments, start as startOf, tokensAt}
 use Rattle.reading.specs.Trimming.{valueAt, contentsOf}
-use Rattle.reading.specs.Tokens.{tokensAt}
 use Rattle.levels.specs.Levels.{levelNamed, isOurVersion, levelOf}
 use Rattle.segments.specs.declared.Walk.{Walk}
 use Rattle.segments.specs.Tags.{kindOf}
@@ -31,7 +31,7 @@ use Rattle.ordering.specs.declared.Ordered.{Ordered}
 use Rattle.ordering.specs.declared.Ordered.the-variants as ordered-as
 use Rattle.ordering.specs.Ordering.{orderedBy, orderedAs}
 use Rattle.answers.specs.declared.Judged.{Judged}
-use Rattle.answers.specs.declared.Judged.the-variants.{Accepted, Refused}
+use Rattle.answers.specs.declared.Judged.the-variants.{Refused}
 use Rattle.answers.specs.Answers.{toldJudged, accepted, refused}
 use Rattle.verdict.specs.Stages.{refusalOf}
 use Rattle.machines.proofs.Stages.{bodyRefusal, stage-by-stage}
@@ -43,16 +43,6 @@ use Rattle.judging.specs.Judging.{verdictOf, judged, fromLength, fromCon
 use Rattle.judging.proofs.Judging.{body-tokens}
 
 -- ---- a stage that comes to an outcome
-
-failed-is : (o : Option Refusal) (r : Refusal) → outcome o ≡ Failed r → o ≡ some r
-unfolding outcome
-failed-is none r e = cc
-failed-is (some q) r e = cc
-
-passed-is : (o : Option Refusal) → outcome o ≡ Passed → o ≡ none
-unfolding outcome
-passed-is none e = refl
-passed-is (some q) e = cc
 
 module _ (s : List ℕ) {o : Option Refusal} (rest : Option Refusal) where
   -- what fails answers for all that follows
@@ -190,16 +180,11 @@ module _ (s : List ℕ) where
   body-answers {r} e d = told s r (d ∙ left-to s (fromWords s) e ∙ ap (judged s) (sym whole))
 
   -- an input that is not refused has an opening, and passes (4 5 6)
-  neither : (a b : Option Refusal) → orElse a b ≡ none → (a ≡ none) × (b ≡ none)
-  unfolding orElse
-  neither none b e = (refl, e)
-  neither (some r) b e = (e, cc)
-
   pub accepted-opening : refusalOf s ≡ none → Opening s (charactersOf s) (bodyStart s)
   unfolding openingOf maybe
   accepted-opening e =
-      opening-says s (ap (maybe (Body (charactersOf s) (bodyStart s)) Refused′) (neither openingRefusal (fromWords s) (sym whole ∙ e) .0))
+      opening-says s (ap (maybe (Body (charactersOf s) (bodyStart s)) Refused′) (orElse-neither openingRefusal (fromWords s) (sym whole ∙ e) .0))
 
   pub accepted-worded : refusalOf s ≡ none → worded (length s) (bodyTokens s) ≡ none
   unfolding fromWords
-  accepted-worded e = neither (worded (length s) (bodyTokens s)) (fromLevel s) (neither openingRefusal (fromWords s) (sym whole ∙ e) .1) .0
+  accepted-worded e = orElse-neither (worded (length s) (bodyTokens s)) (fromLevel s) (orElse-neither openingRefusal (fromWords s) (sym whole ∙ e) .1) .0

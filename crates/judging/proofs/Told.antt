@@ -3,11 +3,14 @@ use Prim.Native.Nat.{ℕ}
 use mathlib.Core.Path.{_≡_, sym, ap, _∙_}
 use mathlib.Core.List.{List}
 use mathlib.Core.Option.{none, some}
+use lib.ListN.{length}
+use Rattle.characters.specs.Characters.{charactersOf}
 use Rattle.refusals.specs.declared.Refusal.{Refusal}
 use Rattle.answers.specs.declared.Interchange.{Interchange}
 use Rattle.answers.specs.declared.Judged.{Judged}
 use Rattle.answers.specs.declared.Judged.the-variants.{Accepted, Refused}
 use Rattle.answers.specs.Answers.{given, accepted, toldJudged}
+use Rattle.verdict.specs.Contents.{normalForm}
 use Rattle.verdict.specs.Stages.{refusalOf}
 use Rattle.operations.specs.Judge.{interchangeOf, judge}
 use Rattle.promises.specs.Promises.{Judges}
@@ -26,3 +29,13 @@ module _ (s : List ℕ) where
   pub told-refused : {r : Refusal} {answer : Judged} → Judges s answer → answer ≡ Refused r → refusalOf s ≡ some r
   unfolding toldJudged judge accepted given
   told-refused {r} e d = refused-is (accepted (interchangeOf s) .values) r (refusalOf s) (sym (ap toldJudged d) ∙ e)
+
+-- what is known of an interchange that was accepted
+module _ (s : List ℕ) {i : Interchange} (e : i ≡ interchangeOf s) where
+  pub length-of : i .length ≡ length (normalForm s)
+  unfolding interchangeOf
+  length-of = ap (λ (x : Interchange). x .length) e
+
+  pub characters-of : i .characters ≡ charactersOf s
+  unfolding interchangeOf
+  characters-of = ap (λ (x : Interchange). x .characters) e

@@ -1,15 +1,14 @@
 -- Where every byte is in the level, every byte of every value is. Assumes nothing.
 use Prim.Native.Nat.{ℕ, _+_, _≤_, _<_}
-use mathlib.Core.Path.{_≡_, refl, sym, ap, _∙_}
+use mathlib.Core.Path.{_≡_, refl, ap, _∙_}
 use mathlib.Core.Bool.{Bool, true, false, _&&_}
 use mathlib.Core.List.{List, [], _∷_}
 use mathlib.Core.Option.{Option, none, some}
-use native.Mathlib.Numerals.{add-one}
 use lib.ListN.{length, getD, drop, drop-of-length-le}
-use lib.Seq.{drop-cons}
 use borrow.Author.Tests.{le-leb, lt-leb}
 use Rattle.lists.specs.Lists.{all}
 use Rattle.lists.proofs.Texts.{and-left, and-right, if-true}
+use Rattle.lists.proofs.Numbers.{drop-next}
 use Rattle.characters.specs.declared.Characters.{Characters}
 use Rattle.characters.specs.declared.Role.{Role}
 use Rattle.characters.specs.declared.Role.the-variants.{Separator, Release, Plain}
@@ -24,7 +23,7 @@ use Rattle.machines.specs.Walks.{refuse, leveled}
 module _ (level : ℕ) (s : List ℕ) (at : ℕ) where
   split : at < length s → all (inLevel level) (drop at s) ≡ (inLevel level (getD s at 0) && all (inLevel level) (drop (at + 1) s))
   unfolding all
-  split h = ap (all (inLevel level)) (drop-cons s at 0 h ∙ ap (λ (n : ℕ). getD s at 0 ∷ drop n s) (sym (add-one at)))
+  split h = ap (all (inLevel level)) (drop-next s at h)
 
   pub all-outside : at < length s → classOf (getD s at 0) < level → all (inLevel level) (drop at s) ≡ false
   unfolding inLevel

@@ -7,7 +7,7 @@ ghost use Prim.Native.Nat.{_+_, _*_, _≤_, _<_};
 ghost use lib.ListN.{length};
 ghost use lib.Seq.{sets};
 ghost use Rattle.reading.specs.Values.{bytesOf};
-ghost use Rattle.reading.proofs.Steps.{tokensAt};
+ghost use Rattle.reading.specs.Tokens.{tokensAt};
 ghost use Rattle.tallying.specs.Marks.{numbersOut};
 ghost use Rattle.tallying.specs.Tally.{entryOf, values, end, marksOut, behindMarks, behindByte, byteNumbers, behindSeparator, separatorNumbers, tableOf};
 use characters::Characters;

@@ -4,8 +4,7 @@ use mathlib.Core.Path.{_≡_, refl, sym, ap, _∙_}
 use mathlib.Core.Bool.{Bool, true, false, not, _&&_, false≢true}
 use mathlib.Core.List.{List, [], _∷_, _++_, append-nil, append-assoc}
 use lib.ListN.{drop}
-use Rattle.lists.specs.Lists.{if_then_else_, all, through, onto, cut, gather}
-unfoldable pub use Rattle.lists.specs.Lists.{beyond}
+use Rattle.lists.specs.Lists.{if_then_else_, all, through, beyond, onto, cut, gather}
 use Rattle.lists.proofs.Texts.{and-right, if-true, if-false}
 use Rattle.lists.proofs.Numbers.{drop-nothing}
 

@@ -6,13 +6,13 @@ use mathlib.Core.Bool.{Bool, true, false}
 use mathlib.Core.List.{List, [], _∷_}
 use lib.Dec.{lit≤}
 use borrow.Author.Tests.{not-false}
-use Rattle.lists.specs.Lists.{if_then_else_, isEmpty, lastOr, through}
-use Rattle.lists.proofs.Pieces.{beyond}
+use Rattle.lists.specs.Lists.{if_then_else_, isEmpty, lastOr, through, beyond}
 use Rattle.reading.specs.Tokens.{Token, ends, placeOf}
 use Rattle.reading.specs.Values.{endPlace, endedBy, endsInside}
-use Rattle.elements.proofs.Elements.{ends-more}
+use Rattle.reading.proofs.Ends.{ends-more}
+use Rattle.elements.specs.Elements.{pieceFrom}
 use Rattle.fields.specs.Reading.{valueEnd}
-use Rattle.placing.specs.Placing.{behindPieces, pieceFrom}
+use Rattle.placing.specs.Placing.{behindPieces}
 
 -- the tokens do not end inside a segment
 abbrev pub Whole : List Token → Type 0

@@ -10,31 +10,31 @@ use lib.ListN.{length, take, drop, length-take, length-drop}
 use denote.Ref.{RefT, ptr, now}
 use Rattle.lists.specs.Lists.{through, at, cut, trimEnd, maybe}
 use Rattle.lists.proofs.Pieces.{cut-first}
+use Rattle.lists.proofs.Numbers.{at-drop, at-map}
 use Rattle.characters.specs.declared.Characters.{Characters}
 use Rattle.characters.specs.Characters.{bodyStart}
 use Rattle.refusals.specs.declared.Refusal.{Refusal}
-use Rattle.reading.specs.Tokens.{Token, ends, Segment, segments}
+use Rattle.reading.specs.Tokens.{Token, ends, Segment, segments, tokensAt}
 use Rattle.reading.specs.Values.{Value, elementsOf}
 use Rattle.reading.specs.Trimming.{trimmed, trimSegment, valueAt}
-use Rattle.reading.proofs.Steps.{tokensAt}
 use Rattle.scanner.specs.Scan.{segmentAt}
 use Rattle.verdict.specs.Contents.{bodyTokens, segmentsOf}
 use Rattle.verdict.specs.Stages.{refusalOf}
-use Rattle.heading.proofs.Trimmed.{at-map}
 use Rattle.placing.specs.Placing.{behindPieces, SegmentAt}
 use Rattle.placing.proofs.Placing.{pieces-behind}
 use Rattle.judging.proofs.Judging.{body-tokens, body-ended}
 use Rattle.judging.proofs.Stages.{accepted-opening, accepted-worded}
+use Rattle.judging.proofs.Told.{characters-of}
 use Rattle.answers.specs.declared.Interchange.{Interchange}
 use Rattle.answers.specs.declared.Located.{Located}
 use Rattle.answers.specs.declared.Located.the-variants.{At, Absent, Refused}
 use Rattle.answers.specs.Answers.{Answer, given, refused, toldLocated}
 use Rattle.operations.specs.Judge.{interchangeOf}
 use Rattle.operations.specs.Locate.{located, locate, partOffset, partLength}
+use Rattle.operations.proofs.Answered.{partIn, part-told}
 use Rattle.promises.specs.Promises.{HandsBack}
 use Rattle.locating.specs.Locating.{placed, Inside}
 use Rattle.locating.proofs.Ends.{Whole, behind-whole}
-use Rattle.locating.proofs.Trimmed.{at-drop}
 
 module _ (s : List ℕ) (segment element component : ℕ) where
   -- Judge's refusal answers
@@ -48,9 +48,8 @@ module _ (s : List ℕ) (segment element component : ℕ) where
       (d : SegmentAt (i .characters) s body segment start) where
     -- the tokens of the body
     tokens-are : tokensAt (i .characters) s body ≡ bodyTokens s
-    unfolding interchangeOf
     tokens-are =
-        ap₂ (λ (c : Characters) (p : ℕ). tokensAt c s p) (ap (λ (x : Interchange). x .characters) j) b
+        ap₂ (λ (c : Characters) (p : ℕ). tokensAt c s p) (characters-of s j) b
         ∙ body-tokens s (accepted-opening s a)
 
     start-is : tokensAt (i .characters) s start ≡ behindPieces (ends 0) segment (bodyTokens s)
@@ -95,12 +94,6 @@ module _ (s : List ℕ) (segment element component : ℕ) where
 
 -- ---- the part that an answer tells
 
--- its offset and its length, from the values that are answered
-unfoldable partIn : List ℕ → ℕ × ℕ
-partIn [] = (0, 0)
-partIn (o ∷ []) = (0, 0)
-partIn (o ∷ n ∷ rest) = (o, n)
-
 -- what was found lies in the input
 pub found-inside : (s : List ℕ) {r : Located} {o n : ℕ} → Inside s r → r ≡ At o n → o + n ≤ length s
 found-inside s h e = subst (Inside s) e h
@@ -115,16 +108,10 @@ module _ (whole : RefT (List ℕ)) (segment element component : ℕ) where
   bounds = (partOffset (now whole) segment element component, partLength (now whole) segment element component)
 
   -- an answer tells them
-  part-told : (r : Located) → toldLocated r ≡ locate (now whole) segment element component → partIn (toldLocated r .values) ≡ bounds
-  unfolding locate partOffset partLength given refused maybe partIn
-  part-told r e = ap (λ (a : Answer). partIn (a .values)) e ∙ step (refusalOf (now whole)) (located (now whole) segment element component)
-    where
-      step : (o : Option Refusal) (v : Option Value)
-          → partIn (maybe (maybe (given []) (λ x. given (x .offset ∷ x .spelled ∷ [])) v) refused o .values)
-          ≡ (maybe (maybe 0 (λ x. x .offset) v) (λ q. 0) o, maybe (maybe 0 (λ x. x .spelled) v) (λ q. 0) o)
-      step none none = refl
-      step none (some v) = refl
-      step (some q) v = refl
+  told-by : {r l : Located} → toldLocated r ≡ locate (now whole) segment element component → r ≡ l
+      → bounds ≡ partIn (toldLocated l .values)
+  told-by told e =
+      sym (part-told (now whole) segment element component) ∙ ap (λ (a : Answer). partIn (a .values)) (sym told ∙ ap toldLocated e)
 
   -- so much of the input from there on is handed back
   handed : (o n : ℕ) (p : RefT (List ℕ)) → bounds ≡ (o, n) → o + n ≤ length (now whole) → now p ≡ take n (drop o (now whole))
@@ -144,18 +131,18 @@ module _ (whole : RefT (List ℕ)) (segment element component : ℕ) where
         → ptr p ≡ (ptr whole .0, o + ptr whole .1) → Handed p
     unfolding toldLocated given partIn
     part-found o n h e b q =
-        handed o n p (sym (part-told r told) ∙ ap (λ (l : Located). partIn (toldLocated l .values)) e) (found-inside (now whole) h e)
+        handed o n p (told-by told e) (found-inside (now whole) h e)
         (b ∙ ap (λ (k : ℕ). take k (drop o (now whole))) (add-sub-cancel-left o n)) q
 
     -- zero bytes at the input's start
-    nothing-handed : partIn (toldLocated r .values) ≡ (0, 0) → now p ≡ [] → ptr p ≡ ptr whole → Handed p
+    nothing-handed : bounds ≡ (0, 0) → now p ≡ [] → ptr p ≡ ptr whole → Handed p
     nothing-handed e b q =
-        handed 0 0 p (sym (part-told r told) ∙ e) (omega arith) b (q ∙ ap (λ (k : ℕ). (ptr whole .0, k)) (sym (zero-add (ptr whole .1))))
+        handed 0 0 p e (omega arith) b (q ∙ ap (λ (k : ℕ). (ptr whole .0, k)) (sym (zero-add (ptr whole .1))))
 
     pub part-absent : r ≡ Absent → now p ≡ [] → ptr p ≡ ptr whole → Handed p
     unfolding toldLocated given partIn
-    part-absent e = nothing-handed (ap (λ (l : Located). partIn (toldLocated l .values)) e)
+    part-absent e = nothing-handed (told-by told e)
 
     pub part-refused : {q : Refusal} → r ≡ Refused q → now p ≡ [] → ptr p ≡ ptr whole → Handed p
     unfolding toldLocated refused partIn
-    part-refused e = nothing-handed (ap (λ (l : Located). partIn (toldLocated l .values)) e)
+    part-refused e = nothing-handed (told-by told e)

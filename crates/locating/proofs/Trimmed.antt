@@ -7,19 +7,17 @@ use mathlib.Core.List.{List, [], _∷_, map, map-map}
 use mathlib.Core.Option.{Option, none, some}
 use lib.ListN.{drop}
 use lib.Dec.{lit≤}
-use Rattle.lists.specs.Lists.{if_then_else_, isEmpty, all, through, at, onto, cut, unlessIdle, dropEnd, trimEnd, gather, maybe}
-use Rattle.lists.proofs.Texts.{if-true, if-false}
-use Rattle.lists.proofs.Pieces.{beyond, cut-first}
+use Rattle.lists.specs.Lists.{if_then_else_, isEmpty, all, through, at, onto, cut, unlessIdle, dropEnd, trimEnd, gather, maybe, beyond}
+use Rattle.lists.proofs.Texts.{if-true, if-false, all-mapped}
+use Rattle.lists.proofs.Pieces.{cut-first}
 use Rattle.lists.proofs.Ends.{trimEnd-map}
+use Rattle.lists.proofs.Numbers.{at-map}
 use Rattle.reading.specs.Tokens.{Token, ends}
 use Rattle.reading.specs.Values.{Value, byteOf, bytesOf, valueOf, valuesOf, elementsOf}
-use Rattle.reading.specs.Trimming.{trimElement, isIdle, trimSegment, trimmed, valueAt}
-use Rattle.elements.specs.Elements.{elementFrom}
-use Rattle.elements.proofs.Elements.{through-through, ends-more}
+use Rattle.reading.specs.Trimming.{trimElement, isIdle, trimSegment, isBlank, trimmed, valueAt}
+use Rattle.elements.specs.Elements.{pieceFrom, elementFrom, firstPiece, holdsByte}
+use Rattle.elements.proofs.Elements.{pieces-from, piece-number}
 use Rattle.fields.proofs.Values.{empty-pieces}
-use Rattle.heading.proofs.Trimmed.{at-map}
-use Rattle.placing.specs.Placing.{pieceFrom, holdsByte}
-use Rattle.placing.proofs.Placing.{pieces-from, element-from}
 use Rattle.locating.specs.Locating.{staysIn}
 
 -- ---- an idle end, by number
@@ -69,13 +67,6 @@ module _ {A : Type 0} (t : A → Bool) where
   trimEnd-at (x ∷ xs) zero = refl
   trimEnd-at (x ∷ xs) (suc n) = dropEnd-at xs n
 
--- the one at a number is the first from there on
-pub at-drop : {A : Type 0} (xs : List A) (n : ℕ) → at xs n ≡ at (drop n xs) zero
-unfolding at
-at-drop xs zero = refl
-at-drop [] (suc n) = refl
-at-drop (x ∷ xs) (suc n) = at-drop xs n
-
 -- the one at a number of what a map gives
 map-at : {A B : Type 0} (f : A → B) (xs : List A) (n : ℕ) → at (map f xs) n ≡ maybe none (λ x. some (f x)) (at xs n)
 unfolding at maybe
@@ -97,12 +88,6 @@ alike-pieces {A} p q t h (x ∷ xs) = step (t x) (cut t xs) (alike-pieces p q t 
     step false [] ih = ap₂ _∷_ (h x []) ih
     step false (piece ∷ pieces) ih = ap₂ _∷_ (h x piece) (ap (drop 1) ih)
 
--- all that a map gives pass a test
-all-map : {A B : Type 0} (f : A → B) (p : B → Bool) (xs : List A) → all p (map f xs) ≡ all (λ x. p (f x)) xs
-unfolding all
-all-map f p [] = refl
-all-map f p (x ∷ xs) = ap (λ (b : Bool). p (f x) && b) (all-map f p xs)
-
 -- no byte of a value stands in a piece
 abbrev isBare : List Token → Bool
 isBare piece = isEmpty (bytesOf piece)
@@ -114,51 +99,39 @@ module _ (low high : ℕ) (h : low ≤ high) (idle : List Token → Bool) (alike
   unfolding bytesOf
   all-idle ts =
       let pieces = cut (ends high) ts in
-      sym (all-map idle (λ b. b) pieces)
+      sym (all-mapped idle (λ b. b) pieces)
       ∙ ap (all (λ b. b)) (alike-pieces idle isBare (ends high) alike ts)
-      ∙ all-map isBare (λ b. b) pieces
-      ∙ sym (all-map bytesOf isEmpty pieces)
+      ∙ all-mapped isBare (λ b. b) pieces
+      ∙ sym (all-mapped bytesOf isEmpty pieces)
       ∙ empty-pieces byteOf (ends high) ts
-
-  -- the first piece
-  first-piece : (t : Token) (ts : List Token) → at (cut (ends high) (through (ends low) (t ∷ ts))) zero ≡ some (through (ends high) (t ∷ ts))
-  unfolding at through
-  first-piece t ts =
-      ap (λ (pieces : List (List Token)). at pieces zero) (cut-first (ends high) t (if ends low t then [] else through (ends low) ts))
-      ∙ ap some (through-through (ends low) (ends high) (ends-more low high h) (t ∷ ts))
 
   -- the piece that tokens begin with, by whether trimming leaves it
   first-kept : (n : ℕ) (ts : List Token)
-      → (if behindFirst n (isBare (through (ends low) ts)) then none else at (cut (ends high) (through (ends low) ts)) zero)
+      → (if behindFirst n (isBare (through (ends low) ts)) then none else firstPiece high ts)
       ≡ (if staysIn low n ts then some (through (ends high) ts) else none)
-  unfolding behindFirst staysIn holdsByte at cut through bytesOf gather isEmpty
+  unfolding behindFirst firstPiece staysIn holdsByte through bytesOf gather isEmpty
   first-kept zero [] = refl
-  first-kept zero (t ∷ ts) = first-piece t ts
+  first-kept zero (t ∷ ts) = refl
   first-kept (suc n) [] = refl
-  first-kept (suc n) (t ∷ ts) = step (isBare (through (ends low) (t ∷ ts))) (first-piece t ts)
+  first-kept (suc n) (t ∷ ts) = step (some (through (ends high) (t ∷ ts))) (isBare (through (ends low) (t ∷ ts)))
     where
-      step : {A : Type 0} {x : A} {o : Option A} (b : Bool) → o ≡ some x
-          → (if b then none else o) ≡ (if not b then some x else none)
-      step true e = refl
-      step false e = e
+      step : (o : Option (List Token)) (b : Bool) → (if b then none else o) ≡ (if not b then o else none)
+      step o true = refl
+      step o false = refl
 
   -- what is left at a number is the piece that begins there, if it stays
-  pub kept-at : (n : ℕ) (ts from : List Token)
-      → cut (ends high) (through (ends low) from) ≡ drop n (cut (ends high) (through (ends low) ts))
-      → at (trimEnd idle (cut (ends high) (through (ends low) ts))) n
+  kept-at : (n : ℕ) (ts : List Token) → let from = pieceFrom (ends low) (ends high) n ts in
+      at (trimEnd idle (cut (ends high) (through (ends low) ts))) n
       ≡ (if staysIn low n from then some (through (ends high) from) else none)
-  kept-at n ts from e =
-      let pieces = cut (ends high) (through (ends low) ts) in
-      trimEnd-at idle pieces n
+  kept-at n ts =
+      let from = pieceFrom (ends low) (ends high) n ts in
+      trimEnd-at idle (cut (ends high) (through (ends low) ts)) n
       ∙ ap₂ (λ (b : Bool) (o : Option (List Token)). if behindFirst n b then none else o)
-      (ap (all idle) (sym e) ∙ all-idle (through (ends low) from))
-      (at-drop pieces n ∙ ap (λ (rest : List (List Token)). at rest zero) (sym e))
+      (ap (all idle) (sym (pieces-from (ends low) (ends high) n ts)) ∙ all-idle (through (ends low) from))
+      (piece-number low high h n ts)
       ∙ first-kept n from
 
 -- ---- the two levels
-
-abbrev isBlank : Value → Bool
-isBlank v = isEmpty (v .bytes)
 
 -- the values of an element that was read, trimmed
 abbrev valuesLeft : List Token → List Value
@@ -180,8 +153,8 @@ idle-element t ts =
     ap (λ (pieces : List (List Token)). isIdle isBlank (trimElement isBlank (map valueOf pieces))) (cut-first (ends 2) t ts)
     ∙ idle-values (valueOf (through (ends 2) (t ∷ ts))) (map valueOf (cut (ends 2) (beyond (ends 2) (t ∷ ts))))
     ∙ ap (λ (pieces : List (List Token)). all isBlank (map valueOf pieces)) (sym (cut-first (ends 2) t ts))
-    ∙ all-map valueOf isBlank (cut (ends 2) (t ∷ ts))
-    ∙ sym (all-map bytesOf isEmpty (cut (ends 2) (t ∷ ts)))
+    ∙ all-mapped valueOf isBlank (cut (ends 2) (t ∷ ts))
+    ∙ sym (all-mapped bytesOf isEmpty (cut (ends 2) (t ∷ ts)))
     ∙ empty-pieces byteOf (ends 2) (t ∷ ts)
 
 -- what is asked of what there is only if it stays
@@ -199,7 +172,7 @@ component-value ts k =
     let pieces = cut (ends 2) (through (ends 1) ts) in
     ap (λ (values : List Value). at values k) (trimEnd-map valueOf isBlank pieces)
     ∙ map-at valueOf (trimEnd isBare pieces) k
-    ∙ ap (maybe none (λ piece. some (valueOf piece))) (kept-at 1 2 (lit≤ tt) isBare (λ t us. refl) k ts from (pieces-from (ends 1) (ends 2) k ts))
+    ∙ ap (maybe none (λ piece. some (valueOf piece))) (kept-at 1 2 (lit≤ tt) isBare (λ t us. refl) k ts)
     ∙ if-stays (λ piece. some (valueOf piece)) (staysIn 1 k from) (through (ends 2) from)
 
 -- the value by element and component, in the trimmed contents of the segment that tokens begin with
@@ -216,7 +189,6 @@ trimmed-value ts e k =
     (ap (trimEnd (isIdle isBlank)) (map-map (trimElement isBlank) valuesOf pieces) ∙ trimEnd-map valuesLeft (isIdle isBlank) pieces)
     ∙ at-map none (λ values. at values k) valuesLeft (trimEnd idle pieces) e
     ∙ ap (maybe none (λ piece. at (valuesLeft piece) k))
-    (kept-at 0 1 (lit≤ tt) idle idle-element e ts element
-    (ap (λ (us : List Token). cut (ends 1) (through (ends 0) us)) (element-from e ts) ∙ pieces-from (ends 0) (ends 1) e ts))
+    (kept-at 0 1 (lit≤ tt) idle idle-element e ts)
     ∙ if-stays (λ piece. at (valuesLeft piece) k) (staysIn 0 e element) (through (ends 1) element)
     ∙ ap (λ (o : Option Value). if staysIn 0 e element then o else none) (component-value element k)

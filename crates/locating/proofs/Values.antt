@@ -13,16 +13,15 @@ use borrow.Author.Tests.{lt-ltb, le-ltb, not-true, not-false}
 use Rattle.lists.specs.Lists.{if_then_else_, isEmpty, through, gather}
 use Rattle.lists.proofs.Texts.{if-true, if-false}
 use Rattle.characters.specs.declared.Characters.{Characters}
-use Rattle.reading.specs.Tokens.{Token, ends, placeOf, start}
+use Rattle.reading.specs.Tokens.{Token, ends, placeOf, start, tokensAt}
 use Rattle.reading.specs.Values.{Value, bytesOf, endPlace, valueOf}
 use Rattle.reading.specs.Trimming.{trimmed, valueAt}
-use Rattle.reading.proofs.Steps.{tokensAt, at-end}
+use Rattle.reading.proofs.Steps.{at-end}
 use Rattle.scanner.specs.Scan.{segmentAt}
 use Rattle.scanner.proofs.Segments.{stands}
-use Rattle.elements.specs.Elements.{ElementAt}
+use Rattle.elements.specs.Elements.{ElementAt, pieceFrom, holdsByte}
 use Rattle.fields.specs.Reading.{valueEnd}
-use Rattle.placing.specs.Placing.{pieceFrom, holdsByte, ComponentAt, EndsAt}
-use Rattle.placing.proofs.Placing.{element-from}
+use Rattle.placing.specs.Placing.{ComponentAt, EndsAt}
 use Rattle.answers.specs.declared.Located.{Located}
 use Rattle.answers.specs.declared.Located.the-variants.{At, Absent}
 use Rattle.locating.specs.Locating.{staysIn, placed, Inside}
@@ -139,7 +138,7 @@ module _ (c : Characters) (s : List ℕ) (start element component : ℕ) {from :
     component-whole : Whole (tokensAt c s start) → Whole (tokensAt c s at)
     component-whole w =
         subst Whole
-        (sym (d ∙ ap (pieceFrom (ends 1) (ends 2) component) (e .0 ∙ element-from element (tokensAt c s start))))
+        (sym (d ∙ ap (pieceFrom (ends 1) (ends 2) component) (e .0)))
         (from-whole (ends 1) (ends 2) component (pieceFrom (ends 0) (ends 1) element (tokensAt c s start)) (from-whole (ends 0) (ends 1) element (tokensAt c s start) w))
 
     -- both stay

@@ -7,7 +7,7 @@ use lib.ListN.{length}
 use Rattle.lists.specs.Lists.{isEmpty}
 use Rattle.reading.specs.Tokens.{Token}
 use Rattle.reading.specs.Values.{Value}
-use Rattle.placing.specs.Placing.{holdsByte}
+use Rattle.elements.specs.Elements.{holdsByte}
 use Rattle.answers.specs.declared.Located.{Located}
 use Rattle.answers.specs.declared.Located.the-variants.{At, Absent, Refused}
 

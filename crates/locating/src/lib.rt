@@ -5,7 +5,7 @@ ghost use mathlib.Core.Path.{_≡_};
 ghost use mathlib.Core.Bool.{false};
 ghost use Rattle.reading.specs.Values.{endsInside};
 ghost use Rattle.reading.specs.Trimming.{trimmed, valueAt};
-ghost use Rattle.reading.proofs.Steps.{tokensAt};
+ghost use Rattle.reading.specs.Tokens.{tokensAt};
 ghost use Rattle.scanner.specs.Scan.{segmentAt};
 ghost use Rattle.promises.specs.Promises.{Locates, HandsBack};
 ghost use Rattle.locating.specs.Locating.{staysIn, placed, Inside};
@@ -13,8 +13,8 @@ use answers::Judged;
 use answers::Located;
 use characters::Characters;
 use elements::element_at;
+use elements::holds_byte;
 use placing::component_at;
-use placing::holds_byte;
 use placing::segment_at;
 use placing::value_end;
 

@@ -12,7 +12,6 @@ use Rattle.refusals.specs.declared.Fault.{Fault}
 use Rattle.refusals.specs.declared.Refusal.{Refusal}
 use Rattle.refusals.specs.Refusals.{Stage, met, placeIf, lowerOf, lowest, orElse}
 use Rattle.refusals.proofs.Stages.{met-append}
-pub use Rattle.refusals.proofs.Stages.{orElse-none}
 use Rattle.refusals.proofs.Lowest.{lowest-rising}
 use Rattle.machines.specs.Walks.{refuse}
 

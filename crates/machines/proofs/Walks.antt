@@ -22,7 +22,7 @@ use Rattle.segments.specs.Tags.{kindOf}
 use Rattle.segments.specs.Order.{allowed, isComplete}
 use Rattle.control.specs.Control.{controlRule, referenceDiffers, countWrong}
 use Rattle.verdict.specs.Contents.{bodyTokens, segmentsOf, kindsOf}
-use Rattle.verdict.specs.Places.{level, placeOutside, outsideLevel, misplacedSegments, badControls, differingReferences, wrongCounts}
+use Rattle.verdict.specs.Places.{level, placeOutside, outsideLevel, misplacedSegments, badControls, differingReferences, wrongCounts, misplaced, badControl}
 use Rattle.machines.specs.Walks.{refuse, firstIn, leveled, orderedSegment, ordered, controlledSegment, controlled}
 use Rattle.machines.proofs.Rows.{Within, firstOf, lowest-row, lowest-if, if-within, append-within, met-gather}
 use Rattle.machines.proofs.Rising.{lastPlace, Lies, Spans, body-rises, segments-rise}
@@ -63,18 +63,14 @@ if-not : (t : Bool) (o : Option Refusal) → (if not t then o else none) ≡ (if
 if-not true o = refl
 if-not false o = refl
 
--- the test of 9
-misplaced : List Segment → Segment → Bool
-misplaced past g = not (allowed (map kindOf past) (kindOf g))
-
 -- what the walk asks of a segment is what is met in it
 order-answers : (low high : ℕ) (past : List Segment) (g : Segment) → Spans low high g
     → lowest (failing MisplacedSegment misplaced (past, g)) ≡ orderedSegment past g
-unfolding misplaced orderedSegment
+unfolding orderedSegment
 order-answers low high past g spans = rw lowest-if (if-not (allowed (map kindOf past) (kindOf g)) (refuse MisplacedSegment (start g)))
 
 pub ordered-answers : (s : List ℕ) → lowest (met MisplacedSegment (misplacedSegments s)) ≡ ordered (length s) (bodyTokens s)
-unfolding misplacedSegments misplaced ordered segmentsOf kindsOf
+unfolding misplacedSegments ordered segmentsOf kindsOf
 ordered-answers s =
     rw (met-append, met-starts MisplacedSegment misplaced [] (segmentsOf s))
     (lowest-ended (failing MisplacedSegment misplaced) orderedSegment (failing-within MisplacedSegment misplaced) order-answers
@@ -92,10 +88,6 @@ lower-number f g p true h =
     ap some (if-false (isLower q r) q r (not-lower q r (omega arith)))
 lower-number f g p false h = refl
 
--- the test of 10
-badControl : List Segment → Segment → Bool
-badControl past g = not (controlRule g)
-
 -- what is met of the three in a segment
 controls : Passed → Stage
 controls p = failing BadControl badControl p ++ failing ReferenceDiffers referenceDiffers p ++ failing CountWrong countWrong p
@@ -108,7 +100,7 @@ control-within low high p spans = search (append-within, failing-within)
 -- what the walk asks of a segment is the lowest of it: 10 before 11 before 12
 control-answers : (low high : ℕ) (past : List Segment) (g : Segment) → Spans low high g
     → lowest (controls (past, g)) ≡ controlledSegment past g
-unfolding controls badControl controlledSegment merge number
+unfolding controls controlledSegment merge number
 control-answers low high past g spans = simp (lowest-append, lowest-if) (step (controlRule g) (referenceDiffers past g) (countWrong past g))
   where
     bad : Option Refusal
@@ -132,7 +124,7 @@ control-answers low high past g spans = simp (lowest-append, lowest-if) (step (c
 pub controlled-answers : (s : List ℕ)
     → lowest (met BadControl (badControls s) ++ met ReferenceDiffers (differingReferences s) ++ met CountWrong (wrongCounts s))
     ≡ controlled (bodyTokens s)
-unfolding badControls differingReferences wrongCounts badControl controlled controls segmentsOf
+unfolding badControls differingReferences wrongCounts controlled controls segmentsOf
 controlled-answers s =
     let gs = segmentsOf s in
     rw (met-starts BadControl badControl [] gs, met-starts ReferenceDiffers referenceDiffers [] gs, met-starts CountWrong countWrong [] gs)

@@ -19,7 +19,7 @@ use Rattle.reading.specs.Tokens.{Token, byte, separator, fault, ends, placeOf, 
 use Rattle.reading.specs.Values.{isFault, endedBy, endsInside, finished}
 use Rattle.segments.specs.Tags.{tagRule}
 use Rattle.verdict.specs.Contents.{bodyTokens, segmentsOf}
-use Rattle.verdict.specs.Places.{strayReleases, unendedSegment, brokenTags}
+use Rattle.verdict.specs.Places.{strayReleases, unendedSegment, brokenTags, brokenTag}
 use Rattle.machines.specs.Walks.{refuse, firstIn, firstFault, wordedSegment, worded}
 use Rattle.machines.proofs.Rows.{Within, firstOf, gather-within, lowest-row, lowest-if, if-within, append-within, met-gather}
 use Rattle.machines.proofs.Rising.{Lies, Rising, Spans, segments-rise}
@@ -55,10 +55,6 @@ no-fault (byte b from place ∷ ts) = no-fault ts
 no-fault (separator kind place ∷ ts) = no-fault ts
 no-fault (fault place ∷ ts) = refl
 
--- the test of 6
-brokenTag : List Segment → Segment → Bool
-brokenTag past g = finished g && not (tagRule g)
-
 -- what is met of the two in a segment
 misworded : Passed → Stage
 misworded p = met StrayRelease (gather strayAt (p .1)) ++ failing BrokenTag brokenTag p
@@ -79,7 +75,7 @@ wordedOr o past g =
 -- what is met in a segment answers as the walk does, where the end is not asked for
 misworded-answers : (low high : ℕ) (past : List Segment) (g : Segment) → Spans low high g
     → lowest (misworded (past, g)) ≡ wordedOr none past g
-unfolding misworded wordedOr brokenTag finished merge maybe lowerOf
+unfolding misworded wordedOr finished merge maybe lowerOf
 misworded-answers low high past g spans =
     rw (lowest-append, stray-answers g (spans .2), lowest-if, no-fault) (step (firstFault g) (endedBy 0 g) (tagRule g))
   where
@@ -182,7 +178,7 @@ module _ (s : List ℕ) where
 
   pub worded-answers : lowest (met StrayRelease (strayReleases s) ++ met UnendedSegment (unendedSegment s) ++ met BrokenTag (brokenTags s))
       ≡ worded (length s) (bodyTokens s)
-  unfolding unendedSegment brokenTags brokenTag segmentsOf segments worded wordedSegment wordedOr misworded
+  unfolding unendedSegment brokenTags segmentsOf segments worded wordedSegment wordedOr misworded
   worded-answers =
       rw (stray-parts, met-starts BrokenTag brokenTag [] (segmentsOf s))
       (lowest-around (λ p. met StrayRelease (gather strayAt (p .1))) (failing BrokenTag brokenTag) (withPast [] (segmentsOf s))

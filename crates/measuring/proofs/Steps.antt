@@ -1,14 +1,13 @@
 -- One step of the measure is one step of the emission, and what is spelled or held back grows by two a byte at most. Assumes nothing.
-use Prim.Native.Nat.{ℕ, _+_, _*_, _≤_, _<_}
-use mathlib.Core.Path.{_≡_, refl, sym, ap, ap₂, _∙_}
+use Prim.Native.Nat.{ℕ, _+_, _≤_}
+use mathlib.Core.Path.{_≡_, refl, ap}
 use mathlib.Core.Bool.{Bool, true, false}
 use mathlib.Core.List.{List, _∷_}
 use native.Mathlib.Omega.{arith}
 use lib.Dec.{leb, lit≤}
-use Rattle.lists.specs.Lists.{if_then_else_, member}
-use Rattle.characters.specs.declared.Characters.{Characters}
+use Rattle.lists.specs.Lists.{if_then_else_}
 use Rattle.characters.specs.Characters.{isService, serviceCharacters, released, sixBytes}
-use Rattle.reading.specs.Tokens.{Token, byte, separator, fault}
+use Rattle.reading.specs.Tokens.{Token, byte, separator}
 use Rattle.verdict.specs.Contents.{normalCharacters}
 use Rattle.emission.specs.Emission.{emittedLength}
 use Rattle.measuring.specs.declared.Measure.{Measure}
@@ -19,6 +18,24 @@ width-any : (mark b : ℕ) → (if isService (normalCharacters mark) b then 2 el
 unfolding width isService serviceCharacters released normalCharacters sixBytes
 width-any mark b = refl
 
+-- a separator ends a segment, or is held back as one of elements or of components
+pub by-separator : (P : Bool → Bool → Measure → Type 0) (m : Measure) (kind : ℕ)
+    → ((b : Bool) → P true b (record { total = m .total + 1; elements = 0; components = 0 }))
+    → P false true (record { total = m .total; elements = m .elements + 1; components = 0 })
+    → P false false (record { total = m .total; elements = m .elements; components = m .components + 1 })
+    → P (leb kind 0) (leb kind 1) (behindSeparator m kind)
+unfolding behindSeparator
+by-separator P m kind p q r = step (leb kind 0) (leb kind 1)
+  where
+    step : (terminates ends : Bool)
+        → P terminates ends
+        (if terminates then record { total = m .total + 1; elements = 0; components = 0 }
+        else if ends then record { total = m .total; elements = m .elements + 1; components = 0 }
+        else record { total = m .total; elements = m .elements; components = m .components + 1 })
+    step true ends = p ends
+    step false true = q
+    step false false = r
+
 module _ (mark : ℕ) (m : Measure) (ts : List Token) where
   pub measure-byte : (b from place : ℕ)
       → lengthFrom (normalCharacters mark) m (byte b from place ∷ ts) ≡ lengthFrom (normalCharacters mark) (behindByte m b) ts
@@ -28,21 +45,15 @@ module _ (mark : ℕ) (m : Measure) (ts : List Token) where
 
   pub measure-separator : (kind place : ℕ)
       → lengthFrom (normalCharacters mark) m (separator kind place ∷ ts) ≡ lengthFrom (normalCharacters mark) (behindSeparator m kind) ts
-  unfolding lengthFrom emittedLength behindSeparator
-  measure-separator kind place = step (leb kind 0) (leb kind 1)
-    where
-      step : (terminates ends : Bool)
-          → (if terminates then emittedLength (normalCharacters mark) (m .total + 1) 0 0 ts
-          else if ends then emittedLength (normalCharacters mark) (m .total) (m .elements + 1) 0 ts
-          else emittedLength (normalCharacters mark) (m .total) (m .elements) (m .components + 1) ts)
-          ≡ lengthFrom (normalCharacters mark)
-          (if terminates then record { total = m .total + 1; elements = 0; components = 0 }
-          else if ends then record { total = m .total; elements = m .elements + 1; components = 0 }
-          else record { total = m .total; elements = m .elements; components = m .components + 1 })
-          ts
-      step true ends = refl
-      step false true = refl
-      step false false = refl
+  unfolding lengthFrom emittedLength
+  measure-separator kind place =
+      by-separator
+      (λ terminates ends n.
+      (if terminates then emittedLength (normalCharacters mark) (m .total + 1) 0 0 ts
+      else if ends then emittedLength (normalCharacters mark) (m .total) (m .elements + 1) 0 ts
+      else emittedLength (normalCharacters mark) (m .total) (m .elements) (m .components + 1) ts)
+      ≡ lengthFrom (normalCharacters mark) n ts)
+      m kind (λ ends. refl) refl refl
 
 -- ---- what is spelled or held back
 
@@ -59,15 +70,5 @@ unfolding behindByte
 held-byte m b = omega (arith, width-most b)
 
 pub held-separator : (m : Measure) (kind : ℕ) → held (behindSeparator m kind) ≤ held m + 1
-unfolding behindSeparator
-held-separator m kind = step (leb kind 0) (leb kind 1)
-  where
-    step : (terminates ends : Bool)
-        → held
-        (if terminates then record { total = m .total + 1; elements = 0; components = 0 }
-        else if ends then record { total = m .total; elements = m .elements + 1; components = 0 }
-        else record { total = m .total; elements = m .elements; components = m .components + 1 })
-        ≤ held m + 1
-    step true ends = omega arith
-    step false true = omega arith
-    step false false = omega arith
+held-separator m kind =
+    by-separator (λ terminates ends n. held n ≤ held m + 1) m kind (λ ends. omega arith) (omega arith) (omega arith)

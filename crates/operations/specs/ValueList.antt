@@ -68,8 +68,12 @@ closed (l ∷ next ∷ ls) = record { kind = next .kind; value = l .value } ∷ 
 unfoldable pub closes : ℕ → Item → Bool
 closes kind l = leb (l .kind) kind
 
+-- the elements of a segment, and the segments, of values with what ends them
+abbrev pub elementsListed : List Item → List (List Bytes)
+elementsListed segment = map (map (λ l. l .value)) (cut (closes 1) segment)
+
 unfoldable pub segmentsListed : List Item → SegmentList
-segmentsListed list = map (λ segment. map (map (λ l. l .value)) (cut (closes 1) segment)) (cut (closes 0) (closed list))
+segmentsListed list = map elementsListed (cut (closes 0) (closed list))
 
 -- "the trimmed list"
 unfoldable pub trimList : SegmentList → SegmentList

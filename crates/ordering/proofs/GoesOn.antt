@@ -3,17 +3,15 @@ use Prim.Native.Nat.{ℕ, _≤_, _<_}
 use mathlib.Core.Path.{_≡_, refl, sym, ap, _∙_}
 use mathlib.Core.Bool.{Bool, true, false}
 use mathlib.Core.List.{List, [], _∷_, map, reverseAux}
-use mathlib.Core.Option.{Option, none, some}
+use mathlib.Core.Option.{Option, none}
 use lib.ListN.{length}
-use Rattle.lists.specs.Lists.{if_then_else_}
-use Rattle.lists.proofs.Pieces.{beyond}
+use Rattle.lists.specs.Lists.{if_then_else_, beyond}
 use Rattle.lists.proofs.Texts.{and-both, if-true, if-false}
 use Rattle.characters.specs.declared.Characters.{Characters}
 use Rattle.refusals.specs.declared.Fault.the-variants.{MisplacedSegment}
 use Rattle.refusals.specs.declared.Refusal.{Refusal}
 use Rattle.refusals.specs.Refusals.{orElse}
-use Rattle.reading.specs.Tokens.{Token, Segment, ends, segments, start}
-use Rattle.reading.specs.Tokens.{tokensAt}
+use Rattle.reading.specs.Tokens.{Token, Segment, ends, segments, start, tokensAt}
 use Rattle.scanner.specs.Scan.{segmentAt, Skips}
 use Rattle.scanner.proofs.Segments.{segments-end, segments-first, segment-start}
 use Rattle.segments.specs.declared.Kind.{Kind}

@@ -7,15 +7,13 @@ use mathlib.Core.List.{List, [], _∷_}
 use native.Mathlib.Omega.{arith}
 use native.Mathlib.Numerals.{sub-one}
 use lib.ListN.{drop}
-use Rattle.lists.specs.Lists.{cut}
+use Rattle.lists.specs.Lists.{cut, beyond}
 use Rattle.lists.proofs.Texts.{if-true, if-false}
 use Rattle.lists.proofs.Numbers.{drop-nothing}
-use Rattle.lists.proofs.Pieces.{beyond, cut-first}
+use Rattle.lists.proofs.Pieces.{cut-first}
 use Rattle.reading.specs.Tokens.{Token, ends}
-use Rattle.elements.specs.Elements.{elementFrom}
-pub use Rattle.elements.proofs.Elements.{pieces-from}
 use Rattle.fields.specs.Reading.{valueEnd}
-use Rattle.placing.specs.Placing.{behindPieces, pieceFrom}
+use Rattle.placing.specs.Placing.{behindPieces}
 
 -- ---- the pieces from a number on
 
@@ -27,10 +25,6 @@ module _ {A : Type 0} where
   pieces-behind t (suc k) [] = pieces-behind t k [] ∙ drop-nothing k
   pieces-behind t (suc k) (x ∷ xs) =
       pieces-behind t k (beyond t (x ∷ xs)) ∙ sym (ap (drop (suc k)) (cut-first t x xs))
-
--- the elements of a segment are such pieces
-pub element-from : (k : ℕ) (ts : List Token) → elementFrom k ts ≡ pieceFrom (ends 0) (ends 1) k ts
-element-from k ts = refl
 
 -- ---- one step of a search by number
 

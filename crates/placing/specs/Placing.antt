@@ -6,9 +6,8 @@ use mathlib.Core.List.{List}
 use lib.ListN.{length}
 use Rattle.lists.specs.Lists.{beyond}
 use Rattle.characters.specs.declared.Characters.{Characters}
-use Rattle.reading.specs.Tokens.{ends}
-use Rattle.reading.specs.Tokens.{tokensAt}
-unfoldable pub use Rattle.elements.specs.Elements.{pieceFrom, holdsByte}
+use Rattle.reading.specs.Tokens.{ends, tokensAt}
+use Rattle.elements.specs.Elements.{pieceFrom}
 use Rattle.fields.specs.Reading.{valueEnd}
 
 module _ {A : Type 0} where

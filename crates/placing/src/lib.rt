@@ -1,11 +1,8 @@
-// Places by number: where a segment, or a component of an element, begins; whether a byte of a value
-// stands from a place on; where a value ends. It promises the pieces into which `reading` cuts the
-// tokens. What trimming leaves of them is left to others.
-ghost use mathlib.Core.Path.{_≡_};
-ghost use Rattle.reading.specs.Tokens.{tokensAt};
-ghost use Rattle.placing.specs.Placing.{SegmentAt, ComponentAt, holdsByte, EndsAt};
+// Places by number: where a segment, or a component of an element, begins; where a value ends. It
+// promises the pieces into which `reading` cuts the tokens. What trimming leaves of them is left to
+// others.
+ghost use Rattle.placing.specs.Placing.{SegmentAt, ComponentAt, EndsAt};
 use characters::Characters;
-pub use elements::holds_byte;
 use elements::piece_at;
 use scanner::Lexed;
 use scanner::lex;

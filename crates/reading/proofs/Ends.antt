@@ -5,8 +5,8 @@ use mathlib.Core.Bool.{true, false}
 use mathlib.Core.List.{List, [], _∷_}
 use native.Mathlib.Omega.{arith}
 use borrow.Author.Tests.{le-leb, leb-true}
-use Rattle.lists.specs.Lists.{if_then_else_, through, lastOr, cut}
-use Rattle.lists.proofs.Pieces.{beyond, cut-first, through-through}
+use Rattle.lists.specs.Lists.{if_then_else_, through, lastOr, cut, beyond}
+use Rattle.lists.proofs.Pieces.{cut-first, through-through}
 use Rattle.reading.specs.Tokens.{Token, byte, separator, fault, ends}
 use Rattle.reading.specs.Values.{endedBy}
 

@@ -1,8 +1,8 @@
 -- Reading from a place on, token by token: what stands at a place, and where reading goes on. Assumes nothing.
-use Prim.Native.Nat.{ℕ, zero, suc, _+_, _≤_, _<_}
-use mathlib.Core.Path.{_≡_, refl, ap, _∙_}
+use Prim.Native.Nat.{ℕ, _+_, _≤_, _<_}
+use mathlib.Core.Path.{_≡_, ap, _∙_}
 use mathlib.Core.List.{List, [], _∷_}
-use mathlib.Core.Option.{Option, none, some}
+use mathlib.Core.Option.{none, some}
 use native.Mathlib.Omega.{arith}
 use lib.ListN.{length, getD, drop, drop-of-length-le}
 use mathlib.Core.Bool.{true, false}
@@ -12,8 +12,7 @@ use Rattle.characters.specs.declared.Characters.{Characters}
 use Rattle.characters.specs.declared.Role.{Role}
 use Rattle.characters.specs.declared.Role.the-variants.{Separator, Release, Plain}
 use Rattle.characters.specs.Characters.{role}
-use Rattle.reading.specs.Tokens.{Token, byte, separator, fault, unreleased, releasing, taken, tokensFrom, tokens, ends}
-unfoldable pub use Rattle.reading.specs.Tokens.{tokensAt}
+use Rattle.reading.specs.Tokens.{byte, separator, fault, unreleased, releasing, taken, tokensFrom, tokens, tokensAt, ends}
 
 -- a separator ends what those of its own kind and of higher kinds end
 pub ends-yes : (kind place : ℕ) {k : ℕ} → k ≤ kind → ends kind (separator k place) ≡ true

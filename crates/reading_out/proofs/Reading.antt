@@ -1,40 +1,33 @@
 -- What is stored is the value list, with the rest of both buffers as it was; and what is answered. Assumes nothing.
 use Prim.Native.Nat.{ℕ, _≤_, _<_}
-use mathlib.Core.Path.{_≡_, refl, sym, ap, ap₂, _∙_}
-use mathlib.Core.Bool.{Bool, false}
-use mathlib.Core.List.{List, [], _∷_, _++_}
-use mathlib.Core.Option.{Option, none, some}
-use native.Mathlib.Nat.{zero-add}
+use mathlib.Core.Path.{_≡_, sym, ap, ap₂, _∙_}
+use mathlib.Core.Bool.{false}
+use mathlib.Core.List.{List, [], _∷_}
+use mathlib.Core.Option.{none, some}
 use native.Mathlib.Omega.{arith}
-use lib.ListN.{length, drop}
-use lib.Seq.{sets, sets-eq}
-use lib.Dec.{ltb}
-use borrow.Author.Tests.{lt-ltb, le-ltb}
-use Rattle.lists.specs.Lists.{if_then_else_, maybe}
+use lib.ListN.{length}
+use lib.Seq.{sets}
 use Rattle.characters.specs.declared.Characters.{Characters}
 use Rattle.characters.specs.Characters.{charactersOf, bodyStart, body}
 use Rattle.refusals.specs.declared.Fault.the-variants.{BufferShort}
 use Rattle.refusals.specs.declared.Refusal.{Refusal}
-use Rattle.refusals.specs.Refusals.{lowest, orElse, answering}
-use Rattle.refusals.proofs.Stages.{answering-append}
 use Rattle.reading.specs.Values.{bytesOf, endsInside}
-use Rattle.reading.proofs.Steps.{tokensAt}
+use Rattle.reading.specs.Tokens.{tokensAt}
 use Rattle.verdict.specs.Contents.{bodyTokens, segmentsOf, contents}
-use Rattle.verdict.specs.Stages.{stages, refusalOf}
+use Rattle.verdict.specs.Stages.{refusalOf}
 use Rattle.emission.proofs.Cases.{reading-known}
 use Rattle.machines.specs.Walks.{refuse}
-use Rattle.machines.proofs.Rows.{lowest-if, orElse-none}
 use Rattle.forms.proofs.Normal.{contents-shaped}
 use Rattle.judging.proofs.Judging.{body-ended}
 use Rattle.judging.proofs.Stages.{accepted-opening, accepted-worded}
 use Rattle.tallying.specs.Tally.{tableOf}
 use Rattle.tallying.proofs.Contents.{contents-bytes, contents-table}
-use Rattle.answers.specs.declared.Interchange.{Interchange}
 use Rattle.answers.specs.declared.Listed.the-variants.{Values, Refused}
-use Rattle.answers.specs.Answers.{given, refused, toldListed}
-use Rattle.operations.specs.Judge.{interchangeOf, shortFor, storedIn, unlessRefused}
+use Rattle.answers.specs.Answers.{given, toldListed}
+use Rattle.operations.specs.Judge.{storedIn}
 use Rattle.promises.specs.Promises.{Reads}
-use Rattle.operations.specs.Read.{valueBytes, valueTable, readRefusal, read, readBytes, readTable}
+use Rattle.operations.specs.Read.{valueBytes, valueTable, readRefusal}
+use Rattle.operations.proofs.Answered.{front-stored, read-refused, read-given, read-judged, bytes-short, table-short, read-passes}
 
 -- ---- the value list of an accepted interchange
 
@@ -64,90 +57,38 @@ module _ (s : List ℕ) (a : refusalOf s ≡ none) {c : Characters} {start : ℕ
   pub numbers-needed : {n : ℕ} → n ≡ length (tableOf (tokensAt c s start)) → n ≡ length (valueTable s)
   numbers-needed e = e ∙ sym (ap length table-is)
 
-pub characters-of : (s : List ℕ) {i : Interchange} → i ≡ interchangeOf s → i .characters ≡ charactersOf s
-unfolding interchangeOf
-characters-of s e = ap (λ (x : Interchange). x .characters) e
-
 -- ---- what is answered, and what the buffers hold
-
--- a text stored at the front, and the rest as it was
-front-stored : (buffer : List ℕ) {new text after : List ℕ} → new ≡ text → length new ≤ length buffer → after ≡ sets buffer 0 text → after ≡ storedIn buffer new
-unfolding storedIn
-front-stored buffer {new} w h e =
-    e
-    ∙ ap (sets buffer 0) (sym w)
-    ∙ sets-eq new buffer 0 (omega (arith, zero-add (length new)))
-    ∙ ap (λ (k : ℕ). new ++ drop k buffer) (zero-add (length new))
 
 module _ (buffer table s : List ℕ) where
   -- a refusal answers, and both buffers are unchanged
   refuses : {r : Refusal} → readRefusal buffer table s ≡ some r → Reads buffer table s (Refused r) buffer table
-  unfolding read readBytes readTable toldListed maybe unlessRefused
-  refuses e = (
-    sym (ap (maybe (given (length (valueBytes s) ∷ length (valueTable s) ∷ [])) refused) e),
-    sym (ap (λ (o : Option Refusal). unlessRefused o (storedIn buffer (valueBytes s)) buffer) e),
-    sym (ap (λ (o : Option Refusal). unlessRefused o (storedIn table (valueTable s)) table) e),
-  )
-
-  -- 14 for the byte buffer, and then 14 for the table
-  abbrev shorts : Option Refusal
-  shorts = orElse (lowest (shortFor (valueBytes s) buffer)) (lowest (shortFor (valueTable s) table))
-
-  -- Judge's refusal, then the two of 14
-  by-stages : readRefusal buffer table s ≡ orElse (refusalOf s) shorts
-  unfolding readRefusal refusalOf answering
-  by-stages =
-      answering-append (stages s) (shortFor (valueBytes s) buffer ∷ shortFor (valueTable s) table ∷ [])
-      ∙ ap (λ (o : Option Refusal). orElse (answering (stages s)) (orElse (lowest (shortFor (valueBytes s) buffer)) o))
-      (orElse-none (lowest (shortFor (valueTable s) table)))
+  unfolding toldListed
+  refuses e = let (told, bytes, numbers) = read-refused buffer table s e in (sym told, sym bytes, sym numbers)
 
   pub judge-refuses : {r : Refusal} → refusalOf s ≡ some r → Reads buffer table s (Refused r) buffer table
-  unfolding orElse
-  judge-refuses e = refuses (by-stages ∙ ap (λ (o : Option Refusal). orElse o shorts) e)
+  judge-refuses e = refuses (read-judged buffer table s e)
 
   module _ (a : refusalOf s ≡ none) where
-    -- what answers, by the two lengths
-    by-lengths : {t u : Bool} → ltb (length buffer) (length (valueBytes s)) ≡ t → ltb (length table) (length (valueTable s)) ≡ u
-        → readRefusal buffer table s
-        ≡ orElse (if t then refuse BufferShort (length (valueBytes s)) else none) (if u then refuse BufferShort (length (valueTable s)) else none)
-    unfolding orElse shortFor
-    by-lengths e f =
-        by-stages
-        ∙ ap (λ (o : Option Refusal). orElse o shorts) a
-        ∙ ap₂ orElse
-        (lowest-if BufferShort (ltb (length buffer) (length (valueBytes s))) (length (valueBytes s))
-        ∙ ap (λ (x : Bool). if x then refuse BufferShort (length (valueBytes s)) else none) e)
-        (lowest-if BufferShort (ltb (length table) (length (valueTable s))) (length (valueTable s))
-        ∙ ap (λ (x : Bool). if x then refuse BufferShort (length (valueTable s)) else none) f)
-
     pub bytes-refused : {n : ℕ} → n ≡ length (valueBytes s) → length buffer < n
         → Reads buffer table s (Refused (record { fault = BufferShort; place = n })) buffer table
-    unfolding orElse
-    bytes-refused {n} e h =
-        refuses (by-lengths (lt-ltb (length buffer) (length (valueBytes s)) (omega (arith, e, h))) refl ∙ ap (refuse BufferShort) (sym e))
+    bytes-refused {n} e h = refuses (bytes-short buffer table s a (omega (arith, e, h)) ∙ ap (refuse BufferShort) (sym e))
 
     module _ {n : ℕ} (e : n ≡ length (valueBytes s)) (h : n ≤ length buffer) where
       pub table-refused : {m : ℕ} → m ≡ length (valueTable s) → length table < m
           → Reads buffer table s (Refused (record { fault = BufferShort; place = m })) buffer table
-      unfolding orElse
       table-refused {m} f k =
-          refuses
-          (by-lengths (le-ltb (length buffer) (length (valueBytes s)) (omega (arith, e, h))) (lt-ltb (length table) (length (valueTable s)) (omega (arith, f, k)))
-          ∙ ap (refuse BufferShort) (sym f))
+          refuses (table-short buffer table s a (omega (arith, e, h)) (omega (arith, f, k)) ∙ ap (refuse BufferShort) (sym f))
 
       -- both are stored
       pub list-stored : {m : ℕ} {bytes numbers bytesAfter tableAfter : List ℕ} → m ≡ length (valueTable s) → m ≤ length table
           → valueBytes s ≡ bytes → valueTable s ≡ numbers → bytesAfter ≡ sets buffer 0 bytes → tableAfter ≡ sets table 0 numbers
           → Reads buffer table s (Values n m) bytesAfter tableAfter
-      unfolding read readBytes readTable toldListed maybe unlessRefused orElse
+      unfolding toldListed storedIn
       list-stored {m} f k v w p q =
-          let passed : readRefusal buffer table s ≡ none =
-          by-lengths (le-ltb (length buffer) (length (valueBytes s)) (omega (arith, e, h))) (le-ltb (length table) (length (valueTable s)) (omega (arith, f, k)))
-          in (
-            ap₂ (λ (x y : ℕ). given (x ∷ y ∷ [])) e f
-                ∙ sym (ap (maybe (given (length (valueBytes s) ∷ length (valueTable s) ∷ [])) refused) passed),
-            front-stored buffer v (omega (arith, e, h)) p
-                ∙ sym (ap (λ (o : Option Refusal). unlessRefused o (storedIn buffer (valueBytes s)) buffer) passed),
-            front-stored table w (omega (arith, f, k)) q
-                ∙ sym (ap (λ (o : Option Refusal). unlessRefused o (storedIn table (valueTable s)) table) passed),
+          let fits : length (valueBytes s) ≤ length buffer = omega (arith, e, h) in
+          let room : length (valueTable s) ≤ length table = omega (arith, f, k) in
+          let (told, bytes, numbers) = read-given buffer table s (read-passes buffer table s a fits room) in (
+            ap₂ (λ (x y : ℕ). given (x ∷ y ∷ [])) e f ∙ sym told,
+            p ∙ ap (sets buffer 0) (sym v) ∙ front-stored buffer (valueBytes s) fits ∙ sym bytes,
+            q ∙ ap (sets table 0) (sym w) ∙ front-stored table (valueTable s) room ∙ sym numbers,
           )

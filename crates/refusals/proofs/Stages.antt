@@ -1,7 +1,8 @@
 -- What is met at places, and which stage answers: the first in which anything is met. Assumes nothing.
 use Prim.Native.Nat.{ℕ, _≤_}
 use mathlib.Core.Path.{_≡_, refl, sym, ap, ap₂, subst, _∙_}
-use mathlib.Core.List.{List, [], _∷_, _++_, map, List·Memᴰ, List·Memᴰ·head, List·Memᴰ·tail, List·Memᴰ·not-nil, List·Memᴰ·cases-cons, IsChain, isChain-cons-cons}
+use mathlib.Core.Bool.{Bool, true, false, not, true≢false, false≢true}
+use mathlib.Core.List.{List, [], _∷_, _++_, map, List·Memᴰ, List·Memᴰ·head, List·Memᴰ·tail, List·Memᴰ·not-nil, List·Memᴰ·cases-cons, IsChain, isChain-cons-cons, cons≢nil}
 use mathlib.Core.Option.{Option, none, some, Option·some-ne-none}
 use mathlib.Core.Logic.{⊎-elim, _↔_}
 use native.Mathlib.Omega.{arith}
@@ -9,9 +10,22 @@ use Rattle.lists.proofs.Texts.{if-false}
 use Rattle.refusals.specs.declared.Fault.{Fault}
 use Rattle.refusals.specs.declared.Refusal.{Refusal}
 use Rattle.refusals.specs.declared.Outcome.the-variants.{Passed, Failed}
-use Rattle.refusals.specs.Refusals.{Stage, met, isLower, lowerOf, lowest, orElse, answering, outcome}
+use Rattle.refusals.specs.Refusals.{Stage, met, placeIf, isLower, lowerOf, lowest, orElse, answering, outcome}
 use Rattle.refusals.proofs.Order.{key, not-lower}
 use Rattle.refusals.proofs.Lowest.{lowest-none}
+
+-- ---- what is met
+
+-- a refusal is not met exactly where its test fails
+pub place-none : (t : Bool) (p : ℕ) → (placeIf t p ≡ []) ↔ (t ≡ false)
+unfolding placeIf
+place-none true p = (λ e. absurd (cons≢nil e), λ e. absurd (true≢false e))
+place-none false p = (λ e. refl, λ e. refl)
+
+pub place-none-not : (t : Bool) (p : ℕ) → (placeIf (not t) p ≡ []) ↔ (t ≡ true)
+unfolding placeIf
+place-none-not true p = (λ e. refl, λ e. refl)
+place-none-not false p = (λ e. absurd (cons≢nil e), λ e. absurd (false≢true e))
 
 module _ (f : Fault) where
   pub met-append : (ps qs : List ℕ) → met f (ps ++ qs) ≡ met f ps ++ met f qs

@@ -5,24 +5,16 @@ use mathlib.Core.List.{List, [], _∷_}
 use mathlib.Core.Option.{Option, none}
 use native.Mathlib.Omega.{arith}
 use lib.ListN.{length, drop, replicate, length-append}
-use Rattle.lists.specs.Lists.{maybe}
 use Rattle.refusals.specs.declared.Refusal.{Refusal}
 use Rattle.answers.specs.declared.Listed.{Listed}
 use Rattle.answers.specs.declared.Listed.the-variants.{Values}
 use Rattle.answers.specs.declared.Stored.{Stored}
 use Rattle.answers.specs.declared.Stored.the-variants.{Length}
-use Rattle.answers.specs.Answers.{Answer, given, refused, toldListed, toldStored}
+use Rattle.answers.specs.Answers.{toldListed, toldStored}
 use Rattle.operations.specs.Judge.{storedIn, unlessRefused}
 use Rattle.operations.specs.Read.{valueBytes, valueTable, readRefusal, read, readBytes, readTable}
 use Rattle.operations.specs.Write.{writtenText, writeRefusal, write, writeOutput}
-use Rattle.trips.proofs.Numbers.{unrefused}
-
--- an answer that gives values was not refused, and they are those to be given
-told : (values said : List ℕ) (o : Option Refusal) → given said ≡ maybe (given values) refused o → (o ≡ none) × (said ≡ values)
-unfolding given maybe
-told values said o e =
-    let h = unrefused values o (sym (ap (λ (a : Answer). a .number) e)) in
-    (h, ap (λ (a : Answer). a .values) (e ∙ ap (maybe (given values) refused) h))
+use Rattle.promises.proofs.Told.{given-is}
 
 -- what is stored where nothing is refused is no longer than the buffer then is
 fits : (new buffer other : List ℕ) {after : List ℕ} {o : Option Refusal} {n : ℕ} → after ≡ unlessRefused o (storedIn buffer new) other → o ≡ none
@@ -36,7 +28,7 @@ fits new buffer other e h k =
 module _ (buffer table s : List ℕ) {r : Listed} {n m : ℕ} (says : toldListed r ≡ read buffer table s) (is : r ≡ Values n m) where
   given-values : (readRefusal buffer table s ≡ none) × (n ∷ m ∷ [] ≡ length (valueBytes s) ∷ length (valueTable s) ∷ [])
   unfolding read toldListed
-  given-values = told (length (valueBytes s) ∷ length (valueTable s) ∷ []) (n ∷ m ∷ []) (readRefusal buffer table s) (sym (ap toldListed is) ∙ says)
+  given-values = given-is (length (valueBytes s) ∷ length (valueTable s) ∷ []) (n ∷ m ∷ []) (readRefusal buffer table s) (sym (ap toldListed is) ∙ says)
 
   pub bytes-within : {after : List ℕ} → after ≡ readBytes buffer table s → n ≤ length after
   unfolding readBytes
@@ -55,6 +47,6 @@ module _ (service bytes table output : List ℕ) {r : Stored} {n : ℕ} (says : 
   unfolding write writeOutput toldStored
   text-within e =
       let text : List ℕ = writtenText service bytes table in
-      let found = told (length text ∷ []) (n ∷ []) (writeRefusal service bytes table output) (sym (ap toldStored is) ∙ says) in
+      let found = given-is (length text ∷ []) (n ∷ []) (writeRefusal service bytes table output) (sym (ap toldStored is) ∙ says) in
       let same = found .1 in
       fits text output (replicate (length output) 0) e (found .0) (cc)

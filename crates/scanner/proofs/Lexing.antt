@@ -15,8 +15,8 @@ use Rattle.characters.specs.declared.Characters.{Characters}
 use Rattle.characters.specs.declared.Role.{Role}
 use Rattle.characters.specs.declared.Role.the-variants as role
 use Rattle.characters.specs.Characters.{role as roleIn, released}
-use Rattle.reading.specs.Tokens.{Token, byte, separator, fault}
-use Rattle.reading.proofs.Steps.{tokensAt, at-end, at-plain, at-separator, at-last-release, at-stray-release, at-released-release, at-released-separator}
+use Rattle.reading.specs.Tokens.{Token, byte, separator, fault, tokensAt}
+use Rattle.reading.proofs.Steps.{at-end, at-plain, at-separator, at-last-release, at-stray-release, at-released-release, at-released-separator}
 use Rattle.scanner.specs.declared.Lexed.{Lexed}
 use Rattle.scanner.specs.declared.Lexed.the-variants.{Byte, Separator, Stray, End}
 use Rattle.scanner.specs.Scanner.{lexTaken, lexRole, lexAt}

@@ -4,11 +4,11 @@ use mathlib.Core.Path.{_≡_, refl, sym, ap, _∙_}
 use mathlib.Core.List.{List, [], _∷_}
 use native.Mathlib.Omega.{arith}
 use lib.ListN.{length}
-use Rattle.lists.specs.Lists.{through, cut}
-use Rattle.lists.proofs.Pieces.{beyond, cut-first}
+use Rattle.lists.specs.Lists.{through, cut, beyond}
+use Rattle.lists.proofs.Pieces.{cut-first}
 use Rattle.characters.specs.declared.Characters.{Characters}
-use Rattle.reading.specs.Tokens.{Token, byte, separator, fault, ends, placeOf, Segment, segments, start}
-use Rattle.reading.proofs.Steps.{tokensAt, at-end}
+use Rattle.reading.specs.Tokens.{Token, byte, separator, fault, ends, placeOf, segments, start, tokensAt}
+use Rattle.reading.proofs.Steps.{at-end}
 use Rattle.scanner.specs.declared.Lexed.{Lexed}
 use Rattle.scanner.specs.declared.Lexed.the-variants.{Byte, Separator, Stray, End}
 use Rattle.scanner.specs.Scanner.{lexAt}

@@ -5,11 +5,9 @@ use mathlib.Core.List.{List, [], _∷_}
 use mathlib.Core.Bool.{Bool}
 use lib.ListN.{length}
 use lib.Dec.{leb}
-use Rattle.lists.specs.Lists.{if_then_else_, through}
-use Rattle.lists.specs.Lists.{beyond}
+use Rattle.lists.specs.Lists.{if_then_else_, through, beyond}
 use Rattle.characters.specs.declared.Characters.{Characters}
-use Rattle.reading.specs.Tokens.{Token, byte, separator, fault, Segment, ends}
-use Rattle.reading.specs.Tokens.{tokensAt}
+use Rattle.reading.specs.Tokens.{Token, byte, separator, fault, Segment, ends, tokensAt}
 use Rattle.scanner.specs.declared.Scanned.{Scanned}
 use Rattle.scanner.specs.declared.Scanned.the-variants.{Ended, Stray, Unended}
 

@@ -6,14 +6,14 @@ use mathlib.Core.List.{List, [], _∷_, _++_}
 use native.Mathlib.Omega.{arith}
 use lib.ListN.{length}
 use borrow.Author.Tests.{lt-leb}
-use Rattle.lists.specs.Lists.{through, gather, lastOr}
+use Rattle.lists.specs.Lists.{through, gather, lastOr, beyond}
 use Rattle.lists.proofs.Texts.{if-true, if-false}
-use Rattle.lists.proofs.Pieces.{beyond, beyond-hit, beyond-miss}
+use Rattle.lists.proofs.Pieces.{beyond-hit, beyond-miss}
 use Rattle.characters.specs.declared.Characters.{Characters}
-use Rattle.reading.specs.Tokens.{Token, ends}
+use Rattle.reading.specs.Tokens.{Token, ends, tokensAt}
 use Rattle.reading.specs.Values.{byteOf, bytesOf, endedBy}
 use Rattle.reading.proofs.Ends.{ended-behind}
-use Rattle.reading.proofs.Steps.{tokensAt, ends-yes}
+use Rattle.reading.proofs.Steps.{ends-yes}
 use Rattle.scanner.specs.declared.Lexed.the-variants.{Byte, Separator, Stray, End}
 use Rattle.scanner.proofs.Lexing.{Lexes}
 use Rattle.tagging.specs.declared.Word.{Word}

@@ -10,9 +10,8 @@ use borrow.Author.Tests.{ne-eqb}
 use Rattle.lists.specs.Lists.{text}
 use Rattle.lists.proofs.Texts.{same-length}
 use Rattle.characters.specs.declared.Characters.{Characters}
-use Rattle.reading.specs.Tokens.{Token}
+use Rattle.reading.specs.Tokens.{Token, tokensAt}
 use Rattle.reading.specs.Values.{bytesOf, endedBy}
-use Rattle.reading.specs.Tokens.{tokensAt}
 use Rattle.reading.proofs.Ends.{through-ends}
 use Rattle.segments.specs.declared.Kind.the-variants.{User}
 use Rattle.segments.specs.Kinds.{kindNamed}

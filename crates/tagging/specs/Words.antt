@@ -6,9 +6,8 @@ use lib.ListN.{length}
 use lib.Dec.{leb}
 use Rattle.lists.specs.Lists.{through}
 use Rattle.characters.specs.declared.Characters.{Characters}
-use Rattle.reading.specs.Tokens.{Token, ends}
+use Rattle.reading.specs.Tokens.{Token, ends, tokensAt}
 use Rattle.reading.specs.Values.{bytesOf, endedBy}
-use Rattle.reading.specs.Tokens.{tokensAt}
 use Rattle.scanner.specs.Scan.{Skips}
 use Rattle.tagging.specs.declared.Word.{Word}
 

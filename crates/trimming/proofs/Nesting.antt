@@ -10,7 +10,7 @@ use native.Mathlib.Omega.{arith}
 use Rattle.lists.specs.Lists.{isEmpty, all, cut, gather}
 use Rattle.lists.proofs.Texts.{and-left, and-right}
 use Rattle.reading.specs.Spelling.{Bytes, SegmentList}
-use Rattle.operations.specs.ValueList.{Item, listElement, listSegment, listOf, closed, closes, segmentsListed}
+use Rattle.operations.specs.ValueList.{Item, listElement, listSegment, listOf, closed, closes, elementsListed, segmentsListed}
 use Rattle.spelling.specs.Bodies.{shapedSegment, Shaped}
 use Rattle.spelling.proofs.Listing.{pushed, cut-pushed}
 use Rattle.trimming.specs.Kinds.{firstKind, kindsUpTo2, Kinds}
@@ -24,18 +24,15 @@ item kind value = record { kind = kind; value = value }
 abbrev put : ℕ → Bytes → SegmentList → SegmentList
 put next v list = pushed (leb next 0) (pushed (leb next 1) (λ element. v ∷ element)) list
 
--- the elements of a segment, and the segments, of values that are known by what ends them
-abbrev elementsCut : List Item → List (List Bytes)
-elementsCut items = map (map (λ l. l .value)) (cut (closes 1) items)
-
+-- the segments of values that are known by what ends them
 abbrev segmentsCut : List Item → SegmentList
-segmentsCut items = map elementsCut (cut (closes 0) items)
+segmentsCut items = map elementsListed (cut (closes 0) items)
 
 cut-next : (l : Item) (ls : List Item) → segmentsCut (l ∷ ls) ≡ put (l .kind) (l .value) (segmentsCut ls)
 unfolding closes cut
 cut-next l ls =
     let toElement : List Bytes → List Bytes = λ element. l .value ∷ element in
-    cut-pushed (closes 0) (pushed (closes 1 l) toElement) l ls elementsCut refl
+    cut-pushed (closes 0) (pushed (closes 1 l) toElement) l ls elementsListed refl
     (λ piece. cut-pushed (closes 1) toElement l piece (map (λ m. m .value)) refl (λ values. refl))
 
 segments-next : (l : Item) (ls : List Item) → segmentsListed (l ∷ ls) ≡ put (firstKind ls) (l .value) (segmentsListed ls)

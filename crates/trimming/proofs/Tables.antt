@@ -2,12 +2,12 @@
 use Prim.Native.Nat.{ℕ, suc, _+_, _*_, _%_, _≤_}
 use mathlib.Core.Path.{_≡_, refl, sym, ap, ap₂, _∙_}
 use mathlib.Core.Bool.{Bool, true, false, not, _||_}
-use mathlib.Core.List.{List, [], _∷_, _++_, append-assoc}
+use mathlib.Core.List.{List, [], _∷_, _++_, map, append-assoc}
 use lib.ListN.{length, take, length-append}
 use lib.Seq.{take-append-seam, drop-append-seam}
 use lib.Dec.{leb, eqb}
 use native.Mathlib.Omega.{arith}
-use borrow.Author.Tests.{leb-true, le-ltb, eq-eqb}
+use borrow.Author.Tests.{leb-true, le-ltb, eq-eqb, eqb-true, not-false}
 use Rattle.lists.specs.Lists.{all, gather, at, maybe}
 use Rattle.lists.proofs.Texts.{and-left, and-right}
 use Rattle.refusals.specs.Refusals.{placeIf}
@@ -32,6 +32,13 @@ listed-from front (l ∷ ls) =
     (sym (append-assoc front (l .value) (listBytes ls)))
     (sym (length-append front (l .value)))
     ∙ listed-from (front ++ l .value) ls)
+
+-- the first kind of a list whose table begins with kind 0, or has nothing
+pub first-listed : (bytes : Bytes) (es : List Entry) → maybe false (λ e. not (eqb (e .kind) 0)) (at es 0) ≡ false
+    → firstKind (map (λ e. record { kind = e .kind; value = valueIn bytes e }) es) ≡ 0
+unfolding firstKind maybe at
+first-listed bytes [] h = refl
+first-listed bytes (e ∷ es) h = eqb-true (e .kind) 0 (not-false (eqb (e .kind) 0) h)
 
 pub listed-table : (items : List Item) → listedIn (listBytes items) (listTable items) ≡ items
 unfolding listTable

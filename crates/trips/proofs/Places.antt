@@ -19,6 +19,7 @@ use Rattle.reading.specs.Tokens.{Token, byte, separator, unreleased, releasing,
 use Rattle.reading.specs.Values.{byteOf, bytesOf, endPlace, valueOf, valuesOf, elementsOf}
 use Rattle.reading.specs.Trimming.{trimmed}
 use Rattle.reading.specs.Spelling.{Bytes, SegmentList, spellByte, spellValue}
+use Rattle.reading.proofs.Steps.{tokens-role}
 use Rattle.spelling.proofs.Service.{serves, service-serves, role-terminator, role-element, role-component, role-release}
 use Rattle.spelling.proofs.Grammar.{Spellable, Spells, nothing, segmentEnd, elementEnd, componentEnd, valueByte}
 use Rattle.trips.specs.Trips.{Named}
@@ -27,25 +28,19 @@ use Rattle.trips.proofs.Positions.{Every, every-none, every-cons, every
 -- ---- the token of a value's byte
 
 module _ (c : Characters) (u : usable c ≡ true) where
-  -- the tokens from an unreleased byte on, by the part that it plays
-  role-tokens : (p b : ℕ) (rest : Bytes) (o : Role) → role c b ≡ o
-      → tokens c p (b ∷ rest) ≡ unreleased o b p (tokensFrom c (releasing o p) (p + 1) rest)
-  unfolding tokens tokensFrom
-  role-tokens p b rest o r = ap (λ (o : Role). unreleased o b p (tokensFrom c (releasing o p) (p + 1) rest)) r
-
   -- the token of a value's byte that is spelled so
   abbrev ByteToken : ℕ → ℕ → Bytes → Bytes → Type 0
   ByteToken p b spelling rest = (place : ℕ) × (tokens c p (spelling ++ rest) ≡ byte b p place ∷ tokens c (p + length spelling) rest)
 
   plain-token : (p b : ℕ) (rest : Bytes) → role c b ≡ Plain → ByteToken p b (b ∷ []) rest
   unfolding tokens unreleased releasing
-  plain-token p b rest r = (p, role-tokens p b rest Plain r)
+  plain-token p b rest r = (p, tokens-role c p b rest Plain r)
 
   released-token : (p b : ℕ) (rest : Bytes) → released c ≡ true → serves (role c b) ≡ true → ByteToken p b (c .release ∷ b ∷ []) rest
   unfolding tokens tokensFrom unreleased releasing taken
   released-token p b rest r h = (
     p + 1,
-    role-tokens p (c .release) (b ∷ rest) Release (role-release c u r)
+    tokens-role c p (c .release) (b ∷ rest) Release (role-release c u r)
         ∙ behind (role c b) h
         ∙ ap (λ (n : ℕ). byte b p (p + 1) ∷ tokensFrom c none n rest) (omega arith),
   )
@@ -222,13 +217,13 @@ module _ (c : Characters) (u : usable c ≡ true) (s : List ℕ) where
   separator-row : (p k b : ℕ) (rest : Bytes) → role c b ≡ Separator k → leb k 2 ≡ true → Row c u s 0 (p + 1) (tokens c (p + 1) rest)
       → Row c u s 0 p (tokens c p (b ∷ rest))
   unfolding tokens unreleased releasing
-  separator-row p k b rest r h row = rw (role-tokens c u p b rest (Separator k) r) (separated h row)
+  separator-row p k b rest r h row = rw (tokens-role c p b rest (Separator k) r) (separated h row)
 
   terminator-row : (p : ℕ) (rest : Bytes) (list : SegmentList) → Standing (p + 1) list (tokens c (p + 1) rest)
       → Row c u s 0 p (tokens c p (c .terminator ∷ rest))
   unfolding tokens unreleased releasing
   terminator-row p rest [] e =
-      rw (role-tokens c u p (c .terminator) rest (Separator 0) (role-terminator c u), e) (last refl)
+      rw (tokens-role c p (c .terminator) rest (Separator 0) (role-terminator c u), e) (last refl)
   terminator-row p rest (g ∷ list) row = separator-row p 0 (c .terminator) rest (role-terminator c u) refl row
 
   spells-standing : {body : Bytes} {list : SegmentList} → Spells c body list → (p : ℕ) → drop p s ≡ body

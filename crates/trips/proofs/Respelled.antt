@@ -3,38 +3,33 @@
 use Prim.Native.Nat.{ℕ, _≤_}
 use mathlib.Core.Path.{_≡_, refl, sym, ap, ap₂, subst, _∙_}
 use mathlib.Core.Bool.{Bool, true, false, not, _&&_, _||_, false≢true, true≢false}
-use mathlib.Core.List.{List, [], _∷_, _++_, reverse, append-assoc, cons≢nil}
-use mathlib.Core.Option.{Option, none, some}
+use mathlib.Core.List.{List, [], _∷_, _++_, append-assoc}
+use mathlib.Core.Option.{none}
 use lib.ListN.{length}
 use lib.Dec.{eqb, ltb}
 use borrow.Author.Tests.{le-ltb, eqb-true, eq-eqb, ne-eqb, not-true}
-use Rattle.lists.specs.Lists.{if_then_else_, text, begins, member, all, allDiffer, at, maybe, gather, joined, behind}
+use Rattle.lists.specs.Lists.{if_then_else_, text, begins, member, all, allDiffer, at, gather, joined, behind}
 use Rattle.lists.proofs.Texts.{and-left, and-right, and-both, if-false}
 use Rattle.characters.specs.declared.Characters.{Characters}
 use Rattle.characters.specs.Characters.{between, upper, lower, digit, space, separates, released, serviceCharacters, isService, usable, sixBytes, adviceOf, spelledOut, bodyStart, badAdvice, opens}
-use Rattle.reading.specs.Tokens.{Segment, start}
 use Rattle.reading.specs.Spelling.{Bytes, SegmentList, spellByte, spellValue, spellElement, spellSegment, spell}
-use Rattle.levels.specs.Levels.{levelOf}
-use Rattle.segments.specs.declared.Kind.{Kind}
-use Rattle.segments.specs.Order.{isComplete}
 use Rattle.control.specs.Control.{referenceDiffers, countWrong}
-use Rattle.verdict.specs.Contents.{bodyTokens, segmentsOf, contents, kindsOf, normalCharacters, interchange, normalForm}
-use Rattle.verdict.specs.Places.{isOver, startsWhere, tooLong, unusableAdvice, noOpening, brokenTags, foreignLevel, level, misplacedSegments, badControls, differingReferences, wrongCounts, normalTooLong}
+use Rattle.verdict.specs.Contents.{bodyTokens, segmentsOf, contents, normalCharacters, interchange, normalForm}
+use Rattle.verdict.specs.Places.{isOver, tooLong, unusableAdvice, noOpening, brokenTags, level, badControls, differingReferences, wrongCounts, normalTooLong, badControl}
 use Rattle.verdict.specs.Stages.{refusalOf}
 use Rattle.operations.specs.ValueList.{trimList}
 use Rattle.spelling.specs.Bodies.{listed, readList, Passes, Releasable}
 use Rattle.spelling.proofs.Grammar.{Spells, nothing, segmentEnd, elementEnd, componentEnd, valueByte, spells-list}
-use Rattle.grammar.specs.Grammar.{misplaced, badControl}
 use Rattle.forms.specs.Forms.{markOf, formCharacters, BodyPasses, listOf}
-use Rattle.forms.proofs.Tests.{place-none, place-none-not}
+use Rattle.refusals.proofs.Stages.{place-none, place-none-not}
 use Rattle.forms.proofs.Trimmed.{contents-read, contents-trimmed}
 use Rattle.forms.proofs.Openings.{advice-characters, advice-body, advice-good, interchange-passes, interchange-read, interchange-contents}
-use Rattle.forms.proofs.Accepted.{Accepted, accepted-exactly, passes-accepted, order-accepted}
+use Rattle.forms.proofs.Accepted.{Accepted, accepted-exactly, passes-accepted}
 use Rattle.forms.proofs.Normal.{contents-shaped, normal-releasable, normal-read, normal-passes}
 use Rattle.forms.proofs.Tags.{tags-words, all-finished}
-use Rattle.forms.proofs.Alike.{Alike, ByContents, first-alike, level-alike, kinds-alike, starts-alike, order-by-contents, controls-by-contents, references-by-contents, counts-by-contents}
+use Rattle.forms.proofs.Alike.{Alike, controls-by-contents, references-by-contents, counts-by-contents}
 use Rattle.forms.proofs.LevelBytes.{level-bytes}
-use Rattle.forms.proofs.Accepting.{normal-accepted}
+use Rattle.forms.proofs.Accepting.{same-level, same-named, same-starts, same-order, normal-accepted}
 
 -- ---- the opening
 
@@ -117,39 +112,6 @@ module _ (n t : List ℕ) (nowhere : Accepted n) (passes : BodyPasses n) (passes
   unfolding contents
   alike = contents-read n ∙ ap trimList (sym same) ∙ sym (contents-read t)
 
-  -- a test that goes by contents and refuses no segment of the one refuses none of the other
-  same-starts : (fails : List Segment → Segment → Bool) → ByContents fails → startsWhere fails [] (segmentsOf n) ≡ []
-      → startsWhere fails [] (segmentsOf t) ≡ []
-  same-starts fails by = starts-alike fails by [] [] (segmentsOf n) (segmentsOf t) refl alike
-
-  -- they name the same level, and the one names one where the other does
-  same-level : (level n ≡ level t) × (foreignLevel n ≡ [] → foreignLevel t ≡ [])
-  unfolding level foreignLevel maybe
-  same-level =
-      let named : Option Segment → ℕ = maybe 0 (λ unb. maybe 0 (λ n. n) (levelOf unb)) in
-      let foreign : Option Segment → List ℕ = maybe [] (λ unb. maybe (start unb ∷ []) (λ n. []) (levelOf unb)) in
-      first-alike (λ o q. (named o ≡ named q) × (foreign o ≡ [] → foreign q ≡ [])) (refl, λ k. k)
-      (λ g h e. (
-        ap (maybe 0 (λ n. n)) (level-alike g h e),
-        λ k. rw (← level-alike g h e) (known (levelOf g) (start g) (start h) k),
-      ))
-      (segmentsOf n)
-      (segmentsOf t)
-      alike
-    where
-      known : (o : Option ℕ) (p q : ℕ) → maybe (p ∷ []) (λ n. []) o ≡ [] → maybe (q ∷ []) (λ n. []) o ≡ []
-      known none p q h = absurd (cons≢nil h)
-      known (some m) p q h = refl
-
-  same-order : misplacedSegments t ≡ []
-  unfolding kindsOf
-  same-order =
-      let order = order-accepted n .0 (nowhere .order) in
-      order-accepted t .1 (
-        same-starts misplaced order-by-contents (order .0),
-        ap (λ (kinds : List Kind). isComplete (reverse kinds)) (sym (kinds-alike (segmentsOf n) (segmentsOf t) alike)) ∙ order .1,
-      )
-
   -- 4 to 12 are not met in the other either
   same-nowhere : tooLong t ≡ [] → unusableAdvice t ≡ [] → noOpening t ≡ [] → normalTooLong t ≡ [] → Accepted t
   unfolding brokenTags badControls differingReferences wrongCounts segmentsOf bodyTokens readList listed Passes
@@ -164,12 +126,12 @@ module _ (n t : List ℕ) (nowhere : Accepted n) (passes : BodyPasses n) (passes
         tags =
             tags-words [] (segmentsOf t) (all-finished (bodyTokens t) passes′) .1
             (rw same (tags-words [] (segmentsOf n) (all-finished (bodyTokens n) passes) .0 (nowhere .tags)));
-        level = same-level .1 (nowhere .level);
-        bytes = level-bytes t .1 (rw (same, ← same-level .0) (level-bytes n .0 (nowhere .bytes)));
-        order = same-order;
-        controls = same-starts badControl controls-by-contents (nowhere .controls);
-        references = same-starts referenceDiffers references-by-contents (nowhere .references);
-        counts = same-starts countWrong counts-by-contents (nowhere .counts);
+        level = same-named n t alike (nowhere .level);
+        bytes = level-bytes t .1 (rw (same, ← same-level n t alike) (level-bytes n .0 (nowhere .bytes)));
+        order = same-order n t alike (nowhere .order);
+        controls = same-starts n t alike badControl controls-by-contents (nowhere .controls);
+        references = same-starts n t alike referenceDiffers references-by-contents (nowhere .references);
+        counts = same-starts n t alike countWrong counts-by-contents (nowhere .counts);
         normal = normal;
       }
 

@@ -14,13 +14,12 @@ use Rattle.reading.specs.Trimming.{trimmed, contentsOf}
 use Rattle.reading.specs.Spelling.{SegmentList, spellValue}
 use Rattle.verdict.specs.Contents.{bodyTokens, segmentsOf, contents, interchange}
 use Rattle.verdict.specs.Stages.{refusalOf}
-use Rattle.answers.specs.Answers.{refused, accepted}
-use Rattle.operations.specs.Judge.{interchangeOf, judge}
 use Rattle.operations.specs.Compare.{areSame, compare}
 use Rattle.operations.specs.Read.{valueBytes, valueTable, readRefusal, read}
 use Rattle.operations.specs.ValueList.{listOf, listBytes, listTable, listedIn, segmentsListed, trimList}
 use Rattle.operations.specs.Locate.{located, partOffset, partLength, part}
 use Rattle.operations.specs.Write.{writtenText, writeRefusal, write}
+use Rattle.operations.proofs.Answered.{judge-by, read-given, read-passes}
 use Rattle.spelling.specs.Bodies.{Releasable}
 use Rattle.trimming.proofs.Nesting.{listOf-listed}
 use Rattle.spelling.proofs.Parsing.{passes-spells}
@@ -28,17 +27,12 @@ use Rattle.forms.proofs.Normal.{accepted-usable, accepted-passes}
 use Rattle.forms.proofs.Theorems.{same-exactly}
 use Rattle.trips.specs.Trips.{listGiven, standingAt, WrittenBack, Rewritable, ReadBack, Named, Placed}
 use Rattle.trips.proofs.Values.{kinds-sound}
-use Rattle.trips.proofs.Written.{write-passed, text-accepted, text-contents, text-characters, text-stored, list-read, list-sound, list-releasable, list-text, six-usable, short-enough, later-none, read-accepted, read-passes, read-given, bytes-stand, table-stands}
+use Rattle.trips.proofs.Written.{write-passed, text-accepted, text-contents, text-characters, text-stored, list-read, list-sound, list-releasable, list-text, six-usable, short-enough, later-none, read-accepted, bytes-stand, table-stands}
 use Rattle.trips.proofs.Positions.{standing-map, every-standing}
 use Rattle.trips.proofs.Places.{named-body}
 use Rattle.trips.proofs.Placed.{standing-placed}
 use Rattle.trips.proofs.Respelled.{respelled-accepted}
 use Rattle.trips.proofs.Numbers.{unrefused}
-
--- Judge says of an accepted input what is to be said of it.
-judge-accepted : (s : List ℕ) → refusalOf s ≡ none → judge s ≡ accepted (interchangeOf s)
-unfolding judge maybe
-judge-accepted s h = ap (maybe (accepted (interchangeOf s)) refused) h
 
 -- ---- Write, then Read
 
@@ -73,7 +67,7 @@ written-back service bytes table output n =
     let passes = written-accepted service bytes table output h in
     record {
       stored = text-stored service bytes table output h;
-      accepts = judge-accepted text passes;
+      accepts = judge-by text none passes;
       characters = text-characters service bytes table output;
       same-contents = back;
       bytes-back = ap (λ (list : SegmentList). listBytes (listOf list)) back;
@@ -150,7 +144,7 @@ read-back s buffer numbers service output n m =
       bytes-stored = bytes-stand buffer numbers s r;
       table-stored = table-stands buffer numbers s r;
       spelled = rewritten-text s service h;
-      accepts = judge-accepted text k;
+      accepts = judge-by text none k;
       same-contents = back;
       same = λ mark.
           let c : charactersOf text ≡ sixBytes service = text-characters service bytes table output in

@@ -3,17 +3,18 @@
 use Prim.Native.Nat.{ℕ, suc, _+_, _%_, _≤_}
 use mathlib.Core.Path.{_≡_, refl, sym, ap, ap₂, fun-ext, _∙_}
 use mathlib.Core.Bool.{Bool, true, false, not, _&&_, _||_}
-use mathlib.Core.List.{List, [], _∷_, map, append-eq-nil-iff}
+use mathlib.Core.List.{List, [], _∷_, append-eq-nil-iff}
 use mathlib.Core.Logic.{_↔_, ⊎-elim}
 use native.Mathlib.Omega.{arith}
 use lib.ListN.{length, length-append}
 use lib.Dec.{eqb, ltb, leb}
-use borrow.Author.Tests.{ltb-false, le-leb, eqb-true, not-true, not-false}
+use borrow.Author.Tests.{ltb-false, le-leb, not-true}
 use Rattle.lists.specs.Lists.{all, any, gather, at, maybe}
-use Rattle.lists.proofs.Texts.{and-both, or-none-left, or-none-right, decided, all-append}
+use Rattle.lists.proofs.Texts.{and-both, or-none-left, or-none-right, decided, all-append, all-mapped, all-map}
 use Rattle.characters.specs.declared.Characters.{Characters}
 use Rattle.characters.specs.Characters.{sixBytes, released, isService}
 use Rattle.refusals.specs.Refusals.{placeIf}
+use Rattle.refusals.proofs.Stages.{place-none}
 use Rattle.reading.specs.Spelling.{Bytes, SegmentList, spellByte}
 use Rattle.operations.specs.ValueList.{Item, listElement, listSegment, listOf, Entry, entries, valueIn, listedIn, segmentsListed}
 use Rattle.operations.specs.Write.{numbersWhere, badTable, badEntry, badList, lacksRelease, needsRelease}
@@ -21,16 +22,12 @@ use Rattle.spelling.specs.Bodies.{Releasable}
 use Rattle.spelling.proofs.Grammar.{Spells, nothing, segmentEnd, elementEnd, componentEnd, valueByte}
 use Rattle.trimming.specs.Kinds.{firstKind, kindsUpTo2, Kinds}
 use Rattle.trimming.proofs.Nesting.{listOf-listed}
-use Rattle.forms.proofs.Tests.{all-map, none-both, place-none}
+use Rattle.trimming.proofs.Tables.{first-listed}
+use Rattle.forms.proofs.Tests.{none-both}
 
 -- ---- what holds of every value
 
--- a test of all that a map gives, or of all that is gathered, is a test of all
-all-mapped : {A B : Type 0} (f : A → B) (t : B → Bool) (xs : List A) → all t (map f xs) ≡ all (λ x. t (f x)) xs
-unfolding all
-all-mapped f t [] = refl
-all-mapped f t (x ∷ xs) = ap (λ (b : Bool). t (f x) && b) (all-mapped f t xs)
-
+-- a test of all that is gathered is a test of all
 all-gathered : {A B : Type 0} (f : A → List B) (t : B → Bool) (q : A → Bool) → ((x : A) → all t (f x) ≡ q x) → (xs : List A)
     → all t (gather f xs) ≡ all q xs
 unfolding all gather
@@ -82,7 +79,7 @@ module _ (bytes table : List ℕ) where
       let over : Bool = ltb 96000 (length table) || not (eqb (length table % 3) 0) in
       let late : Bool = maybe false (λ e. not (eqb (e .kind) 0)) (at (entries table) 0) in
       record {
-        first = begins (entries table) (or-none-right over late (place-none (badTable table) 0 .0 (parts .0)));
+        first = first-listed bytes (entries table) (or-none-right over late (place-none (badTable table) 0 .0 (parts .0)));
         highest =
             all-map (λ e. record { kind = e .kind; value = valueIn bytes e }) (λ e. not (badEntry bytes e)) (λ l. leb (l .kind) 2)
             low
@@ -90,11 +87,6 @@ module _ (bytes table : List ℕ) where
             (numbers-none (badEntry bytes) 0 (entries table) .0 (parts .1));
       }
     where
-      begins : (es : List Entry) → maybe false (λ e. not (eqb (e .kind) 0)) (at es 0) ≡ false
-          → firstKind (map (λ e. record { kind = e .kind; value = valueIn bytes e }) es) ≡ 0
-      begins [] k = refl
-      begins (e ∷ es) k = eqb-true (e .kind) 0 (not-false (eqb (e .kind) 0) k)
-
       low : (e : Entry) → not (badEntry bytes e) ≡ true → leb (e .kind) 2 ≡ true
       low e k =
           let high : Bool = ltb 2 (e .kind) in

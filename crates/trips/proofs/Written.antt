@@ -1,6 +1,6 @@
 -- What a Write that is not refused has passed, and what of it holds for the value list of an accepted input. Assumes nothing.
 use Prim.Native.Nat.{ℕ, _≤_}
-use mathlib.Core.Path.{_≡_, refl, sym, ap, ap₂, subst, _∙_}
+use mathlib.Core.Path.{_≡_, sym, ap, ap₂, subst, _∙_}
 use mathlib.Core.Bool.{Bool, true, _&&_}
 use mathlib.Core.List.{List, [], _∷_, _++_}
 use mathlib.Core.Option.{Option, none, some}
@@ -18,16 +18,18 @@ use Rattle.refusals.specs.declared.Fault.the-variants.{TooLong, UnusableAdvice,
 use Rattle.refusals.specs.declared.Refusal.{Refusal}
 use Rattle.refusals.specs.Refusals.{Stage, met, placeIf, lowest, orElse, answering}
 use Rattle.refusals.proofs.Lowest.{lowest-none}
-use Rattle.refusals.proofs.Stages.{met-none, answering-append, orElse-neither}
+use Rattle.refusals.proofs.Stages.{met-none, orElse-neither, answering-append, place-none, place-none-not}
 use Rattle.reading.specs.Spelling.{SegmentList, spell}
 use Rattle.verdict.specs.Contents.{contents, interchange, normalCharacters, normalForm}
-use Rattle.verdict.specs.Places.{isOver, tooLong, unusableAdvice, normalTooLong}
+use Rattle.verdict.specs.Places.{tooLong, unusableAdvice, normalTooLong}
 use Rattle.verdict.specs.Stages.{laterStages, stages, refusalOf}
+use Rattle.verdict.proofs.Over.{within}
 use Rattle.answers.specs.Answers.{given, refused}
 use Rattle.operations.specs.Judge.{shortFor, storedIn, unlessRefused}
-use Rattle.operations.specs.Read.{valueBytes, valueTable, readRefusal, read, readBytes, readTable}
+use Rattle.operations.specs.Read.{valueBytes, valueTable, readRefusal, readBytes, readTable}
 use Rattle.operations.specs.ValueList.{Item, listOf, listBytes, listTable, listedIn, segmentsListed, trimList}
 use Rattle.operations.specs.Write.{badList, unusableBytes, needsRelease, writtenText, writeRefusal, write, writeOutput}
+use Rattle.operations.proofs.Answered.{read-given}
 use Rattle.spelling.specs.Bodies.{Shaped, Releasable}
 use Rattle.spelling.proofs.Grammar.{spells-list}
 use Rattle.trimming.specs.Kinds.{Kinds}
@@ -35,7 +37,6 @@ use Rattle.trimming.proofs.Nesting.{shaped-listed, kinds-listOf}
 use Rattle.trimming.proofs.Again.{trimList-again, trimList-shaped}
 use Rattle.trimming.proofs.Tables.{listed-table, segments-table, listOf-sound}
 use Rattle.forms.specs.Forms.{markOf}
-use Rattle.forms.proofs.Tests.{place-none, place-none-not}
 use Rattle.forms.proofs.Trimmed.{contents-trimmed, trim-releasable}
 use Rattle.forms.proofs.Openings.{advice-characters, advice-good, interchange-contents}
 use Rattle.forms.proofs.Accepted.{accepted-exactly}
@@ -88,10 +89,8 @@ six-usable service =
 
 -- 1 is not met exactly by 32,000 bytes or fewer
 pub short-enough : (s : List ℕ) → (tooLong s ≡ []) ↔ (length s ≤ 32000)
-unfolding tooLong isOver
-short-enough s =
-    let test = place-none (ltb 32000 (length s)) 0 in
-    (λ h. ltb-false 32000 (length s) (test .0 h), λ h. test .1 (le-ltb 32000 (length s) h))
+unfolding tooLong
+short-enough s = within s 0
 
 -- ---- Write
 
@@ -225,14 +224,13 @@ module _ (s : List ℕ) (accepted : refusalOf s ≡ none) where
 
   -- it has at most 32,000 values, since the normal form has a separator for each
   values-few : length (listOf (contents s)) ≤ 32000
-  unfolding normalTooLong isOver normalForm interchange
+  unfolding normalTooLong normalForm interchange
   values-few =
       let c : Characters = normalCharacters (markOf s) in
       let list : SegmentList = contents s in
-      let long : Bool = ltb 32000 (length (normalForm s)) in
       omega (
         arith,
-        ltb-false 32000 (length (normalForm s)) (place-none long (length (normalForm s)) .0 (accepted-exactly s .0 accepted .normal)),
+        within (normalForm s) (length (normalForm s)) .0 (accepted-exactly s .0 accepted .normal),
         length-append (adviceOf c) (spell c list),
         values-bound c (spells-list c list (contents-shaped s accepted) (normal-releasable (markOf s) list)),
       )
@@ -270,19 +268,7 @@ module _ (buffer numbers s : List ℕ) where
       let last : List Stage = shortFor (valueBytes s) buffer ∷ shortFor (valueTable s) numbers ∷ [] in
       orElse-neither (answering (stages s)) (answering last) (sym (answering-append (stages s) last) ∙ h) .0
 
-  -- and one whose buffers hold the value list of an accepted input is not refused
-  pub read-passes : refusalOf s ≡ none → length (valueBytes s) ≤ length buffer → length (valueTable s) ≤ length numbers
-      → readRefusal buffer numbers s ≡ none
-  unfolding readRefusal refusalOf orElse answering
-  read-passes accepted b n =
-      let last : List Stage = shortFor (valueBytes s) buffer ∷ shortFor (valueTable s) numbers ∷ [] in
-      answering-append (stages s) last
-      ∙ ap₂ orElse accepted
-      (none-first (shortFor (valueBytes s) buffer) (shortFor (valueTable s) numbers ∷ [])
-      (room (valueBytes s) buffer .1 b)
-      (none-first (shortFor (valueTable s) numbers) [] (room (valueTable s) numbers .1 n) refl))
-
-  -- one that is not refused had room for both parts of the value list
+  -- and room for both parts of the value list
   pub read-fits : readRefusal buffer numbers s ≡ none → (length (valueBytes s) ≤ length buffer) × (length (valueTable s) ≤ length numbers)
   unfolding readRefusal
   read-fits h =
@@ -292,35 +278,11 @@ module _ (buffer numbers s : List ℕ) where
       let n = first-none (shortFor (valueTable s) numbers) [] (b .1) in
       (room (valueBytes s) buffer .0 (b .0), room (valueTable s) numbers .0 (n .0))
 
-  -- what it answers and leaves in both buffers, by what is refused
-  read-by : (o : Option Refusal) → readRefusal buffer numbers s ≡ o
-      → (read buffer numbers s ≡ maybe (given (length (valueBytes s) ∷ length (valueTable s) ∷ [])) refused o)
-      × (readBytes buffer numbers s ≡ unlessRefused o (storedIn buffer (valueBytes s)) buffer)
-      × (readTable buffer numbers s ≡ unlessRefused o (storedIn numbers (valueTable s)) numbers)
-  unfolding read readBytes readTable
-  read-by o e = (
-    ap (maybe (given (length (valueBytes s) ∷ length (valueTable s) ∷ [])) refused) e,
-    ap (λ (p : Option Refusal). unlessRefused p (storedIn buffer (valueBytes s)) buffer) e,
-    ap (λ (p : Option Refusal). unlessRefused p (storedIn numbers (valueTable s)) numbers) e,
-  )
-
-  pub read-refused : {r : Refusal} → readRefusal buffer numbers s ≡ some r
-      → (read buffer numbers s ≡ refused r) × (readBytes buffer numbers s ≡ buffer) × (readTable buffer numbers s ≡ numbers)
-  unfolding maybe unlessRefused
-  read-refused {r} e = read-by (some r) e
-
-  pub read-given : readRefusal buffer numbers s ≡ none
-      → (read buffer numbers s ≡ given (length (valueBytes s) ∷ length (valueTable s) ∷ []))
-      × (readBytes buffer numbers s ≡ valueBytes s ++ drop (length (valueBytes s)) buffer)
-      × (readTable buffer numbers s ≡ valueTable s ++ drop (length (valueTable s)) numbers)
-  unfolding maybe unlessRefused storedIn
-  read-given h = read-by none h
-
   -- the value list stands in the fronts of the buffers
   pub bytes-stand : readRefusal buffer numbers s ≡ none → take (length (valueBytes s)) (readBytes buffer numbers s) ≡ valueBytes s
   bytes-stand h =
-      ap (take (length (valueBytes s))) (read-given h .1) ∙ take-append-seam (valueBytes s) (drop (length (valueBytes s)) buffer)
+      ap (take (length (valueBytes s))) (read-given buffer numbers s h .1) ∙ take-append-seam (valueBytes s) (drop (length (valueBytes s)) buffer)
 
   pub table-stands : readRefusal buffer numbers s ≡ none → take (length (valueTable s)) (readTable buffer numbers s) ≡ valueTable s
   table-stands h =
-      ap (take (length (valueTable s))) (read-given h .2) ∙ take-append-seam (valueTable s) (drop (length (valueTable s)) numbers)
+      ap (take (length (valueTable s))) (read-given buffer numbers s h .2) ∙ take-append-seam (valueTable s) (drop (length (valueTable s)) numbers)

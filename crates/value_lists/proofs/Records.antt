@@ -7,12 +7,12 @@ use mathlib.Core.List.{List, [], _∷_, _++_}
 use mathlib.Core.Option.{none, some, Option·some-ne-none}
 use native.Mathlib.Numerals.{add-one}
 use native.Mathlib.Omega.{arith}
-use lib.ListN.{length, drop, getD, length-drop}
-use lib.Seq.{drop-cons}
+use lib.ListN.{length, drop, getD, length-drop, drop-of-length-le}
 use lib.Dec.{eqb, ltb}
 use borrow.Author.Tests.{lt-ltb, le-ltb, ltb-false, not-true, eq-eqb, ne-eqb}
 use Rattle.lists.specs.Lists.{if_then_else_, all, any, at, maybe}
 use Rattle.lists.proofs.Texts.{if-true, if-false, and-left, and-right, or-none-left, or-none-right}
+use Rattle.lists.proofs.Numbers.{drop-next}
 use Rattle.refusals.specs.declared.Fault.{Fault}
 use Rattle.refusals.specs.declared.Fault.the-variants.{BadList}
 use Rattle.refusals.specs.declared.Refusal.{Refusal}
@@ -31,9 +31,6 @@ module _ (table : List ℕ) (i : ℕ) where
   unfolding entries
   records-next h = ap entries three
     where
-      here : (j : ℕ) → j < length table → drop j table ≡ getD table j 0 ∷ drop (j + 1) table
-      here j l = drop-cons table j 0 l ∙ ap (λ (n : ℕ). getD table j 0 ∷ drop n table) (sym (add-one j))
-
       at-two : i + 1 + 1 ≡ i + 2
       at-two = omega arith
 
@@ -41,15 +38,15 @@ module _ (table : List ℕ) (i : ℕ) where
       at-three = omega arith
 
       third : drop (i + 2) table ≡ getD table (i + 2) 0 ∷ drop (i + 3) table
-      third = here (i + 2) (omega arith) ∙ ap (λ (n : ℕ). getD table (i + 2) 0 ∷ drop n table) at-three
+      third = drop-next table (i + 2) (omega arith) ∙ ap (λ (n : ℕ). getD table (i + 2) 0 ∷ drop n table) at-three
 
       second : drop (i + 1) table ≡ getD table (i + 1) 0 ∷ getD table (i + 2) 0 ∷ drop (i + 3) table
       second =
-          here (i + 1) (omega arith)
+          drop-next table (i + 1) (omega arith)
           ∙ ap (λ (l : List ℕ). getD table (i + 1) 0 ∷ l) (ap (λ (n : ℕ). drop n table) at-two ∙ third)
 
       three : drop i table ≡ getD table i 0 ∷ getD table (i + 1) 0 ∷ getD table (i + 2) 0 ∷ drop (i + 3) table
-      three = here i (omega arith) ∙ ap (λ (l : List ℕ). getD table i 0 ∷ l) second
+      three = drop-next table i (omega arith) ∙ ap (λ (l : List ℕ). getD table i 0 ∷ l) second
 
   -- and so by a record that was read there
   pub read-next : {e : Entry} → i + 3 ≤ length table → e ≡ recordAt table i → entries (drop i table) ≡ e ∷ entries (drop (i + 3) table)
@@ -213,12 +210,8 @@ module _ (t : ℕ → Bool) (value : List ℕ) (i : ℕ) where
   -- one of those from a place on passes, by the one that stands there
   pub any-next : i < length value → any t (drop i value) ≡ (t (getD value i 0) || any t (drop (i + 1) value))
   unfolding any
-  any-next h = ap (any t) (drop-cons value i 0 h) ∙ ap (λ (n : ℕ). t (getD value i 0) || any t (drop n value)) (sym (add-one i))
+  any-next h = ap (any t) (drop-next value i h)
 
   pub any-end : length value ≤ i → any t (drop i value) ≡ false
   unfolding any
-  any-end h = none-left (drop i value) (omega (arith, length-drop i value))
-    where
-      none-left : (l : List ℕ) → length l ≡ 0 → any t l ≡ false
-      none-left [] e = refl
-      none-left (x ∷ l) e = absurd (omega arith)
+  any-end h = ap (any t) (drop-of-length-le value h)

@@ -15,13 +15,7 @@ ghost use Rattle.value_lists.specs.Records.{entryOf, recordAt, firstReco
 use characters::Characters;
 use refusals::Fault;
 use refusals::Outcome;
-use refusals::Refusal;
-
-fn failed(fault: Fault, place: usize) -> Outcome
-    ensures { λ r. ⌜ r ≡ Outcome.Failed (record { fault = fault; place = place }) ⌝ }
-{
-    Outcome::Failed(Refusal { fault, place })
-}
+use refusals::failed;
 
 // ---- records
 

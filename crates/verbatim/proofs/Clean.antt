@@ -2,10 +2,9 @@
 use Prim.Native.Nat.{ℕ, _+_, _≤_, _<_}
 use mathlib.Core.Path.{_≡_, refl, sym, ap, _∙_}
 use mathlib.Core.Bool.{Bool, true, false, not, _&&_, _||_}
-use mathlib.Core.List.{List, [], _∷_}
-use native.Mathlib.Numerals.{add-one}
+use mathlib.Core.List.{List}
 use lib.ListN.{length, getD, drop, drop-of-length-le}
-use lib.Seq.{drop-cons}
+use Rattle.lists.proofs.Numbers.{drop-next}
 use Rattle.verbatim.specs.Verbatim.{idle, clean}
 
 -- what is found so far and what is found now
@@ -26,7 +25,7 @@ module _ (found : Bool) (before : ℕ) (s : List ℕ) (at : ℕ) where
       → cleanFrom found before s at ≡ cleanFrom (found || now) (getD s at 0) s (at + 1)
   unfolding clean
   clean-next {now} e h =
-      ap (λ (l : List ℕ). not found && clean before l) (drop-cons s at 0 h ∙ ap (λ (n : ℕ). getD s at 0 ∷ drop n s) (sym (add-one at)))
+      ap (λ (l : List ℕ). not found && clean before l) (drop-next s at h)
       ∙ ap (λ (b : Bool). not found && (not b && clean (getD s at 0) (drop (at + 1) s))) (sym e)
       ∙ gathered found now (clean (getD s at 0) (drop (at + 1) s))
 

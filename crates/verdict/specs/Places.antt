@@ -2,7 +2,7 @@
 -- before it are not met: behind a fault of an earlier stage, and for 9 behind the first such place, these lists say nothing.
 -- Assumes nothing.
 use Prim.Native.Nat.{ℕ}
-use mathlib.Core.Bool.{Bool, true, false, not, _&&_}
+use mathlib.Core.Bool.{Bool, not, _&&_}
 use mathlib.Core.List.{List, [], _∷_, _++_, map}
 use lib.ListN.{length}
 use lib.Dec.{ltb}
@@ -25,6 +25,16 @@ isOver s = ltb 32000 (length s)
 unfoldable pub startsWhere : (List Segment → Segment → Bool) → List Segment → List Segment → List ℕ
 startsWhere fails past [] = []
 startsWhere fails past (g ∷ gs) = placeIf (fails past g) (start g) ++ startsWhere fails (g ∷ past) gs
+
+-- the tests of 6, 9 and 10
+abbrev pub brokenTag : List Segment → Segment → Bool
+brokenTag past g = finished g && not (tagRule g)
+
+abbrev pub misplaced : List Segment → Segment → Bool
+misplaced past g = not (allowed (map kindOf past) (kindOf g))
+
+abbrev pub badControl : List Segment → Segment → Bool
+badControl past g = not (controlRule g)
 
 module _ (s : List ℕ) where
   -- 1: "input or text over 32,000 bytes": 0
@@ -49,7 +59,7 @@ module _ (s : List ℕ) where
 
   -- 6: "tag rule broken, in a finished segment": "segment start"
   unfoldable pub brokenTags : List ℕ
-  brokenTags = startsWhere (λ past g. finished g && not (tagRule g)) [] (segmentsOf s)
+  brokenTags = startsWhere brokenTag [] (segmentsOf s)
 
   -- 7: "level or version not ours": "UNB's start"
   unfoldable pub foreignLevel : List ℕ
@@ -71,13 +81,11 @@ module _ (s : List ℕ) where
 
   -- 9: "segment not allowed there; or the end before UNZ": "segment start; input length"
   unfoldable pub misplacedSegments : List ℕ
-  misplacedSegments =
-      startsWhere (λ past g. not (allowed (map kindOf past) (kindOf g))) [] (segmentsOf s)
-      ++ placeIf (not (isComplete (kindsOf s))) (length s)
+  misplacedSegments = startsWhere misplaced [] (segmentsOf s) ++ placeIf (not (isComplete (kindsOf s))) (length s)
 
   -- 10: "control element of a service segment not as above": "segment start"
   unfoldable pub badControls : List ℕ
-  badControls = startsWhere (λ past g. not (controlRule g)) [] (segmentsOf s)
+  badControls = startsWhere badControl [] (segmentsOf s)
 
   -- 11: "trailer's reference differs from its header's": "trailer start"
   unfoldable pub differingReferences : List ℕ

@@ -6,18 +6,16 @@ use mathlib.Core.List.{List, [], _∷_}
 use mathlib.Core.Option.{Option, none, some}
 use lib.ListN.{length}
 use lib.Dec.{leb}
-use Rattle.lists.specs.Lists.{if_then_else_, through, lastOr, maybe}
-use Rattle.lists.proofs.Pieces.{beyond, beyond-hit, beyond-miss, cut-first}
+use Rattle.lists.specs.Lists.{if_then_else_, through, lastOr, maybe, beyond}
+use Rattle.lists.proofs.Pieces.{beyond-hit, beyond-miss, cut-first}
 use Rattle.characters.specs.declared.Characters.{Characters}
 use Rattle.refusals.specs.declared.Fault.the-variants.{StrayRelease, UnendedSegment, BrokenTag}
 use Rattle.refusals.specs.declared.Refusal.{Refusal}
 use Rattle.refusals.specs.Refusals.{orElse}
-use Rattle.reading.specs.Tokens.{Token, byte, separator, fault, Segment, ends, segments, start}
+use Rattle.reading.specs.Tokens.{Token, byte, separator, fault, Segment, ends, segments, start, tokensAt}
 use Rattle.reading.specs.Values.{endedBy}
-use Rattle.reading.specs.Tokens.{tokensAt}
 use Rattle.segments.specs.Tags.{tagRule}
 use Rattle.machines.specs.Walks.{refuse, firstIn, firstFault, wordedSegment, worded}
-use Rattle.scanner.specs.declared.Scanned.{Scanned}
 use Rattle.scanner.specs.declared.Scanned.the-variants.{Ended, Stray, Unended}
 use Rattle.scanner.specs.Scan.{Scanning, ended, stray, unended, scanned, Scans, segmentAt}
 use Rattle.scanner.proofs.Segments.{stands, segments-end, segment-start}

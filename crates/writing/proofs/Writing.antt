@@ -2,21 +2,20 @@
 use Prim.Native.Nat.{ℕ, _+_, _%_, _≤_, _<_}
 use mathlib.Core.Path.{_≡_, refl, sym, ap, ap₂, subst, _∙_}
 use mathlib.Core.Bool.{Bool, true, false, not, _&&_, _||_}
-use mathlib.Core.List.{List, [], _∷_, _++_, map, append-nil}
+use mathlib.Core.List.{List, [], _∷_, _++_, append-nil}
 use mathlib.Core.Option.{Option, none, some, Option·some-ne-none}
 use native.Mathlib.Omega.{arith}
 use lib.ListN.{length, take, drop, replicate, length-replicate}
-use lib.Seq.{sets, sets-eq, length-sets, take-at, drop-length}
+use lib.Seq.{sets, length-sets, take-at, drop-length}
 use lib.Dec.{eqb, ltb}
-use borrow.Author.Tests.{lt-ltb, le-ltb, ltb-false, eqb-true, ne-eqb, eq-eqb, not-false}
+use borrow.Author.Tests.{lt-ltb, le-ltb, ltb-false, ne-eqb, eq-eqb}
 use Rattle.lists.specs.Lists.{if_then_else_, at, maybe}
 use Rattle.lists.proofs.Texts.{or-none-left, or-none-right}
 use Rattle.characters.specs.declared.Characters.{Characters}
 use Rattle.characters.specs.Characters.{sixBytes, usable, adviceOf, badAdvice}
 use Rattle.refusals.specs.declared.Fault.the-variants.{TooLong, UnusableAdvice, BufferShort, BadList}
 use Rattle.refusals.specs.declared.Refusal.{Refusal}
-use Rattle.refusals.specs.declared.Outcome.the-variants as outcome-as
-use Rattle.refusals.specs.Refusals.{Stage, met, lowest, orElse, answering, outcome}
+use Rattle.refusals.specs.Refusals.{Stage, met, lowest, orElse, answering}
 use Rattle.refusals.proofs.Stages.{answering-first}
 use Rattle.machines.specs.Walks.{refuse}
 use Rattle.machines.proofs.Rows.{lowest-if}
@@ -31,11 +30,13 @@ use Rattle.answers.specs.declared.Stored.{Stored}
 use Rattle.answers.specs.declared.Stored.the-variants.{Length, Refused}
 use Rattle.answers.specs.Answers.{given, refused, toldStored}
 use Rattle.operations.specs.Judge.{shortFor, storedIn, unlessRefused}
-use Rattle.operations.specs.ValueList.{Entry, entries, valueIn, listedIn, segmentsListed, trimList}
+use Rattle.operations.specs.ValueList.{Entry, entries, listedIn, segmentsListed, trimList}
 use Rattle.operations.specs.Write.{badTable, badList, unusableBytes, needsRelease, writtenText, writeRefusal, write, writeOutput}
+use Rattle.operations.proofs.Answered.{front-stored}
 use Rattle.promises.specs.Promises.{Judges, Writes}
 use Rattle.judging.proofs.Told.{told-accepted, told-refused}
 use Rattle.trimming.specs.Kinds.{firstKind}
+use Rattle.trimming.proofs.Tables.{first-listed}
 use Rattle.forms.proofs.Openings.{advice-good}
 use Rattle.value_lists.proofs.Records.{table-bad, table-good, none-bad}
 use Rattle.value_lists.specs.Records.{wellListed}
@@ -43,17 +44,6 @@ use Rattle.composing.specs.Composing.{composedText, capped}
 use Rattle.composing.proofs.Lengths.{capped-tells, capped-tells-over}
 use Rattle.composing.proofs.Composed.{composed-written}
 use Rattle.writing.specs.Writing.{Written, Passed, textOf, textStages, releaseStages, serviceStages}
-
--- ---- what is stored at the front
-
--- a text stored at the front is the text and what is beyond it
-front-stored : (l₀ text : List ℕ) → length text ≤ length l₀ → sets l₀ 0 text ≡ storedIn l₀ text
-unfolding storedIn
-front-stored l₀ text h =
-    sets-eq text l₀ 0 (omega arith) ∙ ap (λ (n : ℕ). text ++ drop n l₀) zero-more
-  where
-    zero-more : 0 + length text ≡ length text
-    zero-more = omega arith
 
 -- ---- what is refused
 
@@ -90,16 +80,6 @@ pub first-answers : (stage : Stage) (others : List Stage) {r : Refusal} → lowe
 unfolding orElse
 first-answers stage others {r} e = answering-first stage others (some r) e
 
-pub failed-is : (o : Option Refusal) (r : Refusal) → outcome o ≡ outcome-as.Failed r → o ≡ some r
-unfolding outcome
-failed-is none r e = cc
-failed-is (some q) r e = cc
-
-pub passed-is : (o : Option Refusal) → outcome o ≡ outcome-as.Passed → o ≡ none
-unfolding outcome
-passed-is none e = refl
-passed-is (some q) e = cc
-
 -- ---- 15
 
 -- what a list has that 15 passes
@@ -116,18 +96,13 @@ list-passed bytes table h = step (badTable table) refl
     inner : List Entry → Bool
     inner es = maybe false (λ e. not (eqb (e .kind) 0)) (at es 0)
 
-    first-kind : (es : List Entry) → maybe false (λ e. not (eqb (e .kind) 0)) (at es 0) ≡ false
-        → firstKind (map (λ e. record { kind = e .kind; value = valueIn bytes e }) es) ≡ 0
-    first-kind [] k = refl
-    first-kind (e ∷ es) k = eqb-true (e .kind) 0 (not-false (eqb (e .kind) 0) k)
-
     step : (b : Bool) → badTable table ≡ b → Passed bytes table
     step true e = absurd (Option·some-ne-none (record { fault = BadList; place = 0 }) (sym (table-bad bytes table e) ∙ h))
     step false e =
         record {
           good = none-bad bytes 0 (entries table) (sym (table-good bytes table e) ∙ h);
           short = ltb-false 96000 (length table) (or-none-left long odd (or-none-left (long || odd) (inner (entries table)) e));
-          first = first-kind (entries table) (or-none-right (long || odd) (inner (entries table)) e);
+          first = first-listed bytes (entries table) (or-none-right (long || odd) (inner (entries table)) e);
         }
 
 -- ---- 2

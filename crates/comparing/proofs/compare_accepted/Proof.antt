@@ -1,8 +1,8 @@
 -- `comparing::compare_accepted` meets its contract: forms of different lengths differ, and others are compared. Assumes nothing.
 use mathlib.Core.Path.{sym, _∙_}
+use Rattle.lists.proofs.Texts.{same-length}
 use Rattle.verdict.specs.Contents.{normalForm}
-use Rattle.normalising.proofs.Storing.{length-of}
-use Rattle.comparing.proofs.Bytes.{lengths-differ}
+use Rattle.judging.proofs.Told.{length-of}
 use Rattle.comparing.proofs.Compared.{forms-same, forms-differ}
 use Rattle.comparing.proofs.compare_accepted.Statement.{statement}
 use Rattle.comparing.proofs.compare_accepted.Tie as tie
@@ -13,7 +13,7 @@ returns c =
     let first = c .before .before .before .before .args .first .now in
     let second = c .before .before .before .before .args .second .now in
     forms-differ first second (known .0) (known .1)
-    (lengths-differ (normalForm first) (normalForm second)
+    (same-length (normalForm first) (normalForm second)
     (λ h. c .if1 .taken (length-of first (known .2) ∙ h ∙ sym (length-of second (known .3)))))
 
 equal-forms-requires : tie.Need-equal-forms-requires

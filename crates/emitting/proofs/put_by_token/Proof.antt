@@ -1,23 +1,19 @@
 -- `emitting::put_by_token` meets its contract. The loop's invariant: what is emitted from here on, stored from the place reached, gives what
 -- the whole, stored at the start, gives; it fits; and two bytes are spelled or held back for each byte passed, at most. What is left of
 -- the input falls. Assumes nothing.
-use Prim.Native.Nat.{ℕ, _+_, _*_, _-_, _≤_}
-use mathlib.Core.Path.{_≡_, refl, sym, ap, ap₂, _∙_}
-use mathlib.Core.List.{List, _++_}
+use Prim.Native.Nat.{_+_, _*_, _-_, _≤_}
+use mathlib.Core.Path.{refl, ap}
 use native.Mathlib.Omega.{arith}
-use lib.ListN.{length, length-append}
-use lib.Seq.{sets}
+use lib.ListN.{length}
 use borrow.Author.Needs.{needs}
-use Rattle.reading.specs.Tokens.{Token}
-use Rattle.reading.specs.Spelling.{spellByte}
 use Rattle.reading.specs.Tokens.{tokensAt}
 use Rattle.verdict.specs.Contents.{normalCharacters}
-use Rattle.emission.specs.Emission.{letOut, emitted}
+use Rattle.emission.specs.Emission.{emitted}
 use Rattle.measuring.specs.declared.Measure.{Measure}
-use Rattle.measuring.specs.Measure.{behindByte, behindSeparator, held}
+use Rattle.measuring.specs.Measure.{held}
 use Rattle.measuring.proofs.Steps.{held-byte, held-separator}
 use Rattle.scanner.proofs.Lexing.{lexes-as}
-use Rattle.emitting.specs.Emitting.{endText, emittedFrom}
+use Rattle.emitting.specs.Emitting.{emittedFrom}
 use Rattle.emitting.proofs.Putting.{Goes, byte-fits, byte-goes, separator-fits, separator-goes, fault-goes, end-goes}
 use Rattle.emitting.proofs.put_by_token.Statement.{statement}
 use Rattle.emitting.proofs.put_by_token.Tie as tie

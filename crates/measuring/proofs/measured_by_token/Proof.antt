@@ -1,13 +1,11 @@
 -- `measuring::measured_by_token` meets its contract. The loop's invariant: the length from the start is the length from what is measured and
 -- the tokens from `at` on; and two bytes are spelled or held back for each byte passed, at most. What is left of the input falls.
 -- Assumes nothing.
-use Prim.Native.Nat.{ℕ, _+_, _*_, _-_, _≤_}
+use Prim.Native.Nat.{_*_, _-_, _≤_}
 use mathlib.Core.Path.{_≡_, refl, sym, ap, _∙_}
-use mathlib.Core.List.{List}
 use native.Mathlib.Omega.{arith}
 use lib.ListN.{length}
 use borrow.Author.Needs.{needs}
-use Rattle.reading.specs.Tokens.{Token}
 use Rattle.reading.specs.Tokens.{tokensAt}
 use Rattle.verdict.specs.Contents.{normalCharacters}
 use Rattle.emission.specs.Emission.{emittedLength}

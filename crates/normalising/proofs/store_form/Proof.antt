@@ -1,7 +1,7 @@
 -- `normalising::store_form` meets its contract: 14 answers, or the advice and the contents are stored. Assumes nothing.
 use Prim.Native.Nat.{ℕ, _+_, _≤_}
-use mathlib.Core.Path.{_≡_, refl, ap, _∙_}
-use mathlib.Core.List.{List, _++_}
+use mathlib.Core.Path.{refl, ap, _∙_}
+use mathlib.Core.List.{List}
 use native.Mathlib.Omega.{arith}
 use lib.Dec.{lit≤}
 use lib.ListN.{length}
@@ -15,7 +15,8 @@ use Rattle.emission.specs.Emission.{emitted}
 use Rattle.answers.specs.declared.Interchange.{Interchange}
 use Rattle.emitting.proofs.Putting.{stored-length}
 use Rattle.judging.proofs.Stages.{accepted-opening}
-use Rattle.normalising.proofs.Storing.{form-faultless, short-refuses, form-is, form-stored, length-of, characters-of, parts-fit}
+use Rattle.judging.proofs.Told.{length-of, characters-of}
+use Rattle.normalising.proofs.Storing.{form-faultless, short-refuses, form-is, form-stored, parts-fit}
 use Rattle.normalising.proofs.store_form.Statement.{statement}
 use Rattle.normalising.proofs.store_form.Tie as tie
 

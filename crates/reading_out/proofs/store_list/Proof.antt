@@ -3,7 +3,8 @@ use mathlib.Core.Path.{ap, _∙_}
 use native.Mathlib.Omega.{arith}
 use Rattle.answers.specs.Answers.{toldListed}
 use Rattle.judging.proofs.Stages.{accepted-opening}
-use Rattle.reading_out.proofs.Reading.{bytes-are, table-is, bytes-needed, numbers-needed, characters-of, bytes-refused, table-refused, list-stored}
+use Rattle.judging.proofs.Told.{characters-of}
+use Rattle.reading_out.proofs.Reading.{bytes-are, table-is, bytes-needed, numbers-needed, bytes-refused, table-refused, list-stored}
 use borrow.Author.Needs.{needs}
 use Rattle.reading_out.proofs.store_list.Statement.{statement}
 use Rattle.reading_out.proofs.store_list.Tie as tie

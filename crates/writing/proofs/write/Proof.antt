@@ -5,10 +5,11 @@ use borrow.Author.Needs.{needs}
 use Rattle.characters.specs.Characters.{sixBytes}
 use Rattle.refusals.specs.declared.Fault.the-variants.{BadList}
 use Rattle.refusals.specs.Refusals.{met, lowest}
+use Rattle.refusals.proofs.Stages.{failed-is, passed-is}
 use Rattle.operations.specs.Judge.{storedIn}
 use Rattle.operations.specs.Write.{badList}
 use Rattle.writing.specs.Writing.{textOf, serviceStages}
-use Rattle.writing.proofs.Writing.{refused-written, left-to-others, first-answers, failed-is, passed-is, list-passed, write-is}
+use Rattle.writing.proofs.Writing.{refused-written, left-to-others, first-answers, list-passed, write-is}
 use Rattle.writing.proofs.write.Statement.{statement}
 use Rattle.writing.proofs.write.Tie as tie
 

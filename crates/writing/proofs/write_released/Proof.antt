@@ -4,11 +4,12 @@ use lib.ListN.{length}
 use borrow.Author.Needs.{needs}
 use Rattle.refusals.specs.declared.Fault.the-variants.{NeedsRelease}
 use Rattle.refusals.specs.Refusals.{met, lowest}
+use Rattle.refusals.proofs.Stages.{failed-is, passed-is}
 use Rattle.operations.specs.Judge.{storedIn}
 use Rattle.operations.specs.ValueList.{entries, valueIn}
 use Rattle.operations.specs.Write.{numbersWhere, lacksRelease}
 use Rattle.writing.specs.Writing.{textOf, textStages, releaseStages}
-use Rattle.writing.proofs.Writing.{refused-written, left-to-others, first-answers, failed-is, passed-is}
+use Rattle.writing.proofs.Writing.{refused-written, left-to-others, first-answers}
 use Rattle.writing.proofs.write_released.Statement.{statement}
 use Rattle.writing.proofs.write_released.Tie as tie
 
