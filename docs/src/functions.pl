@@ -4,6 +4,7 @@
 # those that only print. Run at the root; its output is docs/FUNCTIONS.md, and the gate compares the two.
 use strict;
 use warnings;
+use File::Find;
 
 # crates of which nothing can be ensured: no contract speaks of what is written to standard output
 my %prints = (printing => 1);
@@ -20,7 +21,9 @@ HEAD
 open my $listed, '<', 'crates.txt' or die "crates.txt: $!";
 my $bare = 0;
 for my $crate (map { /^(\w+):/ } <$listed>) {
-    my @functions = map { public_functions($crate, $_) } glob "crates/$crate/src/*.rt";
+    my @sources;
+    find({ no_chdir => 1, wanted => sub { push @sources, $_ if /\.rt$/ } }, "crates/$crate/src");
+    my @functions = map { public_functions($crate, $_) } sort @sources;
     next unless @functions;
     print "\n## $crate\n";
     print "\n$_" for @functions;
@@ -34,7 +37,7 @@ sub public_functions {
     my $text = join '', <$source>;
     my @items;
     # what stands before the body, whose brace ends the signature's line or has a line of its own
-    while ($text =~ /^(pub (?:extern "C" )?fn .*?)(?:^\{|\{$)/msg) {
+    while ($text =~ /^\h*(pub (?:extern "C" )?fn .*?)(?:^\h*\{|\{$)/msg) {
         my ($signature, @clauses) = split /^\s+(?=requires\b|ensures\b)/m, $1;
         unless ($prints{$crate} || grep { /^ensures/ } @clauses) {
             print STDERR "$file: no contract: $signature";

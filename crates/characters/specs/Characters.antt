@@ -95,7 +95,7 @@ body s = drop (bodyStart s) s
 unfoldable pub badAdvice : List ℕ → Bool
 badAdvice s = advised s && (ltb (length s) 9 || not (usable (charactersOf s)))
 
--- "the body doesn't begin `UNB` and the element separator (without advice: neither beginning above)"
+-- the body begins `UNB` and the element separator, or 3 is met: "(without advice: neither beginning above)"
 unfoldable pub opens : List ℕ → Bool
 opens s = begins (text "UNB" ++ charactersOf s .element ∷ []) (body s)
 

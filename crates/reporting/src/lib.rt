@@ -1,4 +1,4 @@
-// What a program prints of an answer. It promises the paper's number of each refusal.
+// The paper's number of each refusal, for what programs print and for what crosses to C.
 ghost use mathlib.Core.Path.{_≡_};
 ghost use Rattle.refusals.specs.Refusals.{number};
 use refusals::Fault;
