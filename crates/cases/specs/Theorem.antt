@@ -2,7 +2,7 @@
 use lib.Dec.{T}
 use Rattle.lists.specs.Lists.{same, begins, member, allDiffer, isEmpty, all, those, through, first, at, lastOr, onto, cut, unlessIdle, dropEnd, trimEnd, behind, joined, gather, maybe}
 use Rattle.characters.specs.Characters.{between, upper, lower, digit, separates, released, serviceCharacters, isService, usable, sixBytes, spelledOut, advised, adviceOf, plusCharacters, controlCharacters, charactersOf, bodyStart, body, badAdvice, opens, role}
-use Rattle.refusals.specs.Refusals.{number, met, isLower, lowerOf, lowest, orElse, answering, placeIf}
+use Rattle.refusals.specs.Refusals.{met, isLower, lowerOf, lowest, orElse, answering, placeIf}
 use Rattle.reading.specs.Tokens.{unreleased, releasing, taken, tokensFrom, tokens, ends, placeOf, segments, start}
 use Rattle.reading.specs.Values.{byteOf, bytesOf, valueOf, valuesOf, elementsOf, isFault, endedBy, endsInside, finished}
 use Rattle.reading.specs.Trimming.{trimElement, isIdle, trimSegment, trimmed, valueAt, contentsOf}
@@ -22,5 +22,5 @@ use Rattle.operations.specs.Compare.{isAccepted, areSame, compare}
 use Rattle.cases.specs.Cases.{cases, says, meets, holds}
 
 pub all-cases-hold : T (all holds cases)
-unfolding same begins member allDiffer isEmpty all those through first at lastOr onto cut unlessIdle dropEnd trimEnd behind joined gather maybe between upper lower digit separates released serviceCharacters isService usable sixBytes spelledOut advised adviceOf plusCharacters controlCharacters charactersOf bodyStart body badAdvice opens role number met isLower lowerOf lowest orElse answering placeIf unreleased releasing taken tokensFrom tokens ends placeOf segments start byteOf bytesOf valueOf valuesOf elementsOf isFault endedBy endsInside finished trimElement isIdle trimSegment trimmed valueAt contentsOf spellByte spellValue spellElement spellSegment spell inLevelA inLevelB classOf levelNamed inLevel isOurVersion levelOf is kindNamed tagPiece tagOf kindOf isTag tagRule segmentsIn messagesIn groupsIn segmentsSinceHeader messagesSinceGroup isOpen standing insideMessage allowedAt allowed isComplete positionTable positionsOf single controlElement isReference isCount standsWell controlRule headerOf referenceOf sameValue referenceDiffers decimalFrom decimal trueCount countOf countWrong bodyTokens segmentsOf contents kindsOf normalCharacters interchange normalForm isOver startsWhere tooLong unusableAdvice noOpening strayReleases unendedSegment brokenTags foreignLevel level placeOutside outsideLevel misplacedSegments badControls differingReferences wrongCounts normalTooLong laterStages stages refusalOf given refused refusedInput accepted interchangeOf judge isAccepted areSame compare cases says meets holds
+unfolding same begins member allDiffer isEmpty all those through first at lastOr onto cut unlessIdle dropEnd trimEnd behind joined gather maybe between upper lower digit separates released serviceCharacters isService usable sixBytes spelledOut advised adviceOf plusCharacters controlCharacters charactersOf bodyStart body badAdvice opens role met isLower lowerOf lowest orElse answering placeIf unreleased releasing taken tokensFrom tokens ends placeOf segments start byteOf bytesOf valueOf valuesOf elementsOf isFault endedBy endsInside finished trimElement isIdle trimSegment trimmed valueAt contentsOf spellByte spellValue spellElement spellSegment spell inLevelA inLevelB classOf levelNamed inLevel isOurVersion levelOf is kindNamed tagPiece tagOf kindOf isTag tagRule segmentsIn messagesIn groupsIn segmentsSinceHeader messagesSinceGroup isOpen standing insideMessage allowedAt allowed isComplete positionTable positionsOf single controlElement isReference isCount standsWell controlRule headerOf referenceOf sameValue referenceDiffers decimalFrom decimal trueCount countOf countWrong bodyTokens segmentsOf contents kindsOf normalCharacters interchange normalForm isOver startsWhere tooLong unusableAdvice noOpening strayReleases unendedSegment brokenTags foreignLevel level placeOutside outsideLevel misplacedSegments badControls differingReferences wrongCounts normalTooLong laterStages stages refusalOf given refused refusedInput accepted interchangeOf judge isAccepted areSame compare cases says meets holds
 all-cases-hold = tt

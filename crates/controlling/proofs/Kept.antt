@@ -1,6 +1,6 @@
 -- What is kept of the segments that passed: where the references of the nearest headers are spelled, and the counters. Assumes nothing.
 use Prim.Native.Nat.{ℕ, _≤_}
-use mathlib.Core.Path.{_≡_, refl, sym, ap, _∙_}
+use mathlib.Core.Path.{_≡_, refl, sym, ap, subst⁻¹, _∙_}
 use mathlib.Core.Bool.{Bool, true, false, _||_}
 use mathlib.Core.List.{List, [], _∷_, map}
 use mathlib.Core.Option.{Option, none, some}
@@ -28,8 +28,9 @@ use Rattle.control.specs.Control.{isReference, isCount, standsWell, controlRule
 use Rattle.elements.specs.Elements.{ElementAt}
 use Rattle.fields.specs.Fields.{valueIn}
 use Rattle.fields.proofs.Control.{reference-value-at}
-use Rattle.walking.specs.Walking.{Counts, steppedBy}
-use Rattle.walking.proofs.Counts.{counts-step, counts-walk}
+use Rattle.walk_laws.specs.Walking.{Counts, steppedBy}
+use Rattle.walk_laws.proofs.Counts.{counts-step, counts-walk}
+use Rattle.walk_laws.proofs.Places.{each}
 use Rattle.controlling.specs.declared.Headers.{Headers}
 use Rattle.controlling.specs.Controlling.{headersBehind}
 
@@ -63,6 +64,17 @@ same-position : (header kind : Kind) → is header kind ≡ true → positionsOf
 unfolding is positionsOf
 same-position header kind h =
     ap (λ (n : ℕ). getD positionTable n (record { count = 0; reference = 0 }) .reference) (eqb-true (index kind) (index header) h)
+
+-- what is kept of each header after a segment
+headers-are : (h : Headers) (place : ℕ) (kind : Kind)
+    → headersBehind h kind place
+    ≡ record {
+      unb = if is Unb kind then place else h .unb;
+      ung = if is Ung kind then place else h .ung;
+      unh = if is Unh kind then place else h .unh;
+    }
+unfolding is
+headers-are h place = each _ refl refl refl refl refl refl refl refl
 
 module _ (c : Characters) (s : List ℕ) where
   -- it is spelled at this place; nothing is, where there is none
@@ -118,11 +130,11 @@ module _ (c : Characters) (s : List ℕ) where
     -- one segment more
     pub kept-more : {walk : Walk} {headers : Headers} → Kept past walk headers
         → Kept (g ∷ past) (steppedBy walk (kindOf g)) (headersBehind headers (kindOf g) reference)
-    unfolding headersBehind positionsOf positionTable
+    unfolding positionsOf positionTable
     kept-more {walk} {headers} k =
-        record {
+        subst⁻¹ (Kept (g ∷ past) (steppedBy walk (kindOf g))) (headers-are headers reference (kindOf g)) (record {
           counts = counts-step walk (map kindOf past) (kindOf g) (k .counts);
           unb = spelled-more Unb (headers .unb) refl (k .unb);
           ung = spelled-more Ung (headers .ung) refl (k .ung);
           unh = spelled-more Unh (headers .unh) refl (k .unh);
-        }
+        })

@@ -25,8 +25,8 @@ use Rattle.control.specs.Positions.{positionsOf}
 use Rattle.control.specs.Control.{controlRule, referenceDiffers, countWrong}
 use Rattle.machines.specs.Walks.{refuse, firstIn, controlledSegment, controlled}
 use Rattle.elements.specs.Elements.{ElementAt}
-use Rattle.walking.specs.Walking.{Within, steppedBy}
-use Rattle.walking.proofs.Counts.{counts-within}
+use Rattle.walk_laws.specs.Walking.{Within, steppedBy}
+use Rattle.walk_laws.proofs.Counts.{counts-within}
 use Rattle.controlling.specs.declared.Headers.{Headers}
 use Rattle.controlling.specs.Controlling.{headerKept, headersBehind, countDue, controlledBy}
 use Rattle.controlling.proofs.Kept.{Kept, kept-none, kept-more}

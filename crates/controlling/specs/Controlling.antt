@@ -13,7 +13,6 @@ use Rattle.reading.specs.Tokens.{Token, tokensAt}
 use Rattle.segments.specs.declared.Kind.{Kind}
 use Rattle.segments.specs.declared.Kind.the-variants.{Unb, Ung, Unh, Uns, Unt, Une, Unz, User}
 use Rattle.segments.specs.declared.Walk.{Walk}
-use Rattle.segments.specs.Kinds.{is}
 use Rattle.control.specs.declared.Positions.{Positions}
 use Rattle.elements.specs.Elements.{elementFrom}
 use Rattle.fields.specs.Fields.{valueIn, fieldOf, spellsReference, spellsCount}
@@ -32,14 +31,25 @@ headerKept h Une = h .ung
 headerKept h Unz = h .unb
 headerKept h User = 0
 
--- what is kept behind a segment whose reference is spelled at this place
-unfoldable pub headersBehind : Headers → Kind → ℕ → Headers
+-- of what is kept after UNB, after UNG, after UNH and after any other segment, what is kept after a segment of a kind
+abbrev pub keptAfter : Kind → Headers → Headers → Headers → Headers → Headers
+keptAfter Unb unb ung unh other = unb
+keptAfter Ung unb ung unh other = ung
+keptAfter Unh unb ung unh other = unh
+keptAfter Uns unb ung unh other = other
+keptAfter Unt unb ung unh other = other
+keptAfter Une unb ung unh other = other
+keptAfter Unz unb ung unh other = other
+keptAfter User unb ung unh other = other
+
+-- what is kept after a segment whose reference is spelled at this place
+abbrev pub headersBehind : Headers → Kind → ℕ → Headers
 headersBehind h kind place =
-    record {
-      unb = if is Unb kind then place else h .unb;
-      ung = if is Ung kind then place else h .ung;
-      unh = if is Unh kind then place else h .unh;
-    }
+    keptAfter kind
+    (record { unb = place; ung = h .ung; unh = h .unh })
+    (record { unb = h .unb; ung = place; unh = h .unh })
+    (record { unb = h .unb; ung = h .ung; unh = place })
+    h
 
 -- ---- the count
 

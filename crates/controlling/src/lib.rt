@@ -7,11 +7,11 @@ ghost use lib.ListN.{length};
 ghost use Rattle.refusals.specs.Refusals.{outcome};
 ghost use Rattle.reading.specs.Tokens.{tokensAt};
 ghost use Rattle.machines.specs.Walks.{controlled};
-ghost use Rattle.walking.specs.Walking.{Within};
-ghost use Rattle.controlling.specs.Controlling.{headerKept, headersBehind, groupsOrMessages, countDue, trailerAt, controlledBy};
+ghost use Rattle.walk_laws.specs.Walking.{Within};
+ghost use Rattle.controlling.specs.Controlling.{headerKept, keptAfter, headersBehind, groupsOrMessages, countDue, trailerAt, controlledBy};
 use characters::Characters;
 use control::Positions;
-use control::positions_of;
+use control_positions::positions_of;
 use elements::element_at;
 use fields::field_at;
 use fields::is_count;
@@ -19,7 +19,7 @@ use fields::is_reference;
 use fields::same_value;
 use refusals::Fault;
 use refusals::Outcome;
-use refusals::failed;
+use refusing::failed;
 use scanner::segment_end;
 use segments::Kind;
 use segments::Walk;
@@ -50,32 +50,42 @@ fn header_of(h: Headers, kind: Kind) -> usize
     }
 }
 
+// What is kept after a segment of this kind, of what is kept after UNB, UNG, UNH and any other.
+fn kept_after(kind: Kind, unb: Headers, ung: Headers, unh: Headers, other: Headers) -> Headers
+    ensures { λ r. ⌜ r ≡ keptAfter kind unb ung unh other ⌝ }
+{
+    match kind {
+        Kind::Unb => unb,
+        Kind::Ung => ung,
+        Kind::Unh => unh,
+        Kind::Uns => other,
+        Kind::Unt => other,
+        Kind::Une => other,
+        Kind::Unz => other,
+        Kind::User => other,
+    }
+}
+
 // One segment more, whose reference begins at this place.
 fn passed_header(h: Headers, kind: Kind, reference: usize) -> Headers
     ensures { λ r. ⌜ r ≡ headersBehind h kind reference ⌝ }
 {
-    match kind {
-        Kind::Unb => Headers {
-            unb: reference,
-            ung: h.ung,
-            unh: h.unh,
-        },
-        Kind::Ung => Headers {
-            unb: h.unb,
-            ung: reference,
-            unh: h.unh,
-        },
-        Kind::Unh => Headers {
-            unb: h.unb,
-            ung: h.ung,
-            unh: reference,
-        },
-        Kind::Uns => h,
-        Kind::Unt => h,
-        Kind::Une => h,
-        Kind::Unz => h,
-        Kind::User => h,
-    }
+    let unb = Headers {
+        unb: reference,
+        ung: h.ung,
+        unh: h.unh,
+    };
+    let ung = Headers {
+        unb: h.unb,
+        ung: reference,
+        unh: h.unh,
+    };
+    let unh = Headers {
+        unb: h.unb,
+        ung: h.ung,
+        unh: reference,
+    };
+    kept_after(kind, unb, ung, unh, h)
 }
 
 // "the groups, or the messages where there are no groups"

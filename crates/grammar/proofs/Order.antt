@@ -15,8 +15,8 @@ use Rattle.segments.specs.declared.Standing.{Standing}
 use Rattle.segments.specs.declared.Standing.the-variants.{BeforeInterchange, BetweenGroups, InGroup, InGroupMessage, InMessage, BehindInterchange}
 use Rattle.segments.specs.Kinds.{index, is}
 use Rattle.segments.specs.Order.{messagesIn, groupsIn, messagesSinceGroup, standing, insideMessage, allowedAt, isComplete}
-use Rattle.walking.specs.Walking.{isBehind}
-use Rattle.walking.proofs.Places.{each, complete-behind}
+use Rattle.walk_laws.specs.Walking.{isBehind}
+use Rattle.walk_laws.proofs.Places.{each, complete-behind}
 
 -- ---- kinds
 

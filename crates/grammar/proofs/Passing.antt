@@ -12,7 +12,7 @@ use Rattle.segments.specs.declared.Kind.{Kind}
 use Rattle.segments.specs.declared.Kind.the-variants.{Unb, Ung, Unh, Uns, Unt, Une, Unz, User}
 use Rattle.segments.specs.Tags.{kindOf}
 use Rattle.segments.specs.Order.{allowed}
-use Rattle.walking.specs.Walking.{walked}
+use Rattle.walk_laws.specs.Walking.{walked}
 use Rattle.verdict.specs.Places.{startsWhere}
 use Rattle.grammar.specs.Grammar.{Asking, messageCount, groupCount, interchangeCount}
 use Rattle.grammar.proofs.Trail.{_▸_, Each, none-yet, passed, each-last, each-before}

@@ -71,8 +71,7 @@ fn judge_bytes(s: &[u8], c: Characters, start: usize, level: u8) -> Judged
     requires { ⌜ Opening (now s) c start × (worded (length (now s)) (bodyTokens (now s)) ≡ none) × (level ≡ levelIn (now s)) ⌝ }
     ensures { λ r. ⌜ r ≡ judged (now (s .entry)) (fromBytes (now (s .entry))) ⌝ }
 {
-    let classes = levels::classes();
-    match leveling::in_level(s, c, &classes, level, start) {
+    match leveling::in_level(s, c, level, start) {
         Outcome::Failed(r) => Judged::Refused(r),
         Outcome::Passed => judge_order(s, c, start),
     }

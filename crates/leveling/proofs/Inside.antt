@@ -1,43 +1,20 @@
 -- Where every byte is in the level, every byte of every value is. Assumes nothing.
-use Prim.Native.Nat.{ℕ, _+_, _≤_, _<_}
-use mathlib.Core.Path.{_≡_, refl, ap, _∙_}
-use mathlib.Core.Bool.{Bool, true, false, _&&_}
+use Prim.Native.Nat.{ℕ, _+_}
+use mathlib.Core.Path.{_≡_, refl, _∙_}
+use mathlib.Core.Bool.{true}
 use mathlib.Core.List.{List, [], _∷_}
 use mathlib.Core.Option.{Option, none, some}
-use lib.ListN.{length, getD, drop, drop-of-length-le}
-use borrow.Author.Tests.{le-leb, lt-leb}
+use lib.ListN.{drop}
 use Rattle.lists.specs.Lists.{all}
 use Rattle.lists.proofs.Texts.{and-left, and-right, if-true}
-use Rattle.lists.proofs.Numbers.{drop-next}
 use Rattle.characters.specs.declared.Characters.{Characters}
 use Rattle.characters.specs.declared.Role.{Role}
 use Rattle.characters.specs.declared.Role.the-variants.{Separator, Release, Plain}
 use Rattle.characters.specs.Characters.{role}
 use Rattle.refusals.specs.declared.Fault.the-variants.{OutsideLevel}
 use Rattle.reading.specs.Tokens.{Token, byte, unreleased, releasing, taken, tokensFrom, tokens, tokensAt}
-use Rattle.levels.specs.Levels.{classOf, inLevel}
+use Rattle.levels.specs.Levels.{inLevel}
 use Rattle.machines.specs.Walks.{refuse, leveled}
-
--- ---- all from a place on, one byte at a time
-
-module _ (level : ℕ) (s : List ℕ) (at : ℕ) where
-  split : at < length s → all (inLevel level) (drop at s) ≡ (inLevel level (getD s at 0) && all (inLevel level) (drop (at + 1) s))
-  unfolding all
-  split h = ap (all (inLevel level)) (drop-next s at h)
-
-  pub all-outside : at < length s → classOf (getD s at 0) < level → all (inLevel level) (drop at s) ≡ false
-  unfolding inLevel
-  all-outside h d = split h ∙ ap (λ (b : Bool). b && all (inLevel level) (drop (at + 1) s)) (lt-leb level (classOf (getD s at 0)) d)
-
-  pub all-next : at < length s → level ≤ classOf (getD s at 0) → all (inLevel level) (drop at s) ≡ all (inLevel level) (drop (at + 1) s)
-  unfolding inLevel
-  all-next h d = split h ∙ ap (λ (b : Bool). b && all (inLevel level) (drop (at + 1) s)) (le-leb level (classOf (getD s at 0)) d)
-
-  pub all-end : length s ≤ at → all (inLevel level) (drop at s) ≡ true
-  unfolding all
-  all-end h = ap (all (inLevel level)) (drop-of-length-le s h)
-
--- ---- the tokens of such bytes
 
 module _ (c : Characters) (level : ℕ) where
   -- a byte that is in the level, in front of tokens that are

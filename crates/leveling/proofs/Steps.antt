@@ -1,26 +1,21 @@
 -- One step of the walk over the level, for each token. Assumes nothing.
-use Prim.Native.Nat.{ℕ, _≤_, _<_}
+use Prim.Native.Nat.{ℕ}
 use mathlib.Core.Path.{_≡_, refl, ap, _∙_}
+use mathlib.Core.Bool.{Bool}
 use mathlib.Core.List.{List, [], _∷_}
 use mathlib.Core.Option.{none}
-use lib.Dec.{leb}
-use borrow.Author.Tests.{le-leb, lt-leb}
-use Rattle.lists.proofs.Texts.{if-true, if-false}
+use Rattle.lists.specs.Lists.{if_then_else_}
 use Rattle.refusals.specs.declared.Fault.the-variants.{OutsideLevel}
 use Rattle.reading.specs.Tokens.{Token, byte, separator, fault}
-use Rattle.levels.specs.Levels.{classOf, inLevel}
+use Rattle.levels.specs.Levels.{inLevel}
 use Rattle.machines.specs.Walks.{refuse, leveled}
 
 module _ (level : ℕ) {ts rest : List Token} where
-  pub level-inside : {b from place : ℕ} → ts ≡ byte b from place ∷ rest → level ≤ classOf b → leveled level ts ≡ leveled level rest
-  unfolding leveled inLevel
-  level-inside {b} {from} {place} e h =
-      ap (leveled level) e ∙ if-true (inLevel level b) (leveled level rest) (refuse OutsideLevel place) (le-leb level (classOf b) h)
-
-  pub level-outside : {b from place : ℕ} → ts ≡ byte b from place ∷ rest → classOf b < level → leveled level ts ≡ refuse OutsideLevel place
-  unfolding leveled inLevel
-  level-outside {b} {from} {place} e h =
-      ap (leveled level) e ∙ if-false (inLevel level b) (leveled level rest) (refuse OutsideLevel place) (lt-leb level (classOf b) h)
+  pub level-byte : {b from place : ℕ} {t : Bool} → ts ≡ byte b from place ∷ rest → inLevel level b ≡ t
+      → leveled level ts ≡ (if t then leveled level rest else refuse OutsideLevel place)
+  unfolding leveled
+  level-byte {b} {from} {place} e h =
+      ap (leveled level) e ∙ ap (λ (t : Bool). if t then leveled level rest else refuse OutsideLevel place) h
 
   pub level-separator : {kind place : ℕ} → ts ≡ separator kind place ∷ rest → leveled level ts ≡ leveled level rest
   unfolding leveled

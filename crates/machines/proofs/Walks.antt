@@ -100,7 +100,7 @@ control-within low high p spans = search (append-within, failing-within)
 -- what the walk asks of a segment is the lowest of it: 10 before 11 before 12
 control-answers : (low high : ℕ) (past : List Segment) (g : Segment) → Spans low high g
     → lowest (controls (past, g)) ≡ controlledSegment past g
-unfolding controls controlledSegment merge number
+unfolding controls controlledSegment merge
 control-answers low high past g spans = simp (lowest-append, lowest-if) (step (controlRule g) (referenceDiffers past g) (countWrong past g))
   where
     bad : Option Refusal

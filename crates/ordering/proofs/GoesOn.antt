@@ -19,8 +19,8 @@ use Rattle.segments.specs.declared.Walk.{Walk}
 use Rattle.segments.specs.Tags.{kindOf}
 use Rattle.segments.specs.Order.{allowed, isComplete, walkOver}
 use Rattle.machines.specs.Walks.{refuse, firstIn, orderedSegment, ordered}
-use Rattle.walking.specs.Walking.{walked, allowedBy, steppedBy}
-use Rattle.walking.proofs.Walks.{allowed-over, stepped-over, complete-over}
+use Rattle.walk_laws.specs.Walking.{walked, allowedBy, steppedBy}
+use Rattle.walk_laws.proofs.Walks.{allowed-over, stepped-over, complete-over}
 use Rattle.ordering.specs.declared.Ordered.{Ordered}
 use Rattle.ordering.specs.declared.Ordered.the-variants.{Whole}
 use Rattle.ordering.specs.Ordering.{orderedBy, orderedAs, misplacedAt, completed, goesOn}

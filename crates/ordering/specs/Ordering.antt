@@ -11,7 +11,7 @@ use Rattle.segments.specs.declared.Walk.{Walk}
 use Rattle.segments.specs.Tags.{kindOf}
 use Rattle.segments.specs.Order.{walkOver}
 use Rattle.machines.specs.Walks.{ordered}
-use Rattle.walking.specs.Walking.{allowedBy, steppedBy, isBehind}
+use Rattle.walk_laws.specs.Walking.{allowedBy, steppedBy, isBehind}
 use Rattle.ordering.specs.declared.Ordered.{Ordered}
 use Rattle.ordering.specs.declared.Ordered.the-variants.{Whole, Failed}
 

@@ -14,7 +14,7 @@ pub fn print_value(value: u64) -> bool {
 pub fn print_refused(words: &[u8], refusal: Refusal) -> bool {
     let fault = refusal.fault;
     io::write_all(STDOUT_FILENO, words)
-        && print_value(reporting::number_of(fault) as u64)
+        && print_value(refusing::number_of(fault) as u64)
         && print_value(refusal.place as u64)
         && io::write_all(STDOUT_FILENO, b"\n")
 }

@@ -12,7 +12,7 @@ use Rattle.refusals.specs.declared.Outcome.{Outcome}
 use Rattle.refusals.specs.declared.Outcome.the-variants.{Passed, Failed}
 
 -- the paper's number of each
-unfoldable pub number : Fault → ℕ
+abbrev pub number : Fault → ℕ
 number TooLong = 1
 number UnusableAdvice = 2
 number NoOpening = 3

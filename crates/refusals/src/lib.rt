@@ -1,8 +1,6 @@
 // Refusals (paper 01, "Refusals by number"): the sixteen by name, and the rule that picks one:
 // the first failing stage answers; within a stage the lowest place, then the lowest number.
 // The definitions are in specs/. When each refusal is met is left to `verdict` and `operations`.
-ghost use mathlib.Core.Path.{_≡_};
-ghost use Rattle.refusals.specs.Refusals.{failedAt};
 
 pub enum Fault {
     TooLong,
@@ -32,11 +30,4 @@ pub struct Refusal {
 pub enum Outcome {
     Passed,
     Failed(Refusal),
-}
-
-// What a stage with this refusal comes to.
-pub fn failed(fault: Fault, place: usize) -> Outcome
-    ensures { λ r. ⌜ r ≡ failedAt fault place ⌝ }
-{
-    Outcome::Failed(Refusal { fault, place })
 }

@@ -13,7 +13,6 @@ use Rattle.surface.specs.Answered.{writtenOf, comparisonOf, locationOf, 
 
 -- no refusal has the number 0
 refusal-numbered : (f : Fault) → eqb (number f) 0 ≡ false
-unfolding number
 refusal-numbered TooLong = refl
 refusal-numbered UnusableAdvice = refl
 refusal-numbered NoOpening = refl

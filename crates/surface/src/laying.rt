@@ -18,7 +18,7 @@ use answers::Listed;
 use answers::Located;
 use answers::Stored;
 use refusals::Refusal;
-use reporting::number_of;
+use refusing::number_of;
 
 fn refusal_number(refusal: Refusal) -> u32
     ensures { λ r. ⌜ r ≡ number (refusal .fault) ⌝ }

@@ -13,13 +13,14 @@ use Rattle.characters.specs.declared.Characters.{Characters}
 use Rattle.reading.specs.Tokens.{Token, tokensAt}
 use Rattle.reading.specs.Values.{bytesOf, endedBy}
 use Rattle.reading.proofs.Ends.{through-ends}
-use Rattle.segments.specs.declared.Kind.the-variants.{User}
-use Rattle.segments.specs.Kinds.{kindNamed}
+use Rattle.segments.specs.declared.Kind.{Kind}
+use Rattle.segments.specs.declared.Kind.the-variants.{Unb, Ung, Unh, Uns, Unt, Une, Unz, User}
+use Rattle.segments.specs.Kinds.{is, kindNamed}
 use Rattle.segments.specs.Tags.{tagPiece, tagOf, kindOf, isTag, tagRule}
 use Rattle.scanner.specs.Scan.{segmentAt}
 use Rattle.tagging.specs.declared.Word.{Word}
 use Rattle.tagging.specs.Words.{movedOn, lastFour, pieceAt, valueAt, Words}
-use Rattle.tagging.specs.Naming.{wellNamed}
+use Rattle.tagging.specs.Naming.{wellNamed, isUser}
 
 -- ---- tags by their bytes
 
@@ -45,6 +46,18 @@ named-user tag h =
 pub well-named-not : (tag : List ℕ) (alone : Bool) → (length tag ≡ 3 → ⊥) → false ≡ wellNamed tag alone
 unfolding wellNamed isTag
 well-named-not tag alone h = simp (ne-eqb (length tag) 3 h)
+
+-- a user segment, kind by kind
+pub user-is : (kind : Kind) → isUser kind ≡ is User kind
+unfolding is
+user-is Unb = refl
+user-is Ung = refl
+user-is Unh = refl
+user-is Uns = refl
+user-is Unt = refl
+user-is Une = refl
+user-is Unz = refl
+user-is User = refl
 
 -- ---- values of one, three and four bytes, from the word that was read
 

@@ -7,11 +7,11 @@ ghost use mathlib.Core.Bool.{_||_};
 ghost use mathlib.Core.List.{[], _∷_};
 ghost use lib.Dec.{leb};
 ghost use Rattle.characters.specs.Characters.{upper, digit};
-ghost use Rattle.segments.specs.Kinds.{is, kindNamed};
+ghost use Rattle.segments.specs.Kinds.{kindNamed};
 ghost use Rattle.segments.specs.Tags.{kindOf, isTag, tagRule};
 ghost use Rattle.scanner.specs.Scan.{segmentAt};
 ghost use Rattle.tagging.specs.Words.{begun, grown, passed, Words};
-ghost use Rattle.tagging.specs.Naming.{wellNamed};
+ghost use Rattle.tagging.specs.Naming.{wellNamed, isUser};
 use characters::Characters;
 use scanner::Lexed;
 use scanner::lex;
@@ -162,7 +162,7 @@ fn is_tag(first: u8, second: u8, third: u8) -> bool
 
 // No service segment.
 fn is_user(kind: Kind) -> bool
-    ensures { λ r. ⌜ r ≡ is Kind.User kind ⌝ }
+    ensures { λ r. ⌜ r ≡ isUser kind ⌝ }
 {
     match kind {
         Kind::Unb => false,

@@ -15,7 +15,7 @@ ghost use Rattle.value_lists.specs.Records.{entryOf, recordAt, firstReco
 use characters::Characters;
 use refusals::Fault;
 use refusals::Outcome;
-use refusals::failed;
+use refusing::failed;
 
 // ---- records
 

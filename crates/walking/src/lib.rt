@@ -1,13 +1,12 @@
 // One step of the walk over the segments (paper 01, "Order of segments"): the walk before the first
-// segment, whether a segment of a kind is allowed where the walk stands, the walk behind it, and
-// whether the walk has come to the end of an interchange. Each answers from the walk alone; the laws
-// in proofs/ say that it is the answer of `segments` for all that passed. Going through the segments
+// segment, whether a segment of a kind is allowed where the walk stands, the walk after it, and
+// whether the walk has come to the end of an interchange. Each answers from the walk alone; that this
+// is the answer of `segments` for all that passed is said in `walk_laws`. Going through the segments
 // of an input is left to `ordering`.
 ghost use mathlib.Core.Path.{_≡_};
-ghost use Prim.Native.Nat.{_≤_};
 ghost use mathlib.Core.List.{[]};
 ghost use Rattle.segments.specs.Order.{walkOver};
-ghost use Rattle.walking.specs.Walking.{Within, allowedBefore, allowedBetween, allowedInGroup, allowedInMessage, allowedBy, messageOpened, messageClosed, standsBehind, segmentCounted, messageCounted, groupCounted, headerCounted, steppedBy, isBehind};
+ghost use Rattle.walk_laws.specs.Walking.{Within, allowedBefore, allowedBetween, allowedInGroup, allowedInMessage, atPlace, allowedBy, messageOpened, messageClosed, standsBehind, afterKind, steppedBy, isBehind};
 use segments::Groups;
 use segments::Kind;
 use segments::Messages;
@@ -60,14 +59,15 @@ fn inside_message(kind: Kind) -> bool
     }
 }
 
-// "one or more groups, or one or more messages, not both; then UNZ"
-fn between_groups(w: Walk, kind: Kind) -> bool
-    ensures { λ r. ⌜ r ≡ allowedBetween w kind ⌝ }
+// "one or more groups, or one or more messages, not both; then UNZ": whether a group or a message may
+// begin here, or the interchange end.
+fn between_groups(group: bool, message: bool, end: bool, kind: Kind) -> bool
+    ensures { λ r. ⌜ r ≡ allowedBetween group message end kind ⌝ }
 {
     match kind {
-        Kind::Ung => 0 < w.groups.0 || w.messages.0 == 0,
-        Kind::Unh => w.groups.0 == 0,
-        Kind::Unz => 0 < w.messages.0,
+        Kind::Ung => group,
+        Kind::Unh => message,
+        Kind::Unz => end,
         Kind::Unb => false,
         Kind::Uns => false,
         Kind::Unt => false,
@@ -76,13 +76,13 @@ fn between_groups(w: Walk, kind: Kind) -> bool
     }
 }
 
-// "A group is UNG, one or more messages, UNE."
-fn in_group(w: Walk, kind: Kind) -> bool
-    ensures { λ r. ⌜ r ≡ allowedInGroup w kind ⌝ }
+// "A group is UNG, one or more messages, UNE.": whether it may end here.
+fn in_group(end: bool, kind: Kind) -> bool
+    ensures { λ r. ⌜ r ≡ allowedInGroup end kind ⌝ }
 {
     match kind {
         Kind::Unh => true,
-        Kind::Une => 0 < w.in_group.0,
+        Kind::Une => end,
         Kind::Unb => false,
         Kind::Ung => false,
         Kind::Uns => false,
@@ -92,19 +92,31 @@ fn in_group(w: Walk, kind: Kind) -> bool
     }
 }
 
+// What is allowed at a standing place, of what is allowed at each.
+fn at_place(standing: Standing, before: bool, between: bool, group: bool, message: bool) -> bool
+    ensures { λ r. ⌜ r ≡ atPlace standing before between group message ⌝ }
+{
+    match standing {
+        Standing::BeforeInterchange => before,
+        Standing::BetweenGroups => between,
+        Standing::InGroup => group,
+        Standing::InGroupMessage => message,
+        Standing::InMessage => message,
+        Standing::BehindInterchange => false,
+    }
+}
+
 // A segment of this kind is allowed where the walk stands.
 pub fn allowed(w: Walk, kind: Kind) -> bool
     ensures { λ r. ⌜ r ≡ allowedBy w kind ⌝ }
 {
     let standing = w.standing;
-    match standing {
-        Standing::BeforeInterchange => before_interchange(kind),
-        Standing::BetweenGroups => between_groups(w, kind),
-        Standing::InGroup => in_group(w, kind),
-        Standing::InGroupMessage => inside_message(kind),
-        Standing::InMessage => inside_message(kind),
-        Standing::BehindInterchange => false,
-    }
+    let before = before_interchange(kind);
+    let group_begins = (0 < w.groups.0) | (w.messages.0 == 0);
+    let message_begins = w.groups.0 == 0;
+    let between = between_groups(group_begins, message_begins, 0 < w.messages.0, kind);
+    let group = in_group(0 < w.in_group.0, kind);
+    at_place(standing, before, between, group, inside_message(kind))
 }
 
 fn opened_message(standing: Standing) -> Standing
@@ -148,82 +160,40 @@ fn stands(standing: Standing, kind: Kind) -> Standing
     }
 }
 
-fn segment_counted(standing: Standing, w: Walk) -> Walk
-    requires { ⌜ Within 32000 w ⌝ }
-    ensures { λ r. ⌜ r ≡ segmentCounted standing w ⌝ }
-{
-    let messages = w.messages;
-    let groups = w.groups;
-    let in_group = w.in_group;
-    Walk {
-        standing,
-        segments: Segments(w.segments.0 + 1),
-        messages,
-        groups,
-        in_message: Segments(w.in_message.0 + 1),
-        in_group,
-    }
-}
-
-fn message_counted(w: Walk) -> Walk
-    requires { ⌜ (w .messages .0 ≤ 32000) × (w .in_group .0 ≤ 32000) ⌝ }
-    ensures { λ r. ⌜ r ≡ messageCounted w ⌝ }
-{
-    let standing = w.standing;
-    let segments = w.segments;
-    let groups = w.groups;
-    Walk {
-        standing,
-        segments,
-        messages: Messages(w.messages.0 + 1),
-        groups,
-        in_message: Segments(1),
-        in_group: Messages(w.in_group.0 + 1),
-    }
-}
-
-fn group_counted(w: Walk) -> Walk
-    requires { ⌜ w .groups .0 ≤ 32000 ⌝ }
-    ensures { λ r. ⌜ r ≡ groupCounted w ⌝ }
-{
-    let standing = w.standing;
-    let segments = w.segments;
-    let messages = w.messages;
-    let in_message = w.in_message;
-    Walk {
-        standing,
-        segments,
-        messages,
-        groups: Groups(w.groups.0 + 1),
-        in_message,
-        in_group: Messages(0),
-    }
-}
-
-fn header_counted(w: Walk, kind: Kind) -> Walk
-    requires { ⌜ (w .messages .0 ≤ 32000) × (w .groups .0 ≤ 32000) × (w .in_group .0 ≤ 32000) ⌝ }
-    ensures { λ r. ⌜ r ≡ headerCounted w kind ⌝ }
+// A counter after a segment of this kind, of what it is after UNH, after UNG and after any other.
+fn counted(kind: Kind, message: u32, group: u32, other: u32) -> u32
+    ensures { λ r. ⌜ r ≡ afterKind kind message group other ⌝ }
 {
     match kind {
-        Kind::Unh => message_counted(w),
-        Kind::Ung => group_counted(w),
-        Kind::Unb => w,
-        Kind::Uns => w,
-        Kind::Unt => w,
-        Kind::Une => w,
-        Kind::Unz => w,
-        Kind::User => w,
+        Kind::Unh => message,
+        Kind::Ung => group,
+        Kind::Unb => other,
+        Kind::Uns => other,
+        Kind::Unt => other,
+        Kind::Une => other,
+        Kind::Unz => other,
+        Kind::User => other,
     }
 }
 
-// The walk behind a segment of this kind, which is allowed there.
+// The walk after a segment of this kind, which is allowed there.
 pub fn stepped(w: Walk, kind: Kind) -> Walk
     requires { ⌜ Within 32000 w ⌝ }
     ensures { λ r. ⌜ r ≡ steppedBy w kind ⌝ }
 {
     let standing = w.standing;
-    let behind = stands(standing, kind);
-    header_counted(segment_counted(behind, w), kind)
+    let messages = w.messages.0;
+    let groups = w.groups.0;
+    let in_message = w.in_message.0 + 1;
+    let in_group = w.in_group.0;
+    Walk {
+        standing: stands(standing, kind),
+        segments: Segments(w.segments.0 + 1),
+        messages: Messages(counted(kind, messages + 1, messages, messages)),
+        groups: Groups(counted(kind, groups, groups + 1, groups)),
+        in_message: Segments(counted(kind, 1, in_message, in_message)),
+        in_group: Messages(counted(kind, in_group + 1, 0, in_group)),
+    }
 }
 
 // Nothing more may follow, and nothing is missing.

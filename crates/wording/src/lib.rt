@@ -8,7 +8,7 @@ ghost use Rattle.machines.specs.Walks.{worded};
 use characters::Characters;
 use refusals::Fault;
 use refusals::Outcome;
-use refusals::failed;
+use refusing::failed;
 use scanner::Scanned;
 use scanner::scan;
 use tagging::tag_holds;

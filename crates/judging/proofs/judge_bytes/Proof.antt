@@ -11,11 +11,8 @@ use Rattle.judging.proofs.Stages.{walk-failed, walk-passed, refused-by,
 use Rattle.judging.proofs.judge_bytes.Statement.{statement}
 use Rattle.judging.proofs.judge_bytes.Tie as tie
 
-classes-requires : tie.Need-classes-requires
-classes-requires c κs = search needs
-
 in-level-requires : tie.Need-in-level-requires
-in-level-requires c κs = c .before .classes .ensures
+in-level-requires c κs = search needs
 
 enum-known-r : tie.Need-enum-known-r
 enum-known-r c = search needs
@@ -24,21 +21,21 @@ enum-told : tie.Need-enum-told
 enum-told c = search needs
 
 judge-order-requires : tie.Need-judge-order-requires
-judge-order-requires c κs = (c .before .before .before .before .before .before .pre .0, c .before .before .before .before .before .before .pre .1)
+judge-order-requires c κs = (c .before .before .before .before .pre .0, c .before .before .before .before .pre .1)
 
 returns : tie.Need-returns
 unfolding fromBytes
 returns c =
-    let s = c .before .before .before .before .before .before .before .args .s .now in
-    let e = c .before .before .before .in-level .ensures ∙ ap (λ (l : ℕ). outcome (leveled l (tokensAt (c .before .before .before .before .before .before .before .args .c) s (c .before .before .before .before .before .before .before .args .start)))) (c .before .before .before .before .before .before .before .pre .2) in
-    refused-by s (fromOrder s) (walk-failed s (c .before .before .before .before .before .before .before .pre .0) (leveled (level s)) e (c .before .r .given .1))
+    let s = c .before .before .before .before .before .args .s .now in
+    let e = c .before .before .before .in-level .ensures ∙ ap (λ (l : ℕ). outcome (leveled l (tokensAt (c .before .before .before .before .before .args .c) s (c .before .before .before .before .before .args .start)))) (c .before .before .before .before .before .pre .2) in
+    refused-by s (fromOrder s) (walk-failed s (c .before .before .before .before .before .pre .0) (leveled (level s)) e (c .before .r .given .1))
 
 returns-2 : tie.Need-returns-2
 unfolding fromBytes
 returns-2 c =
-    let s = c .before .before .before .before .before .before .before .args .s .now in
-    let e = c .before .before .before .in-level .ensures ∙ ap (λ (l : ℕ). outcome (leveled l (tokensAt (c .before .before .before .before .before .before .before .args .c) s (c .before .before .before .before .before .before .before .args .start)))) (c .before .before .before .before .before .before .before .pre .2) in
-    c .judge-order .ensures ∙ left-to s (fromOrder s) (walk-passed s (c .before .before .before .before .before .before .before .pre .0) (leveled (level s)) e (c .before .enum-told .given .1))
+    let s = c .before .before .before .before .before .args .s .now in
+    let e = c .before .before .before .in-level .ensures ∙ ap (λ (l : ℕ). outcome (leveled l (tokensAt (c .before .before .before .before .before .args .c) s (c .before .before .before .before .before .args .start)))) (c .before .before .before .before .before .pre .2) in
+    c .judge-order .ensures ∙ left-to s (fromOrder s) (walk-passed s (c .before .before .before .before .before .pre .0) (leveled (level s)) e (c .before .enum-told .given .1))
 
 pub judge-bytes-spec : {M : Type 1} → statement M
-judge-bytes-spec = tie.close (tie.spec classes-requires in-level-requires enum-known-r enum-told judge-order-requires returns returns-2)
+judge-bytes-spec = tie.close (tie.spec in-level-requires enum-known-r enum-told judge-order-requires returns returns-2)

@@ -5,19 +5,20 @@ use mathlib.Core.Path.{_≡_, refl, sym, ap, _∙_}
 use native.Mathlib.Omega.{arith}
 use lib.ListN.{length}
 use borrow.Author.Needs.{needs}
+use borrow.Author.Tests.{not-true, not-false}
 use Rattle.refusals.specs.Refusals.{outcome}
 use Rattle.reading.specs.Tokens.{tokensAt}
 use Rattle.machines.specs.Walks.{leveled}
 use Rattle.scanner.proofs.Lexing.{lexes-as}
-use Rattle.leveling.proofs.Steps.{level-inside, level-outside, level-separator, level-fault, level-end}
+use Rattle.leveling.proofs.Steps.{level-byte, level-separator, level-fault, level-end}
 use Rattle.leveling.proofs.first_outside.Statement.{statement}
 use Rattle.leveling.proofs.first_outside.Tie as tie
 
 abbrev Inv-loop : tie.InvT-loop
-Inv-loop s c classes level start at₀ at = leveled level (tokensAt c s start) ≡ leveled level (tokensAt c s at)
+Inv-loop s c level start at₀ at = leveled level (tokensAt c s start) ≡ leveled level (tokensAt c s at)
 
 abbrev μ-loop : tie.MeasureT-loop
-μ-loop s c classes level start at₀ at = length s - at
+μ-loop s c level start at₀ at = length s - at
 
 loop-holds : tie.Need-loop-holds Inv-loop μ-loop
 loop-holds c = refl
@@ -28,14 +29,14 @@ lex-requires c κs = search needs
 enum-known-byte : tie.Need-enum-known-byte Inv-loop μ-loop
 enum-known-byte c = search needs
 
-class-of-requires : tie.Need-class-of-requires Inv-loop μ-loop
-class-of-requires c κs = search needs
+is-in-level-requires : tie.Need-is-in-level-requires Inv-loop μ-loop
+is-in-level-requires c κs = search needs
 
 returns : tie.Need-returns Inv-loop μ-loop
 unfolding outcome
 returns c =
     let l = lexes-as (c .before .before .before .before .before .before .before .before .args .c) (c .before .before .before .before .before .before .before .before .args .s .now) (c .before .before .before .before .before .before .loop .at) (c .before .before .before .before .before .lex .ensures) (c .before .before .before .byte .given .1) in
-    ap outcome (sym (c .before .before .before .before .before .before .loop .inv ∙ level-outside _ (l .0) (omega arith)))
+    ap outcome (sym (c .before .before .before .before .before .before .loop .inv ∙ level-byte _ (l .0) (sym (c .before .is-in-level .ensures) ∙ not-true (c .before .is-in-level .result) (c .if1 .taken))))
 
 loop-less : tie.Need-loop-less Inv-loop μ-loop
 loop-less c = let l = lexes-as (c .before .before .before .before .before .before .before .before .args .c) (c .before .before .before .before .before .before .before .before .args .s .now) (c .before .before .before .before .before .before .loop .at) (c .before .before .before .before .before .lex .ensures) (c .before .before .before .byte .given .1) in omega arith
@@ -43,7 +44,7 @@ loop-less c = let l = lexes-as (c .before .before .before .before .before .befor
 loop-again : tie.Need-loop-again Inv-loop μ-loop
 loop-again c =
     let l = lexes-as (c .before .before .before .before .before .before .before .before .args .c) (c .before .before .before .before .before .before .before .before .args .s .now) (c .before .before .before .before .before .before .loop .at) (c .before .before .before .before .before .lex .ensures) (c .before .before .before .byte .given .1) in
-    c .before .before .before .before .before .before .loop .inv ∙ level-inside _ (l .0) (omega arith)
+    c .before .before .before .before .before .before .loop .inv ∙ level-byte _ (l .0) (sym (c .before .is-in-level .ensures) ∙ not-false (c .before .is-in-level .result) (c .if1 .left))
 
 enum-known-next : tie.Need-enum-known-next Inv-loop μ-loop
 enum-known-next c = search needs
@@ -79,7 +80,7 @@ first-outside-spec =
     loop-holds
     lex-requires
     enum-known-byte
-    class-of-requires
+    is-in-level-requires
     returns
     loop-less
     loop-again

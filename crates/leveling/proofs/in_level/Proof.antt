@@ -7,14 +7,14 @@ use Rattle.leveling.proofs.Inside.{all-leveled}
 use Rattle.leveling.proofs.in_level.Statement.{statement}
 use Rattle.leveling.proofs.in_level.Tie as tie
 
-all-inside-requires : tie.Need-all-inside-requires
-all-inside-requires c κs = search needs
+all-in-level-requires : tie.Need-all-in-level-requires
+all-in-level-requires c κs = search needs
 
 returns : tie.Need-returns
 unfolding outcome
 returns c =
     ap outcome (sym (all-leveled (c .before .before .before .args .c) (c .before .before .before .args .level) (c .before .before .before .args .s .now) (c .before .before .before .args .start)
-    (sym (c .before .all-inside .ensures) ∙ c .if1 .taken)))
+    (sym (c .before .all-in-level .ensures) ∙ c .if1 .taken)))
 
 first-outside-requires : tie.Need-first-outside-requires
 first-outside-requires c κs = search needs
@@ -23,4 +23,4 @@ returns-2 : tie.Need-returns-2
 returns-2 c = search needs
 
 pub in-level-spec : {M : Type 1} → statement M
-in-level-spec = tie.close (tie.spec all-inside-requires returns first-outside-requires returns-2)
+in-level-spec = tie.close (tie.spec all-in-level-requires returns first-outside-requires returns-2)

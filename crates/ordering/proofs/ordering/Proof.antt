@@ -9,9 +9,9 @@ use borrow.Author.Needs.{needs}
 use borrow.Author.Tests.{not-true, not-false}
 use Rattle.segments.specs.declared.Walk.{Walk}
 use Rattle.segments.specs.Order.{walkOver}
-use Rattle.walking.specs.Walking.{Within}
-use Rattle.walking.proofs.Counts.{within-more, within-step}
-use Rattle.walking.proofs.Walks.{within-over}
+use Rattle.walk_laws.specs.Walking.{Within}
+use Rattle.walk_laws.proofs.Counts.{within-more, within-step}
+use Rattle.walk_laws.proofs.Walks.{within-over}
 use Rattle.ordering.proofs.GoesOn.{goesAt, goes-over, goes-end, goes-wrong, goes-next}
 use Rattle.ordering.proofs.ordering.Statement.{statement}
 use Rattle.ordering.proofs.ordering.Tie as tie

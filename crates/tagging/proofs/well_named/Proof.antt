@@ -6,6 +6,7 @@ use Rattle.segments.specs.declared.Kind.the-variants.{User}
 use Rattle.segments.specs.Kinds.{is}
 use Rattle.tagging.specs.Naming.{wellNamed}
 use borrow.Author.Needs.{needs}
+use Rattle.tagging.proofs.Tagging.{user-is}
 use Rattle.tagging.proofs.well_named.Statement.{statement}
 use Rattle.tagging.proofs.well_named.Tie as tie
 
@@ -46,7 +47,7 @@ returns-4 c =
       sym (c .before .before .before .before .before .before .is-tag .ensures) ∙ not-false (c .before .before .before .before .before .before .is-tag .result) (c .before .before .before .before .before .if1 .left),
       eq-eqb 85 (c .before .before .before .before .before .before .before .args .first) (sym (c .before .before .before .before .if2 .left)),
       eq-eqb 78 (c .before .before .before .before .before .before .before .args .second) (sym (c .before .before .before .if3 .left)),
-      sym (c .before .is-user .ensures ∙ ap (is User) (c .before .before .kind-named .ensures)) ∙ c .if4 .taken,
+      sym (c .before .is-user .ensures ∙ user-is (c .before .before .kind-named .result) ∙ ap (is User) (c .before .before .kind-named .ensures)) ∙ c .if4 .taken,
     )
 
 returns-5 : tie.Need-returns-5
@@ -56,7 +57,7 @@ returns-5 c =
       sym (c .before .before .before .before .before .before .is-tag .ensures) ∙ not-false (c .before .before .before .before .before .before .is-tag .result) (c .before .before .before .before .before .if1 .left),
       eq-eqb 85 (c .before .before .before .before .before .before .before .args .first) (sym (c .before .before .before .before .if2 .left)),
       eq-eqb 78 (c .before .before .before .before .before .before .before .args .second) (sym (c .before .before .before .if3 .left)),
-      sym (c .before .is-user .ensures ∙ ap (is User) (c .before .before .kind-named .ensures)) ∙ c .if4 .left,
+      sym (c .before .is-user .ensures ∙ user-is (c .before .before .kind-named .result) ∙ ap (is User) (c .before .before .kind-named .ensures)) ∙ c .if4 .left,
     )
 
 pub well-named-spec : {M : Type 1} → statement M

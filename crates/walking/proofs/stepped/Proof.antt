@@ -1,31 +1,53 @@
--- `walking::stepped` meets its contract: what the three calls ensure, one put into the other. Assumes nothing.
-use Prim.Native.Nat.{_≤_}
-use mathlib.Core.Path.{ap, subst⁻¹, _∙_}
-use Rattle.segments.specs.declared.Standing.{Standing}
-use Rattle.segments.specs.declared.Walk.{Walk}
-use Rattle.walking.specs.Walking.{segmentCounted, headerCounted}
+-- `walking::stepped` meets its contract: what the calls ensure of the place and of each counter, put into one walk. Assumes nothing.
 use borrow.Author.Needs.{needs}
 use Rattle.walking.proofs.stepped.Statement.{statement}
 use Rattle.walking.proofs.stepped.Tie as tie
 
+add-in-message : tie.Need-add-in-message
+add-in-message c = search needs
+
 stands-requires : tie.Need-stands-requires
 stands-requires c κs = search needs
 
-segment-counted-requires : tie.Need-segment-counted-requires
-segment-counted-requires c κs = search needs
+add-t9 : tie.Need-add-t9
+add-t9 c = search needs
 
-header-counted-requires : tie.Need-header-counted-requires
-header-counted-requires c κs =
-    subst⁻¹ (λ (w : Walk). (w .messages .0 ≤ 32000) × (w .groups .0 ≤ 32000) × (w .in_group .0 ≤ 32000)) (c .segment-counted .ensures)
-    (c .before .before .pre .messages, c .before .before .pre .groups, c .before .before .pre .in-group)
+add-counted : tie.Need-add-counted
+add-counted c = search needs
+
+counted-requires : tie.Need-counted-requires
+counted-requires c κs = search needs
+
+add-counted-2 : tie.Need-add-counted-2
+add-counted-2 c = search needs
+
+counted-requires-2 : tie.Need-counted-requires-2
+counted-requires-2 c κs = search needs
+
+counted-requires-3 : tie.Need-counted-requires-3
+counted-requires-3 c κs = search needs
+
+add-counted-3 : tie.Need-add-counted-3
+add-counted-3 c = search needs
+
+counted-requires-4 : tie.Need-counted-requires-4
+counted-requires-4 c κs = search needs
 
 returns : tie.Need-returns
-returns c =
-    let args = c .before .before .before .args in
-    c .header-counted .ensures
-    ∙ ap (λ (w : Walk). headerCounted w (args .kind)) (c .before .segment-counted .ensures)
-    ∙ ap (λ (place : Standing). headerCounted (segmentCounted place (args .w)) (args .kind)) (c .before .before .stands .ensures)
+returns c = cc
 
 pub stepped-spec : {M : Type 1} → statement M
 stepped-spec =
-    tie.close (tie.spec stands-requires segment-counted-requires header-counted-requires returns)
+    tie.close
+    (tie.spec
+    add-in-message
+    stands-requires
+    add-t9
+    add-counted
+    counted-requires
+    add-counted-2
+    counted-requires-2
+    counted-requires-3
+    add-counted-3
+    counted-requires-4
+    returns)
