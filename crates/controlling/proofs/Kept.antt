@@ -26,7 +26,7 @@ use Rattle.segments.specs.Order.{walkOver}
 use Rattle.control.specs.Positions.{positionTable, positionsOf}
 use Rattle.control.specs.Control.{isReference, isCount, standsWell, controlRule, referenceOf, sameValue, nearestReference}
 use Rattle.elements.specs.Elements.{ElementAt}
-use Rattle.fields.specs.Fields.{valueIn}
+use Rattle.elements.specs.Values.{valueIn}
 use Rattle.fields.proofs.Control.{reference-value-at}
 use Rattle.walking.specs.Walking.{Counts, steppedBy}
 use Rattle.walking.proofs.Counts.{counts-step, counts-walk}

@@ -28,7 +28,8 @@ use Rattle.control.specs.Positions.{positionTable, positionsOf}
 use Rattle.control.specs.Control.{isReference, standsWell, controlRule, headerOf, referenceOf, sameValue, nearestReference, referenceDiffers, decimal, trueCount, countOf, countWrong}
 use Rattle.machines.specs.Walks.{refuse, controlledSegment}
 use Rattle.elements.specs.Elements.{elementFrom, ElementAt}
-use Rattle.fields.specs.Fields.{valueIn, fieldOf, spellsReference, spellsCount}
+use Rattle.elements.specs.Values.{valueIn}
+use Rattle.fields.specs.Fields.{fieldOf, spellsReference, spellsCount}
 use Rattle.fields.proofs.Control.{count-is, count-number, reference-at, reference-value-at}
 use Rattle.controlling.specs.declared.Headers.{Headers}
 use Rattle.controlling.specs.Controlling.{headerKept, countDue, trailerBy, controlledBy}

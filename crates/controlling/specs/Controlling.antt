@@ -16,7 +16,8 @@ use Rattle.segments.specs.declared.Walk.{Walk}
 use Rattle.segments.specs.Kinds.{is}
 use Rattle.control.specs.declared.Positions.{Positions}
 use Rattle.elements.specs.Elements.{elementFrom}
-use Rattle.fields.specs.Fields.{valueIn, fieldOf, spellsReference, spellsCount}
+use Rattle.elements.specs.Values.{valueIn}
+use Rattle.fields.specs.Fields.{fieldOf, spellsReference, spellsCount}
 use Rattle.controlling.specs.declared.Headers.{Headers}
 
 -- ---- the headers

@@ -16,7 +16,6 @@ use elements::element_at;
 use fields::field_at;
 use fields::is_count;
 use fields::is_reference;
-use fields::same_value;
 use refusals::Fault;
 use refusals::Outcome;
 use refusals::failed;
@@ -24,6 +23,7 @@ use scanner::segment_end;
 use segments::Kind;
 use segments::Walk;
 use tagging::kind_at;
+use trimmed_values::same_value;
 use walking::beginning;
 use walking::stepped;
 

@@ -1,10 +1,11 @@
-// Pieces where they are spelled: at which place an element of a segment, or a component of an element,
-// begins; and whether a byte of a value stands in a piece. It promises the pieces into which `reading`
-// cuts the larger piece, by their numbers.
-ghost use Prim.Native.Nat.{_<_};
+// Pieces where they are spelled: at which place a segment, an element of a segment or a component of an
+// element begins, whether a byte of a value stands in a piece, and a value byte by byte up to its end.
+// It promises the pieces into which `reading` cuts the larger piece, by their numbers. What trimming
+// leaves of them is left to `trimmed_values`.
 ghost use mathlib.Core.Path.{_≡_};
 ghost use Rattle.reading.specs.Tokens.{tokensAt};
-ghost use Rattle.elements.specs.Elements.{PieceAt, ElementAt, holdsByte};
+ghost use Rattle.elements.specs.Elements.{PieceAt, SegmentAt, ElementAt, ComponentAt, holdsByte};
+ghost use Rattle.elements.specs.Values.{EndsAt, NextAt};
 use characters::Characters;
 use scanner::Lexed;
 use scanner::lex;
@@ -12,7 +13,6 @@ use scanner::lex;
 // Where the piece of that number begins, of those that separators of this kind end, in the larger piece
 // that begins at `from`, which a separator of a lower kind ends. The input's length where there is none.
 pub fn piece_at(s: &[u8], c: Characters, from: usize, kind: u8, number: usize) -> usize
-    requires { ⌜ 0 < kind ⌝ }
     ensures { λ r. ⌜ PieceAt c (now (s .entry)) from kind number r ⌝ }
 {
     let mut at = from;
@@ -47,12 +47,27 @@ pub fn piece_at(s: &[u8], c: Characters, from: usize, kind: u8, number: usize) -
     at
 }
 
+// Where the segment of that number begins, from 0 at `start`. The input's length where there are fewer.
+pub fn segment_at(s: &[u8], c: Characters, start: usize, number: usize) -> usize
+    ensures { λ r. ⌜ SegmentAt c (now (s .entry)) start number r ⌝ }
+{
+    piece_at(s, c, start, 0, number)
+}
+
 // Where the element of that number begins in the segment that begins at `from`; 0 is the tag.
 // The input's length where the segment has no such element.
 pub fn element_at(s: &[u8], c: Characters, from: usize, position: usize) -> usize
     ensures { λ r. ⌜ ElementAt c (now (s .entry)) from position r ⌝ }
 {
     piece_at(s, c, from, 1, position)
+}
+
+// Where the component of that number begins in the element that begins at `from`. The input's length
+// where the element has no such component.
+pub fn component_at(s: &[u8], c: Characters, from: usize, number: usize) -> usize
+    ensures { λ r. ⌜ ComponentAt c (now (s .entry)) from number r ⌝ }
+{
+    piece_at(s, c, from, 2, number)
 }
 
 // A byte of a value stands from here on, before a separator of this kind or a lower one.
@@ -80,6 +95,55 @@ pub fn holds_byte(s: &[u8], c: Characters, from: usize, rank: u8) -> bool
             }
             Lexed::End => {
                 return false;
+            }
+        }
+    }
+}
+
+// What is next in a value: a byte and the place to read on, or the place of what ends the value.
+pub enum NextByte {
+    Byte { byte: u8, next: usize },
+    Ended { place: usize },
+}
+
+pub fn byte_at(s: &[u8], c: Characters, from: usize) -> NextByte
+    ensures { λ r. ⌜ NextAt c (now (s .entry)) from r ⌝ }
+{
+    let mut at = from;
+    loop {
+        match lex(s, c, at) {
+            Lexed::Byte {
+                byte,
+                place: _,
+                next,
+            } => {
+                return NextByte::Byte { byte, next };
+            }
+            Lexed::Separator { kind: _, next: _ } => {
+                return NextByte::Ended { place: at };
+            }
+            Lexed::Stray { next } => {
+                at = next;
+            }
+            Lexed::End => {
+                return NextByte::Ended { place: at };
+            }
+        }
+    }
+}
+
+// Where the separator stands that ends the value which begins at `from`; the input's end where none does.
+pub fn value_end(s: &[u8], c: Characters, from: usize) -> usize
+    ensures { λ r. ⌜ EndsAt c (now (s .entry)) from r ⌝ }
+{
+    let mut at = from;
+    loop {
+        match byte_at(s, c, at) {
+            NextByte::Byte { byte: _, next } => {
+                at = next;
+            }
+            NextByte::Ended { place } => {
+                return place;
             }
         }
     }

@@ -6,18 +6,15 @@ use mathlib.Core.Bool.{Bool, true, false, _&&_, and-assoc, and-true}
 use mathlib.Core.List.{List, [], _∷_}
 use native.Mathlib.Omega.{arith}
 use native.Mathlib.Numerals.{add-one}
-use native.Mathlib.Nat.{lt-of-not-le}
-use native.Mathlib.Decide.{decLe}
 use lib.ListN.{length, take}
 use lib.Seq.{take-nil}
 use lib.Dec.{ltb}
 use borrow.Author.Tests.{ltb-true, ltb-false}
 use Rattle.lists.specs.Lists.{if_then_else_, all}
 use Rattle.characters.specs.Characters.{digit}
-use Rattle.control.specs.Control.{decimal, decimalFrom}
+use Rattle.control.specs.Control.{decimalFrom}
 use Rattle.fields.specs.declared.Field.{Field}
-use Rattle.fields.specs.Fields.{fieldWith}
-use Rattle.fields.specs.Reading.{ceiling, withDigit, withByte, withBytes, noBytes}
+use Rattle.fields.specs.Reading.{ceiling, withDigit, withByte, withBytes}
 
 -- ---- what is read so far
 
@@ -65,29 +62,21 @@ with-bytes f (b ∷ bs) =
     with-bytes (withByte f b) bs
     ∙ field-same (f .alone) (omega arith) (and-assoc (f .digits) (digit b) (all digit bs)) (number-more (f .size) (f .number) b bs)
 
--- the bytes of a value make its field
-pub field-of-bytes : (value : List ℕ) → withBytes noBytes value ≡ fieldWith value true
-unfolding fieldWith decimal
-field-of-bytes value = with-bytes noBytes value ∙ field-same true (omega arith) refl refl
-
 -- ---- what can be spelled at most
-
-pub ceiling-rises : (k n : ℕ) → n ≤ k → ceiling n ≤ ceiling k
-unfolding ceiling
-ceiling-rises zero zero h = omega arith
-ceiling-rises zero (suc n) h = absurd (omega arith)
-ceiling-rises (suc k) n h = elim (decLe n k) [ yes l ↦ below l (ceiling-rises k n l) | no l ↦ there (lt-of-not-le l) ]
-  where
-    below : n ≤ k → ceiling n ≤ ceiling k → ceiling n ≤ ceiling (suc k)
-    below l ih = omega arith
-
-    there : k < n → ceiling n ≤ ceiling (suc k)
-    there l = let e : n ≡ suc k = omega arith in subst (λ (m : ℕ). ceiling n ≤ ceiling m) e (omega arith)
 
 -- five bytes leave room for a sixth
 pub five-spell : (f : Field) → f .number ≤ ceiling (f .size) → f .size < 6 → f .number ≤ 2299977
 unfolding ceiling
-five-spell f h l = let k = ceiling-rises 5 (f .size) (omega arith) in omega arith
+five-spell f h l = omega (arith, h, most (f .size) l)
+  where
+    most : (n : ℕ) → n < 6 → ceiling n ≤ 2299977
+    most zero k = omega arith
+    most (suc zero) k = omega arith
+    most (suc (suc zero)) k = omega arith
+    most (suc (suc (suc zero))) k = omega arith
+    most (suc (suc (suc (suc zero)))) k = omega arith
+    most (suc (suc (suc (suc (suc zero))))) k = omega arith
+    most (suc (suc (suc (suc (suc (suc n)))))) k = absurd (omega arith)
 
 -- one byte more keeps below what can be spelled
 pub byte-spells : (f : Field) (b : ℕ) → b ≤ 255 → f .number ≤ ceiling (f .size) → withByte f b .number ≤ ceiling (withByte f b .size)

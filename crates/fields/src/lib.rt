@@ -1,17 +1,16 @@
 // Control elements where they are spelled (paper 01, "Control elements"): what a reference or a count
-// is judged by is read off the element as it stands in the input, and nothing is trimmed.
-// It promises the answers that the trimmed contents give.
+// is judged by is read off the element in one pass, and nothing is trimmed. It promises the answers
+// that the element of the trimmed contents gives.
 ghost use mathlib.Core.Path.{_≡_};
 ghost use mathlib.Core.Bool.{_&&_};
-ghost use Rattle.lists.specs.Lists.{same};
 ghost use Rattle.characters.specs.Characters.{between};
 ghost use Rattle.reading.specs.Tokens.{tokensAt};
-ghost use Rattle.fields.specs.Fields.{valueIn, blankIn, fieldOf, spellsReference, spellsCount};
-ghost use Rattle.fields.specs.Reading.{NextAt, isEnded, Room, withDigit, withByte};
+ghost use Rattle.fields.specs.Fields.{fieldOf, spellsReference, spellsCount};
+ghost use Rattle.fields.specs.Reading.{Room, withDigit, withByte};
 use characters::Characters;
-use elements::holds_byte;
-use scanner::Lexed;
-use scanner::lex;
+use elements::NextByte;
+use elements::byte_at;
+use trimmed_values::is_alone;
 
 // An element by its first component: the size in bytes, whether all of them are digits, the number
 // that the first six spell, and whether only empty components follow.
@@ -20,45 +19,6 @@ pub struct Field {
     pub digits: bool,
     pub number: u32,
     pub alone: bool,
-}
-
-// What is next in a value: a byte and the place to read on, or the place of what ends the value.
-pub enum NextByte {
-    Byte { byte: u8, next: usize },
-    Ended { place: usize },
-}
-
-fn byte_at(s: &[u8], c: Characters, from: usize) -> NextByte
-    ensures { λ r. ⌜ NextAt c (now (s .entry)) from r ⌝ }
-{
-    let mut at = from;
-    loop {
-        match lex(s, c, at) {
-            Lexed::Byte {
-                byte,
-                place: _,
-                next,
-            } => {
-                return NextByte::Byte { byte, next };
-            }
-            Lexed::Separator { kind: _, next: _ } => {
-                return NextByte::Ended { place: at };
-            }
-            Lexed::Stray { next } => {
-                at = next;
-            }
-            Lexed::End => {
-                return NextByte::Ended { place: at };
-            }
-        }
-    }
-}
-
-// No byte of a value stands from here to the end of the element.
-fn blank_at(s: &[u8], c: Characters, from: usize) -> bool
-    ensures { λ r. ⌜ r ≡ blankIn (tokensAt c (now (s .entry)) from) ⌝ }
-{
-    !holds_byte(s, c, from, 1)
 }
 
 fn both(a: bool, b: bool) -> bool
@@ -76,7 +36,7 @@ fn is_between(low: usize, high: usize, n: usize) -> bool
     n <= high
 }
 
-// The number that one byte more spells; behind the sixth byte it stays.
+// The number that one byte more spells; after the sixth byte it stays.
 fn with_digit(f: Field, b: u8) -> u32
     requires { ⌜ Room f ⌝ }
     ensures { λ r. ⌜ r ≡ withDigit f b ⌝ }
@@ -124,7 +84,7 @@ pub fn field_at(s: &[u8], c: Characters, from: usize) -> Field
                     size: f.size,
                     digits: f.digits,
                     number: f.number,
-                    alone: blank_at(s, c, place),
+                    alone: is_alone(s, c, place),
                 };
             }
         }
@@ -143,43 +103,4 @@ pub fn is_count(f: Field) -> bool
     ensures { λ r. ⌜ r ≡ spellsCount f ⌝ }
 {
     both(both(f.alone, f.digits), is_between(1, 6, f.size))
-}
-
-fn is_ended(next: NextByte) -> bool
-    ensures { λ r. ⌜ r ≡ isEnded next ⌝ }
-{
-    match next {
-        NextByte::Byte { byte: _, next: _ } => false,
-        NextByte::Ended { place: _ } => true,
-    }
-}
-
-// The values that begin at two places are the same.
-pub fn same_value(s: &[u8], c: Characters, first: usize, second: usize) -> bool
-    ensures { λ r. ⌜ r ≡ same (valueIn (tokensAt c (now (s .entry)) first)) (valueIn (tokensAt c (now (s .entry)) second)) ⌝ }
-{
-    let mut a = first;
-    let mut b = second;
-    loop {
-        match byte_at(s, c, a) {
-            NextByte::Ended { place: _ } => {
-                return is_ended(byte_at(s, c, b));
-            }
-            NextByte::Byte { byte, next } => match byte_at(s, c, b) {
-                NextByte::Ended { place: _ } => {
-                    return false;
-                }
-                NextByte::Byte {
-                    byte: other,
-                    next: behind,
-                } => {
-                    if byte != other {
-                        return false;
-                    }
-                    a = next;
-                    b = behind;
-                }
-            },
-        }
-    }
 }

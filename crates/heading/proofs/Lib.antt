@@ -1,3 +1,1 @@
-pub mod Trimmed
-pub mod Values
 pub mod Heading

@@ -4,46 +4,33 @@
 ghost use mathlib.Core.Path.{_≡_};
 ghost use Rattle.lists.specs.Lists.{maybe};
 ghost use Rattle.levels.specs.Levels.{levelOf};
+ghost use Rattle.reading.specs.Tokens.{tokensAt};
 ghost use Rattle.scanner.specs.Scan.{segmentAt};
-ghost use Rattle.heading.specs.Heading.{versionIn, levelIn};
+ghost use Rattle.elements.specs.Values.{valueIn};
+ghost use Rattle.heading.specs.Heading.{isVersion, numbered};
 use characters::Characters;
+use elements::component_at;
 use elements::element_at;
-use tagging::Word;
-use tagging::word_at;
+use trimmed_values::is_text;
 
-// The version is `1` or `2`.
-fn is_version(word: Word) -> bool
-    ensures { λ r. ⌜ r ≡ versionIn word ⌝ }
+// The value that begins at a place is a version of ours.
+fn is_version(s: &[u8], c: Characters, at: usize) -> bool
+    ensures { λ r. ⌜ r ≡ isVersion (valueIn (tokensAt c (now (s .entry)) at)) ⌝ }
 {
-    if word.size != 1 {
-        return false;
-    }
-    if word.fourth == b'1' {
+    if is_text(s, c, at, b"1") {
         return true;
     }
-    word.fourth == b'2'
+    is_text(s, c, at, b"2")
 }
 
-// 2 for `UNOA`, 1 for `UNOB`, 0 for any other name.
-fn level_named(word: Word) -> u8
-    ensures { λ r. ⌜ r ≡ levelIn word ⌝ }
+// The level that the value which begins at a place names.
+fn level_named(s: &[u8], c: Characters, at: usize) -> u8
+    ensures { λ r. ⌜ r ≡ numbered (valueIn (tokensAt c (now (s .entry)) at)) ⌝ }
 {
-    if word.size != 4 {
-        return 0;
-    }
-    if word.first != b'U' {
-        return 0;
-    }
-    if word.second != b'N' {
-        return 0;
-    }
-    if word.third != b'O' {
-        return 0;
-    }
-    if word.fourth == b'A' {
+    if is_text(s, c, at, b"UNOA") {
         return 2;
     }
-    if word.fourth == b'B' {
+    if is_text(s, c, at, b"UNOB") {
         return 1;
     }
     0
@@ -55,13 +42,8 @@ pub fn level_of(s: &[u8], c: Characters, start: usize) -> u8
     ensures { λ r. ⌜ r ≡ maybe 0 (λ level. level) (levelOf (segmentAt c (now (s .entry)) start)) ⌝ }
 {
     let at = element_at(s, c, start, 1);
-    let name = word_at(s, c, at);
-    if name.kind != 2 {
-        return 0;
-    }
-    let version = word_at(s, c, name.next);
-    if is_version(version) {
-        level_named(name)
+    if is_version(s, c, component_at(s, c, at, 1)) {
+        level_named(s, c, at)
     } else {
         0
     }

@@ -1,4 +1,1 @@
-pub mod Ends
-pub mod Trimmed
-pub mod Values
 pub mod Locating

@@ -5,23 +5,26 @@ use mathlib.Core.Path.{_≡_, refl, sym, ap, ap₂, subst, _∙_}
 use mathlib.Core.List.{List, [], _∷_}
 use mathlib.Core.Option.{Option, none, some}
 use native.Mathlib.Omega.{arith}
-use native.Mathlib.Nat.{zero-add, add-sub-cancel-left, min-eq-left}
+use native.Mathlib.Nat.{add-sub-cancel-left, min-eq-left}
 use lib.ListN.{length, take, drop, length-take, length-drop}
 use denote.Ref.{RefT, ptr, now}
 use Rattle.lists.specs.Lists.{through, at, cut, trimEnd, maybe}
-use Rattle.lists.proofs.Pieces.{cut-first}
-use Rattle.lists.proofs.Numbers.{at-drop, at-map}
+use Rattle.lists.proofs.Numbers.{at-map}
 use Rattle.characters.specs.declared.Characters.{Characters}
 use Rattle.characters.specs.Characters.{bodyStart}
 use Rattle.refusals.specs.declared.Refusal.{Refusal}
-use Rattle.reading.specs.Tokens.{Token, ends, Segment, segments, tokensAt}
+use Rattle.reading.specs.Tokens.{Token, ends, segments, tokensAt}
 use Rattle.reading.specs.Values.{Value, elementsOf}
 use Rattle.reading.specs.Trimming.{trimmed, trimSegment, valueAt}
 use Rattle.scanner.specs.Scan.{segmentAt}
 use Rattle.verdict.specs.Contents.{bodyTokens, segmentsOf}
 use Rattle.verdict.specs.Stages.{refusalOf}
-use Rattle.placing.specs.Placing.{behindPieces, SegmentAt}
-use Rattle.placing.proofs.Placing.{pieces-behind}
+use Rattle.elements.specs.Elements.{outer, segmentFrom, firstPiece, SegmentAt}
+use Rattle.elements.proofs.Elements.{segment-number}
+use Rattle.trimmed_values.specs.declared.Found.{Found}
+use Rattle.trimmed_values.specs.declared.Found.the-variants as found
+use Rattle.trimmed_values.specs.Trimmed.{placed, Inside as InputHolds}
+use Rattle.trimmed_values.proofs.Ends.{Whole, from-whole}
 use Rattle.judging.proofs.Judging.{body-tokens, body-ended}
 use Rattle.judging.proofs.Stages.{accepted-opening, accepted-worded}
 use Rattle.judging.proofs.Told.{characters-of}
@@ -30,11 +33,11 @@ use Rattle.answers.specs.declared.Located.{Located}
 use Rattle.answers.specs.declared.Located.the-variants.{At, Absent, Refused}
 use Rattle.answers.specs.Answers.{Answer, given, refused, toldLocated}
 use Rattle.operations.specs.Judge.{interchangeOf}
-use Rattle.operations.specs.Locate.{located, locate, partOffset, partLength}
+use Rattle.operations.specs.Locate.{located, locate}
 use Rattle.operations.proofs.Answered.{partIn, part-told}
 use Rattle.promises.specs.Promises.{HandsBack}
-use Rattle.locating.specs.Locating.{placed, Inside}
-use Rattle.locating.proofs.Ends.{Whole, behind-whole}
+use Rattle.locating.specs.declared.Span.{Span}
+use Rattle.locating.specs.Locating.{answerOf, Inside, partOf}
 
 module _ (s : List ℕ) (segment element component : ℕ) where
   -- Judge's refusal answers
@@ -52,23 +55,22 @@ module _ (s : List ℕ) (segment element component : ℕ) where
         ap₂ (λ (c : Characters) (p : ℕ). tokensAt c s p) (characters-of s j) b
         ∙ body-tokens s (accepted-opening s a)
 
-    start-is : tokensAt (i .characters) s start ≡ behindPieces (ends 0) segment (bodyTokens s)
-    start-is = d ∙ ap (behindPieces (ends 0) segment) tokens-are
+    start-is : tokensAt (i .characters) s start ≡ segmentFrom segment (bodyTokens s)
+    start-is = d .0 ∙ ap (segmentFrom segment) tokens-are
 
     -- they do not end inside a segment
     pub start-whole : Whole (tokensAt (i .characters) s start)
     start-whole =
         subst Whole (sym start-is)
-        (behind-whole (ends 0) segment (bodyTokens s) (body-ended s (accepted-opening s a) (accepted-worded s a)))
+        (from-whole (outer 0) (ends 0) segment (bodyTokens s) (body-ended s (accepted-opening s a) (accepted-worded s a)))
 
     -- the value of the segment that tokens begin with; of no segment where there are none
     of-segment : (ts : List Token)
-        → maybe none (λ g. valueAt (trimmed g) element component) (at (cut (ends 0) ts) 0)
+        → maybe none (λ g. valueAt (trimmed g) element component) (firstPiece 0 ts)
         ≡ valueAt (trimmed (through (ends 0) ts)) element component
-    unfolding at maybe cut through valueAt trimmed trimSegment trimEnd elementsOf
+    unfolding firstPiece at maybe cut through valueAt trimmed trimSegment trimEnd elementsOf
     of-segment [] = refl
-    of-segment (t ∷ ts) =
-        ap (λ (pieces : List Segment). maybe none (λ g. valueAt (trimmed g) element component) (at pieces 0)) (cut-first (ends 0) t ts)
+    of-segment (t ∷ ts) = refl
 
     -- the value is the one in the segment that was found
     located-is : located s segment element component ≡ valueAt (trimmed (segmentAt (i .characters) s start)) element component
@@ -76,73 +78,68 @@ module _ (s : List ℕ) (segment element component : ℕ) where
     located-is =
         at-map none (λ elements. valueAt elements element component) trimmed (segmentsOf s) segment
         ∙ ap (maybe none (λ g. valueAt (trimmed g) element component))
-        (at-drop (segmentsOf s) segment
-        ∙ ap (λ (pieces : List Segment). at pieces 0) (sym (ap (cut (ends 0)) start-is ∙ pieces-behind (ends 0) segment (bodyTokens s))))
+        (segment-number segment (bodyTokens s) ∙ ap (firstPiece 0) (sym start-is))
         ∙ of-segment (tokensAt (i .characters) s start)
 
-    pub locate-found : {r : Located} → r ≡ placed (valueAt (trimmed (segmentAt (i .characters) s start)) element component)
-        → toldLocated r ≡ locate s segment element component
+    pub locate-found : {f : Found} → f ≡ placed (valueAt (trimmed (segmentAt (i .characters) s start)) element component)
+        → toldLocated (answerOf f) ≡ locate s segment element component
     unfolding locate maybe toldLocated placed
-    locate-found {r} e =
-        ap toldLocated (e ∙ ap placed (sym located-is))
+    locate-found e =
+        ap (λ (f : Found). toldLocated (answerOf f)) (e ∙ ap placed (sym located-is))
         ∙ told (located s segment element component)
         ∙ sym (ap (maybe (maybe (given []) (λ v. given (v .offset ∷ v .spelled ∷ [])) (located s segment element component)) refused) a)
       where
-        told : (o : Option Value) → toldLocated (placed o) ≡ maybe (given []) (λ v. given (v .offset ∷ v .spelled ∷ [])) o
+        told : (o : Option Value) → toldLocated (answerOf (placed o)) ≡ maybe (given []) (λ v. given (v .offset ∷ v .spelled ∷ [])) o
         told none = refl
         told (some v) = refl
 
+-- what was found lies in the input, and so does what is answered
+pub answer-inside : (s : List ℕ) (f : Found) → InputHolds s f → Inside s (answerOf f)
+answer-inside s (found.At offset size) h = h
+answer-inside s found.Absent h = h
+
 -- ---- the part that an answer tells
 
--- what was found lies in the input
 pub found-inside : (s : List ℕ) {r : Located} {o n : ℕ} → Inside s r → r ≡ At o n → o + n ≤ length s
 found-inside s h e = subst (Inside s) e h
 
-module _ (whole : RefT (List ℕ)) (segment element component : ℕ) where
-  -- what the companion hands back
-  abbrev Handed : RefT (List ℕ) → Type 0
-  Handed p = HandsBack whole segment element component p
+module _ (s : List ℕ) (segment element component : ℕ) {r : Located} (told : toldLocated r ≡ locate s segment element component) where
+  part-is : (l : Located) → r ≡ l
+      → record { offset = partIn (toldLocated l .values) .0; length = partIn (toldLocated l .values) .1 } ≡ partOf s segment element component
+  unfolding partOf
+  part-is l e =
+      ap (λ (p : ℕ × ℕ). record { offset = p .0; length = p .1 })
+      (ap (λ (a : Answer). partIn (a .values)) (ap toldLocated (sym e) ∙ told) ∙ part-told s segment element component)
 
-  -- its offset and its length
-  abbrev bounds : ℕ × ℕ
-  bounds = (partOffset (now whole) segment element component, partLength (now whole) segment element component)
+  -- the part that was found, or zero bytes at the input's start
+  pub part-found : {o n : ℕ} → r ≡ At o n → record { offset = o; length = n } ≡ partOf s segment element component
+  unfolding toldLocated given partIn
+  part-found e = part-is _ e
 
-  -- an answer tells them
-  told-by : {r l : Located} → toldLocated r ≡ locate (now whole) segment element component → r ≡ l
-      → bounds ≡ partIn (toldLocated l .values)
-  told-by told e =
-      sym (part-told (now whole) segment element component) ∙ ap (λ (a : Answer). partIn (a .values)) (sym told ∙ ap toldLocated e)
+  pub part-absent : r ≡ Absent → record { offset = 0; length = 0 } ≡ partOf s segment element component
+  unfolding toldLocated given partIn
+  part-absent e = part-is Absent e
 
-  -- so much of the input from there on is handed back
-  handed : (o n : ℕ) (p : RefT (List ℕ)) → bounds ≡ (o, n) → o + n ≤ length (now whole) → now p ≡ take n (drop o (now whole))
-      → ptr p ≡ (ptr whole .0, o + ptr whole .1) → Handed p
-  handed o n p e h b q =
-      let from = ap (λ (x : ℕ × ℕ). x .0) (sym e) in
-      let size = ap (λ (x : ℕ × ℕ). x .1) (sym e) in
-      record {
-        place = q ∙ ap (λ (k : ℕ). (ptr whole .0, k + ptr whole .1)) from;
-        long = ap length b ∙ length-take n (drop o (now whole)) ∙ min-eq-left (omega (arith, length-drop o (now whole))) ∙ size;
-        bytes = b ∙ ap₂ (λ (k l : ℕ). take k (drop l (now whole))) size from;
-      }
+  pub part-refused : {q : Refusal} → r ≡ Refused q → record { offset = 0; length = 0 } ≡ partOf s segment element component
+  unfolding toldLocated refused partIn
+  part-refused e = part-is _ e
 
-  module _ (r : Located) (told : toldLocated r ≡ locate (now whole) segment element component) {p : RefT (List ℕ)} where
-    -- the part that was found
-    pub part-found : (o n : ℕ) → Inside (now whole) r → r ≡ At o n → now p ≡ take (o + n - o) (drop o (now whole))
-        → ptr p ≡ (ptr whole .0, o + ptr whole .1) → Handed p
-    unfolding toldLocated given partIn
-    part-found o n h e b q =
-        handed o n p (told-by told e) (found-inside (now whole) h e)
-        (b ∙ ap (λ (k : ℕ). take k (drop o (now whole))) (add-sub-cancel-left o n)) q
-
-    -- zero bytes at the input's start
-    nothing-handed : bounds ≡ (0, 0) → now p ≡ [] → ptr p ≡ ptr whole → Handed p
-    nothing-handed e b q =
-        handed 0 0 p e (omega arith) b (q ∙ ap (λ (k : ℕ). (ptr whole .0, k)) (sym (zero-add (ptr whole .1))))
-
-    pub part-absent : r ≡ Absent → now p ≡ [] → ptr p ≡ ptr whole → Handed p
-    unfolding toldLocated given partIn
-    part-absent e = nothing-handed (told-by told e)
-
-    pub part-refused : {q : Refusal} → r ≡ Refused q → now p ≡ [] → ptr p ≡ ptr whole → Handed p
-    unfolding toldLocated refused partIn
-    part-refused e = nothing-handed (told-by told e)
+-- so much of the input from there on is handed back
+pub handed : (whole : RefT (List ℕ)) (segment element component : ℕ) {part : Span} (p : RefT (List ℕ))
+    → part ≡ partOf (now whole) segment element component → part .offset + part .length ≤ length (now whole)
+    → now p ≡ take (part .offset + part .length - part .offset) (drop (part .offset) (now whole))
+    → ptr p ≡ (ptr whole .0, part .offset + ptr whole .1) → HandsBack whole segment element component p
+unfolding partOf
+handed whole segment element component {part} p e h b q =
+    let from = ap (λ (x : Span). x .offset) e in
+    let size = ap (λ (x : Span). x .length) e in
+    let bytes = b ∙ ap (λ (k : ℕ). take k (drop (part .offset) (now whole))) (add-sub-cancel-left (part .offset) (part .length)) in
+    record {
+      place = q ∙ ap (λ (k : ℕ). (ptr whole .0, k + ptr whole .1)) from;
+      long =
+          ap length bytes
+          ∙ length-take (part .length) (drop (part .offset) (now whole))
+          ∙ min-eq-left (omega (arith, length-drop (part .offset) (now whole)))
+          ∙ size;
+      bytes = bytes ∙ ap₂ (λ (k l : ℕ). take k (drop l (now whole))) size from;
+    }

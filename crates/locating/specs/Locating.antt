@@ -1,29 +1,25 @@
 -- Where a value stands, as it is answered. Assumes nothing.
-use Prim.Native.Nat.{ℕ, zero, suc, _+_, _≤_}
-use mathlib.Core.Bool.{Bool, not}
+use Prim.Native.Nat.{ℕ, _+_, _≤_}
 use mathlib.Core.List.{List}
-use mathlib.Core.Option.{Option, none, some}
 use lib.ListN.{length}
-use Rattle.lists.specs.Lists.{isEmpty}
-use Rattle.reading.specs.Tokens.{Token}
-use Rattle.reading.specs.Values.{Value}
-use Rattle.elements.specs.Elements.{holdsByte}
 use Rattle.answers.specs.declared.Located.{Located}
 use Rattle.answers.specs.declared.Located.the-variants.{At, Absent, Refused}
+use Rattle.operations.specs.Locate.{partOffset, partLength}
+use Rattle.trimmed_values.specs.declared.Found.{Found}
+use Rattle.trimmed_values.specs.declared.Found.the-variants as found
+use Rattle.locating.specs.declared.Span.{Span}
 
--- trimming leaves the piece of that number, which the tokens begin with: the first where it is there at all, any other where a byte
--- of a value stands from it on, in what a separator of this kind ends
-unfoldable pub staysIn : ℕ → ℕ → List Token → Bool
-staysIn rank zero ts = not (isEmpty ts)
-staysIn rank (suc n) ts = holdsByte rank ts
-
--- the place of the value, if there is one
-unfoldable pub placed : Option Value → Located
-placed none = Absent
-placed (some v) = At (v .offset) (v .spelled)
+abbrev pub answerOf : Found → Located
+answerOf (found.At offset size) = At offset size
+answerOf found.Absent = Absent
 
 -- what was found lies in the input
 abbrev pub Inside : List ℕ → Located → Type 0
 Inside s (At offset size) = offset + size ≤ length s
 Inside s Absent = Unit {0}
 Inside s (Refused r) = Unit {0}
+
+-- what the companion hands back
+unfoldable pub partOf : (s : List ℕ) (segment element component : ℕ) → Span
+partOf s segment element component =
+    record { offset = partOffset s segment element component; length = partLength s segment element component }

@@ -5,7 +5,7 @@ use mathlib.Core.Path.{refl}
 use native.Mathlib.Omega.{arith}
 use lib.ListN.{length}
 use borrow.Author.Needs.{needs}
-use Rattle.fields.proofs.Steps.{next-as}
+use Rattle.elements.proofs.Values.{next-as}
 use Rattle.fields.proofs.Loops.{Reads, reads-byte, reads-end}
 use Rattle.fields.proofs.field_at.Statement.{statement}
 use Rattle.fields.proofs.field_at.Tie as tie
@@ -43,13 +43,13 @@ loop-again c =
 enum-known-place : tie.Need-enum-known-place Inv-loop μ-loop
 enum-known-place c = search needs
 
-blank-at-requires : tie.Need-blank-at-requires Inv-loop μ-loop
-blank-at-requires c κs = search needs
+is-alone-requires : tie.Need-is-alone-requires Inv-loop μ-loop
+is-alone-requires c κs = search needs
 
 returns : tie.Need-returns Inv-loop μ-loop
 returns c =
     let n = next-as _ _ _ (c .before .before .before .before .byte-at .ensures) (c .before .before .place .given .1) in
-    reads-end _ _ _ _ _ (c .before .before .before .before .before .loop .inv) _ n (c .blank-at .ensures)
+    reads-end _ _ _ _ _ (c .before .before .before .before .before .loop .inv) _ n (c .is-alone .ensures)
 
 pub field-at-spec : {M : Type 1} → statement M
 field-at-spec =
@@ -64,5 +64,5 @@ field-at-spec =
     loop-less
     loop-again
     enum-known-place
-    blank-at-requires
+    is-alone-requires
     returns)

@@ -1,21 +1,37 @@
--- `heading::is_version` meets its contract: it asks for the bytes of the two versions. Assumes nothing.
-use borrow.Author.Tests.{eq-eqb, ne-eqb}
-use Rattle.lists.specs.Lists.{same}
-use Rattle.heading.specs.Heading.{isVersion, versionIn}
-use Rattle.heading.proofs.Heading.{version-last}
+-- `heading::is_version` meets its contract: it asks for the two versions. Assumes nothing.
+use mathlib.Core.Path.{sym, _∙_}
+use borrow.Author.Needs.{needs}
+use Rattle.heading.specs.Heading.{isVersion}
 use Rattle.heading.proofs.is_version.Statement.{statement}
 use Rattle.heading.proofs.is_version.Tie as tie
 
+slice-aggregate-is-text : tie.Need-slice-aggregate-is-text
+slice-aggregate-is-text c = search needs
+
+is-text-requires : tie.Need-is-text-requires
+is-text-requires c κs = search needs
+
 returns : tie.Need-returns
-unfolding versionIn
-returns c = simp (ne-eqb _ _ (c .if1 .taken))
+unfolding isVersion
+returns c = simp (sym (c .before .is-text .ensures) ∙ c .if1 .taken)
+
+slice-aggregate-is-text-2 : tie.Need-slice-aggregate-is-text-2
+slice-aggregate-is-text-2 c = search needs
+
+is-text-requires-2 : tie.Need-is-text-requires-2
+is-text-requires-2 c κs = search needs
 
 returns-2 : tie.Need-returns-2
-unfolding versionIn isVersion same
-returns-2 c = simp (eq-eqb _ _ (c .before .before .if1 .left), eq-eqb _ _ (c .if2 .taken))
-
-returns-3 : tie.Need-returns-3
-returns-3 c = version-last _ (c .before .before .before .if1 .left) (c .before .if2 .left)
+unfolding isVersion
+returns-2 c = c .is-text2 .ensures ∙ simp (sym (c .before .before .before .is-text .ensures) ∙ c .before .before .if1 .left)
 
 pub is-version-spec : {M : Type 1} → statement M
-is-version-spec = tie.close (tie.spec returns returns-2 returns-3)
+is-version-spec =
+    tie.close
+    (tie.spec
+    slice-aggregate-is-text
+    is-text-requires
+    returns
+    slice-aggregate-is-text-2
+    is-text-requires-2
+    returns-2)

@@ -1,73 +1,52 @@
--- `heading::level_named` meets its contract: it asks for the bytes of the two names. Assumes nothing.
-use borrow.Author.Tests.{eq-eqb, ne-eqb}
-use Rattle.lists.specs.Lists.{same, maybe}
+-- `heading::level_named` meets its contract: it asks for the two names. Assumes nothing.
+use mathlib.Core.Path.{sym, _∙_}
+use borrow.Author.Needs.{needs}
+use Rattle.lists.specs.Lists.{maybe}
 use Rattle.levels.specs.Levels.{levelNamed}
-use Rattle.heading.specs.Heading.{numbered, levelIn}
+use Rattle.heading.specs.Heading.{numbered}
 use Rattle.heading.proofs.level_named.Statement.{statement}
 use Rattle.heading.proofs.level_named.Tie as tie
 
+slice-aggregate-is-text : tie.Need-slice-aggregate-is-text
+slice-aggregate-is-text c = search needs
+
+is-text-requires : tie.Need-is-text-requires
+is-text-requires c κs = search needs
+
 returns : tie.Need-returns
-unfolding levelIn
-returns c = simp (ne-eqb _ _ (c .if1 .taken))
+unfolding numbered levelNamed maybe
+returns c = simp (sym (c .before .is-text .ensures) ∙ c .if1 .taken)
+
+slice-aggregate-is-text-2 : tie.Need-slice-aggregate-is-text-2
+slice-aggregate-is-text-2 c = search needs
+
+is-text-requires-2 : tie.Need-is-text-requires-2
+is-text-requires-2 c κs = search needs
 
 returns-2 : tie.Need-returns-2
-unfolding levelIn numbered levelNamed same maybe
-returns-2 c = simp (eq-eqb _ _ (c .before .before .if1 .left), ne-eqb _ _ (c .if2 .taken))
+unfolding numbered levelNamed maybe
+returns-2 c =
+    simp (
+      sym (c .before .before .before .before .is-text .ensures) ∙ c .before .before .before .if1 .left,
+      sym (c .before .is-text2 .ensures) ∙ c .if2 .taken,
+    )
 
 returns-3 : tie.Need-returns-3
-unfolding levelIn numbered levelNamed same maybe
+unfolding numbered levelNamed maybe
 returns-3 c =
     simp (
-      eq-eqb _ _ (c .before .before .before .before .if1 .left),
-      eq-eqb _ _ (c .before .before .if2 .left),
-      ne-eqb _ _ (c .if3 .taken),
-    )
-
-returns-4 : tie.Need-returns-4
-unfolding levelIn numbered levelNamed same maybe
-returns-4 c =
-    simp (
-      eq-eqb _ _ (c .before .before .before .before .before .before .if1 .left),
-      eq-eqb _ _ (c .before .before .before .before .if2 .left),
-      eq-eqb _ _ (c .before .before .if3 .left),
-      ne-eqb _ _ (c .if4 .taken),
-    )
-
-returns-5 : tie.Need-returns-5
-unfolding levelIn numbered levelNamed same maybe
-returns-5 c =
-    simp (
-      eq-eqb _ _ (c .before .before .before .before .before .before .before .before .if1 .left),
-      eq-eqb _ _ (c .before .before .before .before .before .before .if2 .left),
-      eq-eqb _ _ (c .before .before .before .before .if3 .left),
-      eq-eqb _ _ (c .before .before .if4 .left),
-      eq-eqb _ _ (c .if5 .taken),
-    )
-
-returns-6 : tie.Need-returns-6
-unfolding levelIn numbered levelNamed same maybe
-returns-6 c =
-    simp (
-      eq-eqb _ _ (c .before .before .before .before .before .before .before .before .before .before .if1 .left),
-      eq-eqb _ _ (c .before .before .before .before .before .before .before .before .if2 .left),
-      eq-eqb _ _ (c .before .before .before .before .before .before .if3 .left),
-      eq-eqb _ _ (c .before .before .before .before .if4 .left),
-      ne-eqb _ _ (c .before .before .if5 .left),
-      eq-eqb _ _ (c .if6 .taken),
-    )
-
-returns-7 : tie.Need-returns-7
-unfolding levelIn numbered levelNamed same maybe
-returns-7 c =
-    simp (
-      eq-eqb _ _ (c .before .before .before .before .before .before .before .before .before .before .if1 .left),
-      eq-eqb _ _ (c .before .before .before .before .before .before .before .before .if2 .left),
-      eq-eqb _ _ (c .before .before .before .before .before .before .if3 .left),
-      eq-eqb _ _ (c .before .before .before .before .if4 .left),
-      ne-eqb _ _ (c .before .before .if5 .left),
-      ne-eqb _ _ (c .if6 .left),
+      sym (c .before .before .before .before .is-text .ensures) ∙ c .before .before .before .if1 .left,
+      sym (c .before .is-text2 .ensures) ∙ c .if2 .left,
     )
 
 pub level-named-spec : {M : Type 1} → statement M
 level-named-spec =
-    tie.close (tie.spec returns returns-2 returns-3 returns-4 returns-5 returns-6 returns-7)
+    tie.close
+    (tie.spec
+    slice-aggregate-is-text
+    is-text-requires
+    returns
+    slice-aggregate-is-text-2
+    is-text-requires-2
+    returns-2
+    returns-3)

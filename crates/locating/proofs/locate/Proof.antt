@@ -1,7 +1,10 @@
 -- `locating::locate` meets its contract: Judge's refusal answers, or what is found in the segment of that number. Assumes nothing.
+use mathlib.Core.Path.{sym, ap, subst, _∙_}
 use borrow.Author.Needs.{needs}
+use Rattle.answers.specs.Answers.{toldLocated}
 use Rattle.judging.proofs.Told.{told-accepted, told-refused}
-use Rattle.locating.proofs.Locating.{locate-refused, start-whole, locate-found}
+use Rattle.locating.specs.Locating.{Inside}
+use Rattle.locating.proofs.Locating.{locate-refused, start-whole, locate-found, answer-inside}
 use Rattle.locating.proofs.locate.Statement.{statement}
 use Rattle.locating.proofs.locate.Tie as tie
 
@@ -26,6 +29,9 @@ value-at-requires c κs =
     let t = told-accepted (x .s .now) (c .before .before .before .before .before .before .judge .ensures) (c .before .before .before .before .i .given .1) in
     start-whole (x .s .now) (x .segment) (x .element) (x .component) (t .0) (t .1) (c .before .body-start .ensures) (c .segment-at .result) (c .segment-at .ensures)
 
+answer-of-requires : tie.Need-answer-of-requires
+answer-of-requires c κs = search needs
+
 returns : tie.Need-returns
 returns c =
     let x = c .before .before .before .before .before .args in (
@@ -36,11 +42,13 @@ returns c =
 
 returns-2 : tie.Need-returns-2
 returns-2 c =
-    let x = c .before .before .before .before .before .before .before .before .before .args in
-    let t = told-accepted (x .s .now) (c .before .before .before .before .before .before .before .judge .ensures) (c .before .before .before .before .before .i .given .1) in (
-      locate-found (x .s .now) (x .segment) (x .element) (x .component) (t .0) (t .1) (c .before .before .body-start .ensures) (c .before .segment-at .result) (c .before .segment-at .ensures)
-          (c .value-at .ensures .0),
-      c .value-at .ensures .1,
+    let x = c .before .before .before .before .before .before .before .before .before .before .args in
+    let t = told-accepted (x .s .now) (c .before .before .before .before .before .before .before .before .judge .ensures) (c .before .before .before .before .before .before .i .given .1) in
+    let v = c .before .value-at in (
+      ap toldLocated (c .answer-of .ensures)
+          ∙ locate-found (x .s .now) (x .segment) (x .element) (x .component) (t .0) (t .1) (c .before .before .before .body-start .ensures) (c .before .before .segment-at .result) (c .before .before .segment-at .ensures)
+          (v .ensures .0),
+      subst (Inside (x .s .now)) (sym (c .answer-of .ensures)) (answer-inside (x .s .now) (v .result) (v .ensures .1)),
     )
 
 pub locate-spec : {M : Type 1} → statement M
@@ -53,5 +61,6 @@ locate-spec =
     body-start-requires
     segment-at-requires
     value-at-requires
+    answer-of-requires
     returns
     returns-2)
