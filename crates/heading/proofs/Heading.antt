@@ -1,10 +1,10 @@
 -- The level that a header names, from the values of its name and its version where they are spelled. Assumes nothing.
 use Prim.Native.Nat.{ℕ}
 use mathlib.Core.Path.{_≡_, refl, sym, ap, _∙_}
-use mathlib.Core.Bool.{Bool, true, false}
-use mathlib.Core.List.{List, []}
+use mathlib.Core.Bool.{true, false}
+use mathlib.Core.List.{List}
 use mathlib.Core.Option.{none}
-use Rattle.lists.specs.Lists.{if_then_else_, same, maybe}
+use Rattle.lists.specs.Lists.{same, maybe}
 use Rattle.lists.proofs.Texts.{if-true, if-false}
 use Rattle.characters.specs.declared.Characters.{Characters}
 use Rattle.reading.specs.Tokens.{Token, tokensAt}

@@ -150,7 +150,7 @@ pub extern "C" fn hverolda_locate(
     location_of(locating::locate(input, segment, element, component))
 }
 
-// Where the value is absent or the input refused, a location's offset and length are 0 too.
+// A slice that is handed back cannot cross, so the part is named: `locating::part` hands back the same.
 #[no_mangle]
 pub extern "C" fn hverolda_part(
     input: &[u8],
@@ -160,10 +160,10 @@ pub extern "C" fn hverolda_part(
 ) -> Part
     ensures { λ r. ⌜ r ≡ partOf (now (input .entry)) segment element component ⌝ }
 {
-    let location = location_of(locating::locate(input, segment, element, component));
+    let part = locating::part_of(input, segment, element, component);
     Part {
-        offset: location.offset,
-        length: location.length,
+        offset: part.offset,
+        length: part.length,
     }
 }
 

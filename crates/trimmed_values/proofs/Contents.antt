@@ -2,14 +2,14 @@
 -- question to which an empty value is as good as none, as all of the paper's are. Assumes nothing.
 use Prim.Native.Nat.{ℕ, zero, suc, _≤_}
 use mathlib.Core.Path.{_≡_, refl, sym, ap, _∙_}
-use mathlib.Core.Bool.{Bool, true, false, not, _&&_, and-false, false≢true}
-use mathlib.Core.List.{List, [], _∷_, _++_}
+use mathlib.Core.Bool.{Bool, true, false, not, _&&_, false≢true}
+use mathlib.Core.List.{List, [], _∷_}
 use mathlib.Core.Option.{Option, none, some}
 use lib.Dec.{lit≤}
 use lib.ListN.{drop}
 use borrow.Author.Tests.{not-false}
 use Rattle.lists.specs.Lists.{if_then_else_, isEmpty, all, through, at, cut, gather, maybe, beyond}
-use Rattle.lists.proofs.Texts.{and-left, and-right, if-false, gather-append}
+use Rattle.lists.proofs.Texts.{and-left, and-right, gather-append}
 use Rattle.lists.proofs.Pieces.{through-beyond}
 use Rattle.reading.specs.Tokens.{Token, ends}
 use Rattle.reading.specs.Values.{byteOf, bytesOf}
@@ -19,7 +19,7 @@ use Rattle.control.specs.Control.{single, controlElement}
 use Rattle.elements.specs.Elements.{pieceFrom, elementFrom, componentFrom, holdsByte}
 use Rattle.elements.specs.Values.{valueIn, valueEnd}
 use Rattle.elements.proofs.Elements.{pieces-from}
-use Rattle.trimmed_values.specs.Trimmed.{staysIn, valueFrom, stays, isAlone}
+use Rattle.trimmed_values.specs.Trimmed.{staysIn, valueFrom, valueStays, isAlone}
 use Rattle.trimmed_values.proofs.Trimmed.{empty-append, isBare, bare-pieces, contents-value}
 
 -- ---- what does not stay has no byte
@@ -63,7 +63,7 @@ nothing-in [] e = refl
 nothing-in (b ∷ bs) e = absurd (false≢true e)
 
 -- a value that does not stay is empty
-gone-empty : (ts : List Token) (e k : ℕ) → stays e k ts ≡ false → valueIn (valueFrom e k ts) ≡ []
+gone-empty : (ts : List Token) (e k : ℕ) → valueStays e k ts ≡ false → valueIn (valueFrom e k ts) ≡ []
 unfolding valueIn
 gone-empty ts e k h = nothing-in (valueIn (valueFrom e k ts)) (step (staysIn 0 e (elementFrom e ts)) refl h)
   where
@@ -110,9 +110,9 @@ control-value g e = step (at (contentsOf g) e)
 module _ {B : Type 0} (ask : Option (List ℕ) → B) (blind : ask (some []) ≡ ask none) (ts : List Token) (e : ℕ) where
   -- a value of the contents
   pub value-read : (k : ℕ) → ask (valueAt (contentsOf (through (ends 0) ts)) e k) ≡ ask (some (valueIn (valueFrom e k ts)))
-  value-read k = ap ask (contents-value ts e k) ∙ step (stays e k ts) refl
+  value-read k = ap ask (contents-value ts e k) ∙ step (valueStays e k ts) refl
     where
-      step : (b : Bool) → stays e k ts ≡ b
+      step : (b : Bool) → valueStays e k ts ≡ b
           → ask (if b then some (valueIn (valueFrom e k ts)) else none) ≡ ask (some (valueIn (valueFrom e k ts)))
       step true h = refl
       step false h = sym (ap (λ (value : List ℕ). ask (some value)) (gone-empty ts e k h) ∙ blind)

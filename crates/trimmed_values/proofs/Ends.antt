@@ -21,7 +21,7 @@ nothing-whole : Whole []
 unfolding endsInside isEmpty
 nothing-whole = refl
 
--- nor do those behind the first
+-- nor do those after the first
 rest-whole : (t : Token) (ts : List Token) → Whole (t ∷ ts) → Whole ts
 unfolding endsInside endedBy lastOr isEmpty
 rest-whole t [] h = refl

@@ -1,9 +1,9 @@
 -- The place of a value by element and component, and that the code's tests say whether trimming leaves it. Assumes nothing.
 use Prim.Native.Nat.{ℕ, zero, suc, _+_, _-_, _≤_, _<_}
 use mathlib.Core.Path.{_≡_, refl, sym, ap, ap₂, subst, _∙_}
-use mathlib.Core.Bool.{Bool, true, false, not, _&&_, and-false, false≢true}
+use mathlib.Core.Bool.{Bool, true, false, not, _&&_, false≢true}
 use mathlib.Core.List.{List, [], _∷_, cons≢nil}
-use mathlib.Core.Option.{Option, none, some}
+use mathlib.Core.Option.{none, some}
 use native.Mathlib.Omega.{arith}
 use native.Mathlib.Decide.{decLe}
 use native.Mathlib.Nat.{lt-of-not-le}
@@ -11,10 +11,9 @@ use lib.ListN.{length}
 use lib.Dec.{ltb}
 use borrow.Author.Tests.{lt-ltb, le-ltb, not-true, not-false}
 use Rattle.lists.specs.Lists.{if_then_else_, isEmpty, through, gather}
-use Rattle.lists.proofs.Texts.{and-both}
 use Rattle.characters.specs.declared.Characters.{Characters}
 use Rattle.reading.specs.Tokens.{Token, ends, placeOf, start, tokensAt}
-use Rattle.reading.specs.Values.{Value, bytesOf, endPlace, valueOf}
+use Rattle.reading.specs.Values.{bytesOf, endPlace, valueOf}
 use Rattle.reading.specs.Trimming.{trimmed, valueAt}
 use Rattle.reading.proofs.Steps.{at-end}
 use Rattle.scanner.specs.Scan.{segmentAt}
@@ -23,7 +22,7 @@ use Rattle.elements.specs.Elements.{ElementAt, ComponentAt, elementFrom, compon
 use Rattle.elements.specs.Values.{valueEnd, EndsAt}
 use Rattle.trimmed_values.specs.declared.Found.{Found}
 use Rattle.trimmed_values.specs.declared.Found.the-variants.{At, Absent}
-use Rattle.trimmed_values.specs.Trimmed.{staysIn, valueFrom, stays, placed, Inside}
+use Rattle.trimmed_values.specs.Trimmed.{staysIn, valueFrom, valueStays, placed, Inside}
 use Rattle.trimmed_values.proofs.Ends.{Whole, from-whole, value-ended}
 use Rattle.trimmed_values.proofs.Trimmed.{trimmed-value}
 
@@ -103,7 +102,7 @@ module _ (c : Characters) (s : List ℕ) (start element component : ℕ) {from :
   answer = placed (valueAt (trimmed (segmentAt c s start)) element component)
 
   -- by whether trimming leaves the value
-  answered : {b : Bool} → stays element component (tokensAt c s start) ≡ b
+  answered : {b : Bool} → valueStays element component (tokensAt c s start) ≡ b
       → answer ≡ placed (if b then some (valueOf (through (ends 2) (valueFrom element component (tokensAt c s start)))) else none)
   unfolding segmentAt
   answered h =
@@ -129,7 +128,7 @@ module _ (c : Characters) (s : List ℕ) (start element component : ℕ) {from :
     begins = d .0 ∙ ap (componentFrom component) (e .0)
 
     -- the element stays
-    inner : stays element component (tokensAt c s start) ≡ r
+    inner : valueStays element component (tokensAt c s start) ≡ r
     inner =
         ap₂ _&&_ (ap (staysIn 0 element) (sym (e .0)) ∙ sym x ∙ not-false q y) (ap (staysIn 1 component) (sym begins) ∙ sym z)
 

@@ -17,14 +17,14 @@ use Rattle.reading.specs.Trimming.{trimElement, isIdle, trimSegment, isBlank, t
 use Rattle.elements.specs.Elements.{pieceFrom, elementFrom, componentFrom, firstPiece, holdsByte}
 use Rattle.elements.specs.Values.{valueIn}
 use Rattle.elements.proofs.Elements.{pieces-from, piece-number}
-use Rattle.trimmed_values.specs.Trimmed.{staysIn, valueFrom, stays}
+use Rattle.trimmed_values.specs.Trimmed.{staysIn, valueFrom, valueStays}
 
 -- ---- an idle end, by number
 
 -- trimming never takes the first
-unfoldable behindFirst : ℕ → Bool → Bool
-behindFirst zero b = false
-behindFirst (suc n) b = b
+unfoldable afterFirst : ℕ → Bool → Bool
+afterFirst zero b = false
+afterFirst (suc n) b = b
 
 no-choice : {A : Type 0} (b : Bool) → _≡_ {A = Option A} (if b then none else none) none
 no-choice true = refl
@@ -60,9 +60,9 @@ module _ {A : Type 0} (t : A → Bool) where
       step true (y ∷ ys) = refl
       step false ys = refl
 
-  trimEnd-at : (xs : List A) (n : ℕ) → at (trimEnd t xs) n ≡ (if behindFirst n (all t (drop n xs)) then none else at xs n)
-  unfolding at trimEnd behindFirst
-  trimEnd-at [] n = sym (no-choice (behindFirst n (all t (drop n []))))
+  trimEnd-at : (xs : List A) (n : ℕ) → at (trimEnd t xs) n ≡ (if afterFirst n (all t (drop n xs)) then none else at xs n)
+  unfolding at trimEnd afterFirst
+  trimEnd-at [] n = sym (no-choice (afterFirst n (all t (drop n []))))
   trimEnd-at (x ∷ xs) zero = refl
   trimEnd-at (x ∷ xs) (suc n) = dropEnd-at xs n
 
@@ -122,9 +122,9 @@ module _ (rank : ℕ) (idle : List Token → Bool) (alike : (t : Token) (ts : Li
 
   -- the piece that tokens begin with, by whether trimming leaves it
   first-kept : (n : ℕ) (ts : List Token)
-      → (if behindFirst n (isBare (through (ends rank) ts)) then none else firstPiece (suc rank) ts)
+      → (if afterFirst n (isBare (through (ends rank) ts)) then none else firstPiece (suc rank) ts)
       ≡ (if staysIn rank n ts then some (through (ends (suc rank)) ts) else none)
-  unfolding behindFirst firstPiece staysIn holdsByte through bytesOf gather isEmpty
+  unfolding afterFirst firstPiece staysIn holdsByte through bytesOf gather isEmpty
   first-kept zero [] = refl
   first-kept zero (t ∷ ts) = refl
   first-kept (suc n) [] = refl
@@ -141,7 +141,7 @@ module _ (rank : ℕ) (idle : List Token → Bool) (alike : (t : Token) (ts : Li
   kept-at n ts =
       let from = pieceFrom (ends rank) (ends (suc rank)) n ts in
       trimEnd-at idle (cut (ends (suc rank)) (through (ends rank) ts)) n
-      ∙ ap₂ (λ (b : Bool) (o : Option (List Token)). if behindFirst n b then none else o)
+      ∙ ap₂ (λ (b : Bool) (o : Option (List Token)). if afterFirst n b then none else o)
       (ap (all idle) (sym (pieces-from (ends rank) (ends (suc rank)) n ts)) ∙ all-idle (through (ends rank) from))
       (piece-number (suc rank) n ts)
       ∙ first-kept n from
@@ -194,10 +194,10 @@ component-value ts k =
     ∙ ap (maybe none (λ piece. some (valueOf piece))) (kept-at 1 isBare (λ t us. refl) k ts)
     ∙ if-stays (λ piece. some (valueOf piece)) (staysIn 1 k from) (through (ends 2) from)
 
--- THE LAW: the value by element and component, in the trimmed segment that tokens begin with
+-- the law: the value by element and component, in the trimmed segment that tokens begin with
 pub trimmed-value : (ts : List Token) (e k : ℕ)
     → valueAt (trimmed (through (ends 0) ts)) e k
-    ≡ (if stays e k ts then some (valueOf (through (ends 2) (valueFrom e k ts))) else none)
+    ≡ (if valueStays e k ts then some (valueOf (through (ends 2) (valueFrom e k ts))) else none)
 unfolding trimmed trimSegment elementsOf valueAt
 trimmed-value ts e k =
     let element = elementFrom e ts in
@@ -225,9 +225,9 @@ value-map {A} f segment e k = at-map none (λ values. at values k) (map f) segme
 
 -- the same for its bytes, in the contents
 pub contents-value : (ts : List Token) (e k : ℕ)
-    → valueAt (contentsOf (through (ends 0) ts)) e k ≡ (if stays e k ts then some (valueIn (valueFrom e k ts)) else none)
+    → valueAt (contentsOf (through (ends 0) ts)) e k ≡ (if valueStays e k ts then some (valueIn (valueFrom e k ts)) else none)
 unfolding contentsOf valueOf valueIn
 contents-value ts e k =
     value-map (λ v. v .bytes) (trimmed (through (ends 0) ts)) e k
     ∙ ap (maybe none (λ v. some (v .bytes))) (trimmed-value ts e k)
-    ∙ if-stays (λ v. some (v .bytes)) (stays e k ts) (valueOf (through (ends 2) (valueFrom e k ts)))
+    ∙ if-stays (λ v. some (v .bytes)) (valueStays e k ts) (valueOf (through (ends 2) (valueFrom e k ts)))

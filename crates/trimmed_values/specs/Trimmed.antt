@@ -24,8 +24,8 @@ abbrev pub valueFrom : ℕ → ℕ → List Token → List Token
 valueFrom element component ts = componentFrom component (elementFrom element ts)
 
 -- trimming leaves that value: its element stays, and in it the component
-abbrev pub stays : ℕ → ℕ → List Token → Bool
-stays element component ts = staysIn 0 element (elementFrom element ts) && staysIn 1 component (valueFrom element component ts)
+abbrev pub valueStays : ℕ → ℕ → List Token → Bool
+valueStays element component ts = staysIn 0 element (elementFrom element ts) && staysIn 1 component (valueFrom element component ts)
 
 -- only empty components follow the first of the element that the tokens begin
 unfoldable pub isAlone : List Token → Bool

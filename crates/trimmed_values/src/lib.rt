@@ -1,7 +1,7 @@
-// The values of a segment's trimmed contents (paper 01, "Trimming"), where they are spelled: nothing is
-// trimmed. By element and component it promises whether trimming leaves the value and where it stands;
-// and of a value its bytes, without their release characters, against another value's or a text's.
-// That the segment is one of an accepted interchange is asked only where a length is answered.
+// The values of a segment's trimmed contents (paper 01, "Trimming"), where they are spelled: no code trims.
+// It promises, by element and component, whether trimming leaves the value and where it stands; whether
+// an element is one component; and whether a value is the same as another or as a text, by its bytes
+// without their release characters. All of it holds of any segment, ended or not, but for a value's length.
 ghost use mathlib.Core.Path.{_≡_};
 ghost use mathlib.Core.Bool.{false};
 ghost use Rattle.lists.specs.Lists.{same};
@@ -36,8 +36,8 @@ fn stays(s: &[u8], c: Characters, from: usize, rank: u8, number: usize) -> bool
     holds_byte(s, c, from, rank)
 }
 
-// The value by element and component, in the contents of the segment that begins at `start`. Behind
-// `start` the input may not end inside a segment: a value that nothing ends has no length.
+// The value by element and component, in the contents of the segment that begins at `start`. The input
+// may not end inside a segment: a value that nothing ends has no length.
 pub fn value_at(s: &[u8], c: Characters, start: usize, element: usize, component: usize) -> Found
     requires { ⌜ endsInside (tokensAt c (now s) start) ≡ false ⌝ }
     ensures { λ r. ⌜ (r ≡ placed (valueAt (trimmed (segmentAt c (now (s .entry)) start)) element component)) × Inside (now (s .entry)) r ⌝ }

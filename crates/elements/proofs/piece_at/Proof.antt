@@ -1,5 +1,5 @@
 -- `elements::piece_at` meets its contract. The loop's invariant: the piece that is looked for from the start is the one that is
--- looked for from `at`, behind as many separators as are left. What is left of the input falls. Assumes nothing.
+-- looked for from `at`, after as many separators as are left. What is left of the input falls. Assumes nothing.
 use Prim.Native.Nat.{_≤_, _-_}
 use mathlib.Core.Path.{_≡_, refl, sym, _∙_}
 use native.Mathlib.Omega.{arith}

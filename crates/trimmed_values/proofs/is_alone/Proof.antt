@@ -1,9 +1,7 @@
 -- `trimmed_values::is_alone` meets its contract: no byte stands from the second component on. Assumes nothing.
 use mathlib.Core.Path.{ap, _∙_}
 use mathlib.Core.Bool.{not}
-use mathlib.Core.List.{List}
 use borrow.Author.Needs.{needs}
-use Rattle.reading.specs.Tokens.{Token}
 use Rattle.elements.specs.Elements.{holdsByte}
 use Rattle.trimmed_values.specs.Trimmed.{isAlone}
 use Rattle.trimmed_values.proofs.is_alone.Statement.{statement}

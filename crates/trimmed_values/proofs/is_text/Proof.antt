@@ -1,7 +1,7 @@
 -- `trimmed_values::is_text` meets its contract. The loop's invariant: the value is the text if from `at` on it is what the text has
 -- from `i` on. What is left of the input falls. Assumes nothing.
 use Prim.Native.Nat.{_-_, _≤_}
-use mathlib.Core.Path.{_≡_, refl, sym, ap, _∙_}
+use mathlib.Core.Path.{_≡_, refl, sym, _∙_}
 use native.Mathlib.Omega.{arith}
 use lib.ListN.{length, drop, drop-of-length-le}
 use borrow.Author.Needs.{needs}

@@ -1,5 +1,5 @@
 -- `trimmed_values::same_value` meets its contract. The loop's invariant: the values are the same from the starts if they are from `a` and `b`.
--- What is left of the input behind `a` falls. Assumes nothing.
+-- What is left of the input after `a` falls. Assumes nothing.
 use Prim.Native.Nat.{_-_}
 use mathlib.Core.Path.{_≡_, refl, sym, _∙_}
 use native.Mathlib.Omega.{arith}
