@@ -4,42 +4,8 @@ use mathlib.Core.Path.{_≡_}
 use mathlib.Core.Logic.{_⊎_}
 use mathlib.Core.List.{List, [], _∷_, _++_, List·Memᴰ}
 use Rattle.refusals.specs.declared.Fault.{Fault}
-use Rattle.refusals.specs.declared.Fault.the-variants.{TooLong, UnusableAdvice, NoOpening, StrayRelease, UnendedSegment, BrokenTag, ForeignLevel, OutsideLevel, MisplacedSegment, BadControl, ReferenceDiffers, CountWrong, NormalTooLong, BufferShort, BadList, NeedsRelease}
 use Rattle.refusals.specs.Refusals.{number}
-use Rattle.verdict.specs.Places.{tooLong, unusableAdvice, noOpening, strayReleases, unendedSegment, brokenTags, foreignLevel, outsideLevel, misplacedSegments, badControls, differingReferences, wrongCounts, normalTooLong}
-
--- all the places at which an input meets a fault; 14 to 16 are of lent buffers and value lists
-unfoldable pub placesOf : Fault → List ℕ → List ℕ
-placesOf TooLong s = tooLong s
-placesOf UnusableAdvice s = unusableAdvice s
-placesOf NoOpening s = noOpening s
-placesOf StrayRelease s = strayReleases s
-placesOf UnendedSegment s = unendedSegment s
-placesOf BrokenTag s = brokenTags s
-placesOf ForeignLevel s = foreignLevel s
-placesOf OutsideLevel s = outsideLevel s
-placesOf MisplacedSegment s = misplacedSegments s
-placesOf BadControl s = badControls s
-placesOf ReferenceDiffers s = differingReferences s
-placesOf CountWrong s = wrongCounts s
-placesOf NormalTooLong s = normalTooLong s
-placesOf BufferShort s = []
-placesOf BadList s = []
-placesOf NeedsRelease s = []
-
--- "Stages: 1, 2, 3, (4 5 6), 7, 8, 9, (10 11 12), 13"
-unfoldable pub brackets : List (List Fault)
-brackets =
-    (TooLong ∷ [])
-    ∷ (UnusableAdvice ∷ [])
-    ∷ (NoOpening ∷ [])
-    ∷ (StrayRelease ∷ UnendedSegment ∷ BrokenTag ∷ [])
-    ∷ (ForeignLevel ∷ [])
-    ∷ (OutsideLevel ∷ [])
-    ∷ (MisplacedSegment ∷ [])
-    ∷ (BadControl ∷ ReferenceDiffers ∷ CountWrong ∷ [])
-    ∷ (NormalTooLong ∷ [])
-    ∷ []
+use Rattle.verdict.specs.Stages.{placesOf, brackets}
 
 -- "The first failing stage answers; within a stage, bracketed or single, the lowest place, then the lowest number."
 pub record Refused (s : List ℕ) (f : Fault) (p : ℕ) : Type 0 where

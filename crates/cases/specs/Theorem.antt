@@ -15,12 +15,12 @@ use Rattle.control.specs.Positions.{positionTable, positionsOf}
 use Rattle.control.specs.Control.{single, controlElement, isReference, isCount, standsWell, controlRule, headerOf, referenceOf, sameValue, referenceDiffers, decimalFrom, decimal, trueCount, countOf, countWrong}
 use Rattle.verdict.specs.Contents.{bodyTokens, segmentsOf, contents, kindsOf, normalCharacters, interchange, normalForm}
 use Rattle.verdict.specs.Places.{isOver, startsWhere, tooLong, unusableAdvice, noOpening, strayReleases, unendedSegment, brokenTags, foreignLevel, level, placeOutside, outsideLevel, misplacedSegments, badControls, differingReferences, wrongCounts, normalTooLong}
-use Rattle.verdict.specs.Stages.{laterStages, stages, refusalOf}
+use Rattle.verdict.specs.Stages.{placesOf, brackets, bracketed, stages, refusalOf}
 use Rattle.answers.specs.Answers.{given, refused, refusedInput, accepted}
 use Rattle.operations.specs.Judge.{interchangeOf, judge}
 use Rattle.operations.specs.Compare.{isAccepted, areSame, compare}
 use Rattle.cases.specs.Cases.{cases, says, meets, holds}
 
 pub all-cases-hold : T (all holds cases)
-unfolding same begins member allDiffer isEmpty all those through first at lastOr onto cut unlessIdle dropEnd trimEnd behind joined gather maybe between upper lower digit separates released serviceCharacters isService usable sixBytes spelledOut advised adviceOf plusCharacters controlCharacters charactersOf bodyStart body badAdvice opens role number met isLower lowerOf lowest orElse answering placeIf unreleased releasing taken tokensFrom tokens ends placeOf segments start byteOf bytesOf valueOf valuesOf elementsOf isFault endedBy endsInside finished trimElement isIdle trimSegment trimmed valueAt contentsOf spellByte spellValue spellElement spellSegment spell inLevelA inLevelB classOf levelNamed inLevel isOurVersion levelOf is kindNamed tagPiece tagOf kindOf isTag tagRule segmentsIn messagesIn groupsIn segmentsSinceHeader messagesSinceGroup isOpen standing insideMessage allowedAt allowed isComplete positionTable positionsOf single controlElement isReference isCount standsWell controlRule headerOf referenceOf sameValue referenceDiffers decimalFrom decimal trueCount countOf countWrong bodyTokens segmentsOf contents kindsOf normalCharacters interchange normalForm isOver startsWhere tooLong unusableAdvice noOpening strayReleases unendedSegment brokenTags foreignLevel level placeOutside outsideLevel misplacedSegments badControls differingReferences wrongCounts normalTooLong laterStages stages refusalOf given refused refusedInput accepted interchangeOf judge isAccepted areSame compare cases says meets holds
+unfolding same begins member allDiffer isEmpty all those through first at lastOr onto cut unlessIdle dropEnd trimEnd behind joined gather maybe between upper lower digit separates released serviceCharacters isService usable sixBytes spelledOut advised adviceOf plusCharacters controlCharacters charactersOf bodyStart body badAdvice opens role number met isLower lowerOf lowest orElse answering placeIf unreleased releasing taken tokensFrom tokens ends placeOf segments start byteOf bytesOf valueOf valuesOf elementsOf isFault endedBy endsInside finished trimElement isIdle trimSegment trimmed valueAt contentsOf spellByte spellValue spellElement spellSegment spell inLevelA inLevelB classOf levelNamed inLevel isOurVersion levelOf is kindNamed tagPiece tagOf kindOf isTag tagRule segmentsIn messagesIn groupsIn segmentsSinceHeader messagesSinceGroup isOpen standing insideMessage allowedAt allowed isComplete positionTable positionsOf single controlElement isReference isCount standsWell controlRule headerOf referenceOf sameValue referenceDiffers decimalFrom decimal trueCount countOf countWrong bodyTokens segmentsOf contents kindsOf normalCharacters interchange normalForm isOver startsWhere tooLong unusableAdvice noOpening strayReleases unendedSegment brokenTags foreignLevel level placeOutside outsideLevel misplacedSegments badControls differingReferences wrongCounts normalTooLong placesOf brackets bracketed stages refusalOf given refused refusedInput accepted interchangeOf judge isAccepted areSame compare cases says meets holds
 all-cases-hold = tt

@@ -2,55 +2,48 @@
 use Prim.Native.Nat.{ℕ, _≤_}
 use mathlib.Core.Path.{_≡_, refl, sym, ap, ap₂, _∙_}
 use mathlib.Core.Bool.{Bool, true, false, _&&_}
-use mathlib.Core.List.{List, [], _∷_, List·Memᴰ, List·Memᴰ·head, List·Memᴰ·tail}
+use mathlib.Core.List.{List, [], _∷_}
 use mathlib.Core.Option.{Option, none, some}
-use native.Mathlib.Nat.{le-of-eq}
 use native.Mathlib.Omega.{arith}
 use lib.ListN.{length, take, drop, replicate, length-append, length-replicate}
-use lib.Seq.{take-at}
-use Rattle.lists.specs.Lists.{if_then_else_, same, maybe}
+use lib.Seq.{take-at, length-take-le}
+use Rattle.lists.specs.Lists.{if_then_else_, same, any, maybe}
+use Rattle.lists.proofs.Texts.{same-eq, same-refl}
 use Rattle.refusals.specs.declared.Fault.the-variants.{NormalTooLong}
 use Rattle.refusals.specs.declared.Refusal.{Refusal}
-use Rattle.refusals.specs.Refusals.{met}
-use Rattle.refusals.proofs.Stages.{met-none, answering-none}
+use Rattle.refusals.specs.Refusals.{number}
 use Rattle.verdict.specs.Contents.{normalForm}
 use Rattle.verdict.specs.Places.{normalTooLong}
-use Rattle.verdict.specs.Stages.{laterStages, stages, refusalOf}
+use Rattle.verdict.specs.Stages.{placesOf, brackets, refusalOf}
 use Rattle.verdict.proofs.Over.{within}
+use Rattle.verdict.proofs.Stages.{accepted-unmet}
+use Rattle.answers.specs.declared.Interchange.{Interchange}
 use Rattle.answers.specs.declared.Compared.{Compared}
 use Rattle.answers.specs.declared.Compared.the-variants.{Same, Different, FirstRefused, SecondRefused}
 use Rattle.answers.specs.Answers.{Answer, given, refusedInput, toldCompared}
-use Rattle.operations.specs.Judge.{normaliseBuffer}
+use Rattle.operations.specs.Judge.{interchangeOf, normaliseBuffer}
 use Rattle.operations.specs.Compare.{isAccepted, areSame, compare}
 use Rattle.operations.proofs.Answered.{compare-by, normalises}
+use Rattle.judging.proofs.Told.{length-of}
 
 -- ---- what is known of an accepted input
 
 -- its normal form is not over 32,000 bytes
 pub form-fits : (s : List ℕ) → refusalOf s ≡ none → length (normalForm s) ≤ 32000
-unfolding refusalOf stages laterStages normalTooLong
-form-fits s e =
-    within (normalForm s) (length (normalForm s)) .0
-    (met-none NormalTooLong (normalTooLong s) .0
-    (answering-none (stages s) .0 e (met NormalTooLong (normalTooLong s)) (behind (behind (behind (behind (behind (behind (behind (behind (List·Memᴰ·head refl)))))))))))
-  where
-    behind : {A : Type 0} {x y : A} {l : List A} → List·Memᴰ x l → List·Memᴰ x (y ∷ l)
-    behind = List·Memᴰ·tail
+unfolding placesOf brackets any number normalTooLong
+form-fits s e = within (normalForm s) (length (normalForm s)) .0 (accepted-unmet s e NormalTooLong refl)
 
--- so many zeros leave room for as many bytes
-pub room-in : (n : ℕ) → n ≤ length (replicate {A = ℕ} n 0)
-room-in n = le-of-eq (sym (length-replicate n 0))
-
-module _ (s buffer : List ℕ) (e : refusalOf s ≡ none) (room : 32000 ≤ length buffer) where
-  -- a buffer with room for any normal form begins with it
-  pub form-held : {n : ℕ} {after : List ℕ} → n ≡ length (normalForm s) → after ≡ normaliseBuffer buffer s
-      → (n ≤ length after) × (take n after ≡ normalForm s)
-  form-held {n} {after} h d =
-      let holds = d ∙ normalises buffer s e (omega (arith, form-fits s e)) .1 in
-      let sum = ap length holds ∙ length-append (normalForm s) (drop (length (normalForm s)) buffer) in (
-        omega (arith, h, sum),
-        ap (take n) holds ∙ take-at (normalForm s) (drop (length (normalForm s)) buffer) n (sym h),
-      )
+-- an array with room for any normal form begins with it, where it was stored
+pub form-held : (s : List ℕ) {i : Interchange} {n : ℕ} {after : List ℕ} → (refusalOf s ≡ none) × (i ≡ interchangeOf s) → n ≡ i .length
+    → after ≡ normaliseBuffer (replicate 32000 0) s → (n ≤ length after) × (n ≡ length (take n after)) × (take n after ≡ normalForm s)
+form-held s {n = n} {after = after} known e d =
+    let form = normalForm s in
+    let zeros : List ℕ = replicate 32000 0 in
+    let long : n ≡ length form = e ∙ length-of s (known .1) in
+    let room : length form ≤ length zeros = omega (arith, form-fits s (known .0), length-replicate {A = ℕ} 32000 0) in
+    let holds = d ∙ normalises zeros s (known .0) room .1 in
+    let fits : n ≤ length after = omega (arith, ap length holds, length-append form (drop (length form) zeros)) in
+    (fits, sym (length-take-le n after fits), ap (take n) holds ∙ take-at form (drop (length form) zeros) n (sym long))
 
 -- ---- what is answered
 
@@ -82,6 +75,13 @@ module _ (first second : List ℕ) where
     pub forms-differ : same (normalForm first) (normalForm second) ≡ false → toldCompared Different ≡ compare first second
     unfolding toldCompared
     forms-differ h = sym (by-forms false h)
+
+  -- the first is accepted, and the second has its bytes
+  pub bytes-same : refusalOf first ≡ none → same first second ≡ true → toldCompared Same ≡ compare first second
+  bytes-same e h =
+      let d = same-eq first second h in
+      forms-same e (ap refusalOf (sym d) ∙ e)
+      (ap (λ (s : List ℕ). same (normalForm first) (normalForm s)) (sym d) ∙ same-refl (normalForm first))
 
 -- ---- what a caller of Compare learns
 

@@ -1,3 +1,3 @@
 pub mod Bytes
 pub mod Compared
-pub mod Kept
+pub mod Keeping

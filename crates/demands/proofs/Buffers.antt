@@ -11,18 +11,19 @@ use Rattle.refusals.specs.Refusals.{Stage, met, orElse, answering}
 use Rattle.refusals.proofs.Lowest.{lowest-none}
 use Rattle.refusals.proofs.Stages.{met-none}
 use Rattle.verdict.specs.Contents.{normalForm}
-use Rattle.verdict.specs.Places.{tooLong, unusableAdvice}
-use Rattle.verdict.specs.Stages.{laterStages, stages, refusalOf}
+use Rattle.verdict.specs.Places.{tooLong}
+use Rattle.verdict.specs.Stages.{laterStages, refusalOf}
+use Rattle.verdict.proofs.Stages.{later-answers, later-none}
 use Rattle.answers.specs.Answers.{Answer, given}
 use Rattle.operations.specs.Judge.{shortFor, normaliseRefusal}
 use Rattle.operations.specs.Read.{valueBytes, valueTable, readRefusal, read, readBytes, readTable}
-use Rattle.operations.specs.Write.{badList, unusableBytes, needsRelease, writtenText, writeRefusal, write, writeOutput}
+use Rattle.operations.specs.Write.{badList, unusableBytes, needsRelease, writtenText, writeStages, writeRefusal, write, writeOutput}
 use Rattle.operations.proofs.Answered.{input-answers, room-answers, read-given, read-judged, read-passes}
 use Rattle.acceptance.specs.Allowed.{Allowed}
 use Rattle.acceptance.proofs.Acceptance.{allowed-exactly}
 use Rattle.trips.specs.Trips.{Rewritable}
 use Rattle.trips.proofs.Numbers.{unrefused}
-use Rattle.trips.proofs.Written.{short-enough, later-none, write-passed, text-advice, text-accepted, write-given, read-accepted, read-fits}
+use Rattle.trips.proofs.Written.{short-enough, write-passed, text-advice, text-accepted, write-given, read-accepted, read-fits}
 use Rattle.trips.proofs.Theorems.{rewritten-exactly}
 
 -- a stage in which nothing is met leaves it to those behind
@@ -98,7 +99,7 @@ module _ (service bytes table output : List ℕ) where
   -- behind 15, 2, 16, 1 and 14 the stages are those that Judge goes through behind 1 and 2
   pub as-judged : badList bytes table ≡ [] → unusableBytes service ≡ [] → needsRelease service bytes table ≡ [] → length text ≤ 32000
       → length text ≤ length output → writeRefusal service bytes table output ≡ refusalOf text
-  unfolding writeRefusal refusalOf stages
+  unfolding writeRefusal writeStages
   as-judged list characters releases short fits =
       let over : Stage = met TooLong (tooLong text) in
       let unmet : over ≡ [] = met-none TooLong (tooLong text) .1 (short-enough text .1 short) in
@@ -113,10 +114,7 @@ module _ (service bytes table output : List ℕ) where
       (met-none NeedsRelease (needsRelease service bytes table) .1 releases)
       ∙ clear-answers over (shortFor text output ∷ last) unmet
       ∙ room-answers text output last fits
-      ∙ sym
-      (clear-answers over (met UnusableAdvice (unusableAdvice text) ∷ last) unmet
-      ∙ clear-answers (met UnusableAdvice (unusableAdvice text)) last
-      (met-none UnusableAdvice (unusableAdvice text) .1 (text-advice service bytes table output characters)))
+      ∙ later-answers text (short-enough text .1 short) (text-advice service bytes table output characters)
 
 pub rewrites : (s service output : List ℕ) → refusalOf s ≡ none
     → (write service (valueBytes s) (valueTable s) output .number ≡ 0) ↔ Rewritable s service output

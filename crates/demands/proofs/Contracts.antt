@@ -12,11 +12,10 @@ use Rattle.refusals.specs.declared.Fault.{Fault}
 use Rattle.refusals.specs.declared.Fault.the-variants.{BufferShort}
 use Rattle.refusals.specs.declared.Refusal.{Refusal}
 use Rattle.refusals.specs.Refusals.{orElse, answering}
-use Rattle.refusals.proofs.Stages.{answering-append}
+use Rattle.refusals.proofs.Stages.{answering-append, lowest-if}
 use Rattle.verdict.specs.Contents.{contents, normalForm}
 use Rattle.verdict.specs.Stages.{stages, refusalOf}
 use Rattle.machines.specs.Walks.{refuse}
-use Rattle.machines.proofs.Rows.{lowest-if}
 use Rattle.answers.specs.declared.Judged.the-variants.{Accepted}
 use Rattle.answers.specs.declared.Stored.the-variants.{Length}
 use Rattle.answers.specs.declared.Compared.the-variants.{Same}

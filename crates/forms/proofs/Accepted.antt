@@ -1,27 +1,27 @@
 -- What it is to be accepted: each of the refusals 1 to 13 is met nowhere. Assumes nothing.
-use Prim.Native.Nat.{ℕ, zero, suc}
+use Prim.Native.Nat.{ℕ}
 use mathlib.Core.Path.{_≡_, refl, ap}
 use mathlib.Core.Bool.{Bool, true, false, not, _&&_, _||_}
-use mathlib.Core.List.{List, [], _∷_, _++_, List·Memᴰ·head, List·Memᴰ·tail, append-eq-nil-iff}
+use mathlib.Core.List.{List, [], append-eq-nil-iff}
 use mathlib.Core.Option.{none}
 use mathlib.Core.Logic.{_↔_}
-use lib.ListN.{length, drop, getD}
+use lib.ListN.{length, drop}
 use lib.Dec.{ltb}
-use Rattle.lists.specs.Lists.{if_then_else_, begins, text, all, allDiffer, member}
+use Rattle.lists.specs.Lists.{if_then_else_, begins, text, all, any, allDiffer, member}
 use Rattle.lists.proofs.Texts.{or-none-right}
 use borrow.Author.Tests.{not-true, not-false}
 use Rattle.characters.specs.declared.Characters.{Characters}
 use Rattle.characters.specs.Characters.{between, upper, lower, digit, separates, released, serviceCharacters, usable, sixBytes, advised, plusCharacters, controlCharacters, charactersOf, badAdvice}
-use Rattle.refusals.specs.declared.Fault.{Fault}
 use Rattle.refusals.specs.declared.Fault.the-variants.{TooLong, UnusableAdvice, NoOpening, StrayRelease, UnendedSegment, BrokenTag, ForeignLevel, OutsideLevel, MisplacedSegment, BadControl, ReferenceDiffers, CountWrong, NormalTooLong}
-use Rattle.refusals.specs.Refusals.{Stage, met, placeIf, lowest, orElse, answering}
-use Rattle.refusals.proofs.Stages.{NoneMet, met-none, answering-none, place-none, place-none-not}
+use Rattle.refusals.specs.Refusals.{number, met, placeIf, lowest, orElse, answering}
+use Rattle.refusals.proofs.Stages.{place-none, place-none-not}
 use Rattle.reading.specs.Tokens.{Token, placeOf}
 use Rattle.reading.specs.Values.{isFault, endsInside}
 use Rattle.segments.specs.Order.{isComplete}
 use Rattle.verdict.specs.Contents.{bodyTokens, segmentsOf, kindsOf}
 use Rattle.verdict.specs.Places.{startsWhere, tooLong, unusableAdvice, noOpening, strayReleases, unendedSegment, brokenTags, foreignLevel, outsideLevel, misplacedSegments, badControls, differingReferences, wrongCounts, normalTooLong, misplaced}
-use Rattle.verdict.specs.Stages.{laterStages, stages, refusalOf}
+use Rattle.verdict.specs.Stages.{placesOf, brackets, bracketed, stages, refusalOf}
+use Rattle.verdict.proofs.Stages.{accepted-unmet}
 use Rattle.spelling.specs.Bodies.{Sound, Passes}
 use Rattle.forms.specs.Forms.{BodyPasses}
 use Rattle.forms.proofs.Tests.{gather-none}
@@ -42,44 +42,28 @@ pub record Accepted (s : List ℕ) : Type 0 where
   pub counts : wrongCounts s ≡ []
   pub normal : normalTooLong s ≡ []
 
--- where nothing is met in a stage of three, none of the three is
-three-none : (f g h : Fault) (ps qs rs : List ℕ) → met f ps ++ met g qs ++ met h rs ≡ []
-    → (ps ≡ []) × (qs ≡ []) × (rs ≡ [])
-three-none f g h ps qs rs e =
-    let outer = append-eq-nil-iff {p = met f ps ++ met g qs} {q = met h rs} .0 e in
-    let inner = append-eq-nil-iff {p = met f ps} {q = met g qs} .0 (outer .0) in
-    (met-none f ps .0 (inner .0), met-none g qs .0 (inner .1), met-none h rs .0 (outer .1))
-
--- nothing is met in the stage at any number
-none-at : (stages : List Stage) → NoneMet stages → (n : ℕ) → getD stages n [] ≡ []
-none-at [] h n = refl
-none-at (stage ∷ stages) h zero = h stage (List·Memᴰ·head refl)
-none-at (stage ∷ stages) h (suc n) = none-at stages (λ g m. h g (List·Memᴰ·tail m)) n
-
 -- "An interchange is accepted when none of 1 to 13 is met"
 pub accepted-exactly : (s : List ℕ) → (refusalOf s ≡ none) ↔ Accepted s
-unfolding refusalOf stages laterStages answering lowest orElse met
+unfolding refusalOf stages placesOf brackets bracketed any number answering lowest orElse met
 accepted-exactly s = (there, back)
   where
     there : refusalOf s ≡ none → Accepted s
     there e =
-        let stage : (n : ℕ) → getD (stages s) n [] ≡ [] = none-at (stages s) (answering-none (stages s) .0 e) in
-        let read = three-none StrayRelease UnendedSegment BrokenTag (strayReleases s) (unendedSegment s) (brokenTags s) (stage 3) in
-        let held = three-none BadControl ReferenceDiffers CountWrong (badControls s) (differingReferences s) (wrongCounts s) (stage 7) in
+        let none = accepted-unmet s e in
         record {
-          short = met-none TooLong (tooLong s) .0 (stage 0);
-          advice = met-none UnusableAdvice (unusableAdvice s) .0 (stage 1);
-          opening = met-none NoOpening (noOpening s) .0 (stage 2);
-          releases = read .0;
-          ending = read .1;
-          tags = read .2;
-          level = met-none ForeignLevel (foreignLevel s) .0 (stage 4);
-          bytes = met-none OutsideLevel (outsideLevel s) .0 (stage 5);
-          order = met-none MisplacedSegment (misplacedSegments s) .0 (stage 6);
-          controls = held .0;
-          references = held .1;
-          counts = held .2;
-          normal = met-none NormalTooLong (normalTooLong s) .0 (stage 8);
+          short = none TooLong refl;
+          advice = none UnusableAdvice refl;
+          opening = none NoOpening refl;
+          releases = none StrayRelease refl;
+          ending = none UnendedSegment refl;
+          tags = none BrokenTag refl;
+          level = none ForeignLevel refl;
+          bytes = none OutsideLevel refl;
+          order = none MisplacedSegment refl;
+          controls = none BadControl refl;
+          references = none ReferenceDiffers refl;
+          counts = none CountWrong refl;
+          normal = none NormalTooLong refl;
         }
 
     back : Accepted s → refusalOf s ≡ none

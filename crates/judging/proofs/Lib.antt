@@ -1,3 +1,3 @@
-pub mod Judging
+pub mod Bodies
 pub mod Stages
 pub mod Told

@@ -1,20 +1,21 @@
--- One stage behind the other: what a stage's answer says of the whole. Assumes nothing.
-use Prim.Native.Nat.{ℕ, _<_}
-use mathlib.Core.Path.{_≡_, refl, sym, ap, _∙_}
+-- What each stage of the code finds is what its stage of the paper answers. Assumes nothing.
+use Prim.Native.Nat.{ℕ, suc, _+_, _<_, _≤_}
+use mathlib.Core.Path.{_≡_, refl, sym, ap, ap₂, _∙_}
 use mathlib.Core.Bool.{Bool, true, false}
-use mathlib.Core.List.{List, [], _∷_, map, reverse}
+use mathlib.Core.List.{List, [], _∷_, _++_, map, reverse}
 use mathlib.Core.Option.{Option, none, some}
 use native.Mathlib.Omega.{arith}
 use lib.ListN.{length}
-use Rattle.lists.specs.Lists.{if_then_else_, text, same, at, maybe}
+use lib.Dec.{eqb, ltb}
+use borrow.Author.Tests.{lt-ltb, le-ltb, eq-eqb, ne-eqb}
+use Rattle.lists.specs.Lists.{if_then_else_, all, those, text, same, at, maybe, through}
 use Rattle.lists.proofs.Pieces.{cut-first}
-use Rattle.characters.specs.declared.Characters.{Characters}
-use Rattle.refusals.specs.declared.Fault.the-variants.{ForeignLevel}
+use Rattle.characters.specs.Characters.{charactersOf, bodyStart, body}
+use Rattle.refusals.specs.declared.Fault.the-variants.{TooLong, ForeignLevel, NormalTooLong}
 use Rattle.refusals.specs.declared.Refusal.{Refusal}
 use Rattle.refusals.specs.declared.Outcome.{Outcome}
-use Rattle.refusals.specs.declared.Outcome.the-variants.{Passed, Failed}
-use Rattle.refusals.specs.Refusals.{met, lowest, lowerOf, orElse, answering, outcome}
-use Rattle.refusals.proofs.Stages.{orElse-neither, failed-is, passed-is}
+use Rattle.refusals.specs.Refusals.{number, met, placeIf, orElse, answering, outcome}
+use Rattle.refusals.proofs.Stages.{one-place}
 use Rattle.reading.specs.Tokens.{Token, Segment, ends, segments, start as startOf, tokensAt}
 use Rattle.reading.specs.Trimming.{valueAt, contentsOf}
 use Rattle.levels.specs.Levels.{levelNamed, isOurVersion, levelOf}
@@ -23,72 +24,70 @@ use Rattle.segments.specs.Tags.{kindOf}
 use Rattle.segments.specs.Order.{walkOver}
 use Rattle.scanner.specs.Scan.{segmentAt}
 use Rattle.scanner.proofs.Segments.{stands, segment-start}
-use Rattle.verdict.specs.Contents.{bodyTokens, segmentsOf, kindsOf}
-use Rattle.verdict.specs.Places.{foreignLevel, level}
-use Rattle.machines.specs.Walks.{refuse, worded, ordered}
-use Rattle.opening.proofs.Openings.{Opening, opening-says}
+use Rattle.verdict.specs.Contents.{bodyTokens, segmentsOf, kindsOf, normalCharacters, normalForm}
+use Rattle.verdict.specs.Places.{isOver, tooLong, foreignLevel, level, normalTooLong}
+use Rattle.verdict.specs.Stages.{placesOf, brackets, bracketsIn, bracketed, stagesIn, stages, refusalOf}
+use Rattle.verdict.proofs.Stages.{run-on, run-none}
+use Rattle.emission.specs.Emission.{emittedLength}
+use Rattle.verbatim.specs.Verbatim.{faultless}
+use Rattle.machines.specs.Walks.{ordered}
+use Rattle.machines.proofs.Walks.{ordered-answers}
+use Rattle.opening.specs.declared.Found.{Found}
+use Rattle.opening.specs.declared.Progress.{Progress}
+use Rattle.opening.specs.declared.Progress.the-variants.{Passed, Refused}
+use Rattle.opening.specs.Runs.{foundBy, progress}
+use Rattle.opening.proofs.Runs.{passed-is, asked-next}
 use Rattle.ordering.specs.declared.Ordered.{Ordered}
 use Rattle.ordering.specs.declared.Ordered.the-variants as ordered-as
 use Rattle.ordering.specs.Ordering.{orderedBy, orderedAs}
 use Rattle.answers.specs.declared.Judged.{Judged}
-use Rattle.answers.specs.declared.Judged.the-variants.{Refused}
+use Rattle.answers.specs.declared.Judged.the-variants as judged-as
 use Rattle.answers.specs.Answers.{toldJudged, accepted, refused}
-use Rattle.verdict.specs.Stages.{refusalOf}
-use Rattle.machines.proofs.Stages.{bodyRefusal, stage-by-stage}
-use Rattle.characters.specs.Characters.{charactersOf, bodyStart}
-use Rattle.opening.specs.declared.Opened.the-variants.{Body, Refused as Refused′}
-use Rattle.opening.specs.Opening.{openingStages, openingOf}
 use Rattle.operations.specs.Judge.{interchangeOf, judge}
-use Rattle.judging.specs.Judging.{verdictOf, judged, fromLength, fromControl, fromOrder, fromBytes, fromLevel, fromWords}
-use Rattle.judging.proofs.Judging.{body-tokens}
+use Rattle.judging.specs.Judging.{after, judged}
+use Rattle.judging.proofs.Bodies.{body-tokens, short, begun, sound, form-length, measure-bound}
 
--- ---- a stage that comes to an outcome
+-- ---- 1, before the others
 
-module _ (s : List ℕ) {o : Option Refusal} (rest : Option Refusal) where
-  -- what fails answers for all that follows
-  pub refused-by : {r : Refusal} → o ≡ some r → Refused r ≡ judged s (orElse o rest)
-  unfolding judged verdictOf orElse
-  refused-by e = sym (ap (λ (x : Option Refusal). judged s (orElse x rest)) e)
+module _ (s : List ℕ) where
+  sized : {b : Bool} → ltb 32000 (length s) ≡ b
+      → maybe (Passed (foundBy 6 s)) Refused (if b then some (record { fault = TooLong; place = 0 }) else answering (stagesIn s 2 6)) ≡ progress 1 6 s
+  unfolding progress stagesIn bracketsIn brackets those all number bracketed placesOf tooLong isOver
+  sized e = sym (ap (maybe (Passed (foundBy 6 s)) Refused) (one-place TooLong 0 (stagesIn s 2 6) e))
 
-  -- what passes leaves the answer to what follows
-  pub left-to : o ≡ none → judged s rest ≡ judged s (orElse o rest)
-  unfolding orElse
-  left-to e = sym (ap (λ (x : Option Refusal). judged s (orElse x rest)) e)
+  pub too-long : 32000 < length s → Refused (record { fault = TooLong; place = 0 }) ≡ progress 1 6 s
+  unfolding maybe
+  too-long h = sized (lt-ltb 32000 (length s) h)
 
--- what a match on the outcome of a walk over the tokens shows
-module _ (s : List ℕ) {c : Characters} {start : ℕ} (p : Opening s c start) (walk : List Token → Option Refusal) {answer : Outcome}
-    (e : answer ≡ outcome (walk (tokensAt c s start))) where
-  pub walk-failed : {r : Refusal} → answer ≡ Failed r → walk (bodyTokens s) ≡ some r
-  walk-failed {r} d = ap walk (sym (body-tokens s p)) ∙ failed-is (walk (tokensAt c s start)) r (sym e ∙ d)
+  pub not-too-long : length s ≤ 32000 → progress 2 6 s ≡ progress 1 6 s
+  unfolding progress
+  not-too-long h = sized (le-ltb 32000 (length s) h)
 
-  pub walk-passed : answer ≡ Passed → walk (bodyTokens s) ≡ none
-  walk-passed d = ap walk (sym (body-tokens s p)) ∙ passed-is (walk (tokensAt c s start)) (sym e ∙ d)
+-- what comes after it finds no more than 32,000 bytes
+pub short-by : (s : List ℕ) (last : ℕ) → bracketsIn 1 last ≡ bracketsIn 1 6 ++ bracketsIn 7 last → {before : Progress} {found : Found}
+    → before ≡ progress 1 last s → before ≡ Passed found → length s ≤ 32000
+short-by s last split e d = short s (run-none s 1 6 last split (passed-is s 1 last e d .0) .0)
 
--- ---- 9, which also hands on the walk
+-- ---- (4 5 6), 8 and (10 11 12): walks over the tokens
 
-order-failed-is : (walk : Walk) (o : Option Refusal) (r : Refusal) → orderedBy walk o ≡ ordered-as.Failed r → o ≡ some r
-order-failed-is walk none r e = cc
-order-failed-is walk (some q) r e = cc
+-- what is left after an outcome is what its answer leaves
+after-outcome : (found : Found) (o : Option Refusal) → after found (outcome o) ≡ maybe (Passed found) Refused o
+unfolding after outcome maybe
+after-outcome found none = refl
+after-outcome found (some r) = refl
 
-order-whole-is : (walk : Walk) (o : Option Refusal) (w : Walk) → orderedBy walk o ≡ ordered-as.Whole w → (o ≡ none) × (w ≡ walk)
-order-whole-is walk none w e = (refl, cc)
-order-whole-is walk (some q) w e = (cc, cc)
-
-module _ (s : List ℕ) {c : Characters} {start : ℕ} (p : Opening s c start) {answer : Ordered}
-    (e : answer ≡ orderedAs (length s) (tokensAt c s start)) where
-  pub order-failed : {r : Refusal} → answer ≡ ordered-as.Failed r → ordered (length s) (bodyTokens s) ≡ some r
-  unfolding orderedAs
-  order-failed {r} d =
-      ap (ordered (length s)) (sym (body-tokens s p))
-      ∙ order-failed-is (walkOver (reverse (map kindOf (segments (tokensAt c s start))))) (ordered (length s) (tokensAt c s start)) r (sym e ∙ d)
-
-  pub order-whole : {w : Walk} → answer ≡ ordered-as.Whole w → (ordered (length s) (bodyTokens s) ≡ none) × (w ≡ walkOver (kindsOf s))
-  unfolding orderedAs kindsOf segmentsOf
-  order-whole {w} d =
-      let (o, walk) = order-whole-is (walkOver (reverse (map kindOf (segments (tokensAt c s start))))) (ordered (length s) (tokensAt c s start)) w (sym e ∙ d) in (
-        ap (ordered (length s)) (sym (body-tokens s p)) ∙ o,
-        walk ∙ ap (λ (ts : List Token). walkOver (reverse (map kindOf (segments ts)))) (body-tokens s p),
-      )
+module _ (s : List ℕ) (first last next : ℕ) (split : bracketsIn first next ≡ bracketsIn first last ++ bracketsIn (suc last) next)
+    (walk : Found → List Token → Option Refusal) (answers : answering (stagesIn s (suc last) next) ≡ walk (foundBy last s) (bodyTokens s))
+    (same : foundBy last s ≡ foundBy next s) where
+  pub walked : {before : Progress} {found : Found} {stage : Outcome} {r : Progress} → before ≡ progress first last s → before ≡ Passed found
+      → stage ≡ outcome (walk found (tokensAt (found .characters) s (found .start))) → r ≡ after found stage → r ≡ progress first next s
+  walked {before} {found} e d w h =
+      let f = passed-is s first last e d .1 in
+      h
+      ∙ ap (after found) (w ∙ ap₂ (λ (g : Found) (ts : List Token). outcome (walk g ts)) f (body-tokens s last f))
+      ∙ after-outcome found (walk (foundBy last s) (bodyTokens s))
+      ∙ ap (λ (g : Found). maybe (Passed g) Refused (walk (foundBy last s) (bodyTokens s))) (f ∙ same)
+      ∙ asked-next s first last e next split d answers
 
 -- ---- 7
 
@@ -113,78 +112,171 @@ level-known g = by-version (isOurVersion g) (valueAt (contentsOf g) 1 0)
     by-version true (some v) e = by-name (same v (text "UNOA")) (same v (text "UNOB")) e
     by-version false v e = refl
 
-module _ (s : List ℕ) {c : Characters} {start : ℕ} (p : Opening s c start) where
-  inside : start < length s
-  inside = let h = p .fits in omega arith
+module _ (s : List ℕ) (e : answering (stagesIn s 1 6) ≡ none) where
+  abbrev first : Segment
+  first = segmentAt (charactersOf s) s (bodyStart s)
+
+  inside : bodyStart s < length s
+  inside = let h = begun s e in omega arith
 
   -- the first segment begins where the body begins
-  first-segment : at (segmentsOf s) 0 ≡ some (segmentAt c s start)
-  unfolding segmentsOf segments segmentAt at
+  first-segment : at (segmentsOf s) 0 ≡ some first
+  unfolding segmentsOf segments segmentAt at foundBy
   first-segment =
-      let (t, ts, e, q) = stands c s start inside in
-      ap (λ (l : List Token). at (segments l) 0) (sym (body-tokens s p) ∙ e)
+      let (t, ts, d, q) = stands (charactersOf s) s (bodyStart s) inside in
+      ap (λ (l : List Token). at (segments l) 0) (sym (body-tokens s 6 refl) ∙ d)
       ∙ ap (λ (l : List Segment). at l 0) (cut-first (ends 0) t ts)
-      ∙ ap (λ (l : List Token). some (Rattle.lists.specs.Lists.through (ends 0) l)) (sym e)
+      ∙ ap (λ (l : List Token). some (through (ends 0) l)) (sym d)
 
-  -- the level that is found is the one that the first segment names
-  pub level-found : {l : ℕ} → l ≡ numberOf (levelOf (segmentAt c s start)) → l ≡ level s
+  -- the level is the one that it names
+  level-named : numberOf (levelOf first) ≡ level s
   unfolding level maybe
-  level-found e = e ∙ sym (ap (maybe 0 (λ unb. numberOf (levelOf unb))) first-segment)
+  level-named = sym (ap (maybe 0 (λ unb. numberOf (levelOf unb))) first-segment)
 
-  -- none of ours: 7 at the first segment's start
-  pub level-foreign : {l : ℕ} → l ≡ numberOf (levelOf (segmentAt c s start)) → l ≡ 0
-      → lowest (met ForeignLevel (foreignLevel s)) ≡ refuse ForeignLevel start
-  unfolding foreignLevel maybe met lowest lowerOf
-  level-foreign e z =
-      ap (λ (o : Option Segment). lowest (met ForeignLevel (maybe [] (λ unb. maybe (startOf unb ∷ []) (λ k. []) (levelOf unb)) o))) first-segment
-      ∙ ap (λ (o : Option ℕ). lowest (met ForeignLevel (maybe (startOf (segmentAt c s start) ∷ []) (λ k. []) o))) (level-known (segmentAt c s start) (sym e ∙ z))
-      ∙ ap (refuse ForeignLevel) (segment-start c s start inside)
-
-  -- one of ours: 7 is not met
-  pub level-ours : {l : ℕ} → l ≡ numberOf (levelOf (segmentAt c s start)) → (l ≡ 0 → ⊥)
-      → lowest (met ForeignLevel (foreignLevel s)) ≡ none
-  unfolding foreignLevel maybe met lowest
-  level-ours e z =
-      ap (λ (o : Option Segment). lowest (met ForeignLevel (maybe [] (λ unb. maybe (startOf unb ∷ []) (λ k. []) (levelOf unb)) o))) first-segment
-      ∙ step (levelOf (segmentAt c s start)) (λ k. z (e ∙ k))
+  -- 7 is met at its start where that is none of ours
+  foreign-is : foreignLevel s ≡ placeIf (eqb (level s) 0) (bodyStart s)
+  unfolding foreignLevel maybe placeIf
+  foreign-is =
+      ap (maybe [] (λ unb. maybe (startOf unb ∷ []) (λ l. []) (levelOf unb))) first-segment
+      ∙ step (levelOf first) (level-known first)
+      ∙ ap₂ (λ (l place : ℕ). placeIf (eqb l 0) place) level-named (segment-start (charactersOf s) s (bodyStart s) inside)
     where
-      step : (o : Option ℕ) → (numberOf o ≡ 0 → ⊥) → lowest (met ForeignLevel (maybe (startOf (segmentAt c s start) ∷ []) (λ k. []) o)) ≡ none
-      step none h = absurd (h refl)
-      step (some k) h = refl
+      step : (o : Option ℕ) → (numberOf o ≡ 0 → o ≡ none) → maybe (startOf first ∷ []) (λ l. []) o ≡ placeIf (eqb (numberOf o) 0) (startOf first)
+      step none h = refl
+      step (some k) h = sym (ap (λ (t : Bool). placeIf t (startOf first)) (ne-eqb k 0 (λ z. absurd (none-some (h z)))))
+        where
+          none-some : _≡_ {A = Option ℕ} (some k) none → ⊥
+          none-some d = let z : _≡_ {A = ℕ} 0 1 = cc in omega arith
+
+  level-answers : {b : Bool} → eqb (level s) 0 ≡ b
+      → answering (stagesIn s 7 7) ≡ (if b then some (record { fault = ForeignLevel; place = bodyStart s }) else none)
+  unfolding stagesIn bracketsIn brackets those all number bracketed placesOf answering
+  level-answers d = ap (λ (ps : List ℕ). answering (met ForeignLevel ps ∷ [])) foreign-is ∙ one-place ForeignLevel (bodyStart s) [] d
+
+module _ (s : List ℕ) {before : Progress} {found : Found} (e : before ≡ progress 1 6 s) (d : before ≡ Passed found)
+    {l : ℕ} (h : l ≡ numberOf (levelOf (segmentAt (found .characters) s (found .start)))) where
+  level-is : l ≡ level s
+  unfolding foundBy
+  level-is =
+      let (passed, f) = passed-is s 1 6 e d in
+      h ∙ ap (λ (g : Found). numberOf (levelOf (segmentAt (g .characters) s (g .start)))) f ∙ level-named s passed
+
+  pub level-foreign : l ≡ 0 → Refused (record { fault = ForeignLevel; place = found .start }) ≡ progress 1 7 s
+  unfolding foundBy bracketsIn brackets those all number maybe
+  level-foreign z =
+      let (passed, f) = passed-is s 1 6 e d in
+      ap (λ (g : Found). Refused (record { fault = ForeignLevel; place = g .start })) f
+      ∙ asked-next s 1 6 e 7 refl d (level-answers s passed (eq-eqb (level s) 0 (sym level-is ∙ z)))
+
+  pub level-ours : (l ≡ 0 → ⊥)
+      → Passed (record { characters = found .characters; start = found .start; level = l; walk = found .walk }) ≡ progress 1 7 s
+  unfolding foundBy bracketsIn brackets those all number maybe
+  level-ours z =
+      let (passed, f) = passed-is s 1 6 e d in
+      ap₂ (λ (g : Found) (k : ℕ). Passed (record { characters = g .characters; start = g .start; level = k; walk = g .walk })) f level-is
+      ∙ asked-next s 1 6 e 7 refl d (level-answers s passed (ne-eqb (level s) 0 (λ k. z (level-is ∙ k))))
+
+-- ---- 9, which also hands on the walk
+
+order-failed-is : (walk : Walk) (o : Option Refusal) (r : Refusal) → orderedBy walk o ≡ ordered-as.Failed r → o ≡ some r
+order-failed-is walk none r e = cc
+order-failed-is walk (some q) r e = cc
+
+order-whole-is : (walk : Walk) (o : Option Refusal) (w : Walk) → orderedBy walk o ≡ ordered-as.Whole w → (o ≡ none) × (w ≡ walk)
+order-whole-is walk none w e = (refl, cc)
+order-whole-is walk (some q) w e = (cc, cc)
+
+module _ (s : List ℕ) {before : Progress} {found : Found} (e : before ≡ progress 1 8 s) (d : before ≡ Passed found) {answer : Ordered}
+    (h : answer ≡ orderedAs (length s) (tokensAt (found .characters) s (found .start))) where
+  order-is : answer ≡ orderedBy (walkOver (kindsOf s)) (ordered (length s) (bodyTokens s))
+  unfolding orderedAs kindsOf segmentsOf
+  order-is = h ∙ ap (orderedAs (length s)) (body-tokens s 8 (passed-is s 1 8 e d .1))
+
+  pub order-failed : {r : Refusal} → answer ≡ ordered-as.Failed r → Refused r ≡ progress 1 9 s
+  unfolding bracketsIn brackets those all number maybe
+  order-failed {r} k =
+      asked-next s 1 8 e 9 refl d (ordered-answers s ∙ order-failed-is (walkOver (kindsOf s)) (ordered (length s) (bodyTokens s)) r (sym order-is ∙ k))
+
+  pub order-whole : {w : Walk} → answer ≡ ordered-as.Whole w
+      → Passed (record { characters = found .characters; start = found .start; level = found .level; walk = w }) ≡ progress 1 9 s
+  unfolding foundBy bracketsIn brackets those all number maybe
+  order-whole {w} k =
+      let (o, walk) = order-whole-is (walkOver (kindsOf s)) (ordered (length s) (bodyTokens s)) w (sym order-is ∙ k) in
+      ap₂ (λ (g : Found) (v : Walk). Passed (record { characters = g .characters; start = g .start; level = g .level; walk = v })) (passed-is s 1 8 e d .1) walk
+      ∙ asked-next s 1 8 e 9 refl d (ordered-answers s ∙ o)
+
+-- ---- 13
+
+module _ (s : List ℕ) (e : answering (stagesIn s 1 12) ≡ none) {found : Found} (d : found ≡ foundBy 12 s) where
+  read : answering (stagesIn s 1 6) ≡ none
+  unfolding bracketsIn brackets those all number
+  read = run-none s 1 6 12 refl e .0
+
+  -- what is found may be measured
+  pub measurable : (length s ≤ 32000) × (found .start ≤ length s) × (faultless (tokensAt (found .characters) s (found .start)) ≡ true)
+  unfolding foundBy
+  measurable =
+      let start = ap (λ (f : Found). f .start) d in
+      let fits = begun s read in
+      (short s read, omega arith, ap faultless (body-tokens s 12 d) ∙ sound s read)
+
+  measure : emittedLength (normalCharacters (found .characters .mark)) 0 0 0 (tokensAt (found .characters) s (found .start))
+      ≡ emittedLength (normalCharacters (charactersOf s .mark)) 0 0 0 (bodyTokens s)
+  unfolding foundBy bodyTokens body tokensAt
+  measure =
+      ap (λ (f : Found). emittedLength (normalCharacters (f .characters .mark)) 0 0 0 (tokensAt (f .characters) s (f .start))) d
+
+  pub measured-bound : emittedLength (normalCharacters (found .characters .mark)) 0 0 0 (tokensAt (found .characters) s (found .start)) ≤ 64000
+  measured-bound = omega (arith, measure, measure-bound s read)
+
+  -- its measure is that of the normal form
+  pub measured-form : {n : ℕ} → n ≡ emittedLength (normalCharacters (found .characters .mark)) 0 0 0 (tokensAt (found .characters) s (found .start))
+      → n + 9 ≡ length (normalForm s)
+  measured-form h = omega (arith, h, measure, form-length s read)
+
+module _ (s : List ℕ) (n : ℕ) (e : n ≡ length (normalForm s)) where
+  length-answers : {b : Bool} → ltb 32000 (length (normalForm s)) ≡ b
+      → judged s (if b then some (record { fault = NormalTooLong; place = length (normalForm s) }) else none) ≡ judged s (answering (stagesIn s 13 13))
+  unfolding stagesIn bracketsIn brackets those all number bracketed placesOf normalTooLong isOver answering
+  length-answers d = sym (ap (judged s) (one-place NormalTooLong (length (normalForm s)) [] d))
+
+  pub length-refused : 32000 < n → judged-as.Refused (record { fault = NormalTooLong; place = n }) ≡ judged s (answering (stagesIn s 13 13))
+  unfolding judged maybe
+  length-refused h =
+      ap (λ (p : ℕ). judged-as.Refused (record { fault = NormalTooLong; place = p })) e
+      ∙ length-answers (lt-ltb 32000 (length (normalForm s)) (omega arith))
+
+  -- what is said of an accepted interchange, from what was found
+  pub length-accepted : {f : Found} → f ≡ foundBy 12 s → n ≤ 32000
+      → judged-as.Accepted (record { characters = f .characters; segments = f .walk .segments; messages = f .walk .messages; groups = f .walk .groups; length = n })
+      ≡ judged s (answering (stagesIn s 13 13))
+  unfolding judged maybe interchangeOf walkOver foundBy
+  length-accepted d h =
+      ap₂ (λ (f : Found) (k : ℕ). judged-as.Accepted (record { characters = f .characters; segments = f .walk .segments; messages = f .walk .messages; groups = f .walk .groups; length = k })) d e
+      ∙ length-answers (le-ltb 32000 (length (normalForm s)) (omega arith))
 
 -- ---- the whole
 
--- what is answered tells the paper's number and values
-pub told : (s : List ℕ) (r : Judged) → r ≡ judged s (refusalOf s) → toldJudged r ≡ judge s
-unfolding judge judged toldJudged maybe verdictOf
-told s r e = ap toldJudged e ∙ step (refusalOf s)
-  where
-    step : (o : Option Refusal) → toldJudged (verdictOf (interchangeOf s) o) ≡ maybe (accepted (interchangeOf s)) refused o
-    step none = refl
-    step (some q) = refl
-
 module _ (s : List ℕ) where
-  abbrev openingRefusal : Option Refusal
-  openingRefusal = answering (openingStages s)
+  -- what is answered tells the paper's number and values
+  told : {r : Judged} {o : Option Refusal} → r ≡ judged s o → refusalOf s ≡ o → toldJudged r ≡ judge s
+  unfolding judge judged toldJudged maybe
+  told {r} {o} e d = ap toldJudged e ∙ step o ∙ sym (ap (maybe (accepted (interchangeOf s)) refused) d)
+    where
+      step : (o : Option Refusal) → toldJudged (judged s o) ≡ maybe (accepted (interchangeOf s)) refused o
+      step none = refl
+      step (some q) = refl
 
-  whole : refusalOf s ≡ orElse openingRefusal (fromWords s)
-  unfolding openingStages fromWords fromLevel fromBytes fromOrder fromControl fromLength bodyRefusal
-  whole = stage-by-stage s
+  whole : {o p : Option Refusal} → answering (stagesIn s 1 12) ≡ o → answering (stagesIn s 13 13) ≡ p → refusalOf s ≡ orElse o p
+  unfolding refusalOf stages stagesIn bracketsIn brackets those all number
+  whole e d = run-on s 1 12 13 refl ∙ ap₂ orElse e d
 
-  -- 1, 2 or 3 answers
-  pub opening-answers : {r : Refusal} → openingRefusal ≡ some r → toldJudged (Refused r) ≡ judge s
-  opening-answers {r} e = told s (Refused r) (refused-by s (fromWords s) e ∙ ap (judged s) (sym whole))
+  -- one of 1 to 12 answers
+  pub earlier-answers : {r : Refusal} → answering (stagesIn s 1 12) ≡ some r → toldJudged (judged-as.Refused r) ≡ judge s
+  unfolding judged maybe orElse
+  earlier-answers {r} e = told refl (whole e refl)
 
   -- none of them does
-  pub body-answers : {r : Judged} → openingRefusal ≡ none → r ≡ judged s (fromWords s) → toldJudged r ≡ judge s
-  body-answers {r} e d = told s r (d ∙ left-to s (fromWords s) e ∙ ap (judged s) (sym whole))
-
-  -- an input that is not refused has an opening, and passes (4 5 6)
-  pub accepted-opening : refusalOf s ≡ none → Opening s (charactersOf s) (bodyStart s)
-  unfolding openingOf maybe
-  accepted-opening e =
-      opening-says s (ap (maybe (Body (charactersOf s) (bodyStart s)) Refused′) (orElse-neither openingRefusal (fromWords s) (sym whole ∙ e) .0))
-
-  pub accepted-worded : refusalOf s ≡ none → worded (length s) (bodyTokens s) ≡ none
-  unfolding fromWords
-  accepted-worded e = orElse-neither (worded (length s) (bodyTokens s)) (fromLevel s) (orElse-neither openingRefusal (fromWords s) (sym whole ∙ e) .1) .0
+  pub last-answers : {r : Judged} → answering (stagesIn s 1 12) ≡ none → r ≡ judged s (answering (stagesIn s 13 13)) → toldJudged r ≡ judge s
+  unfolding orElse
+  last-answers e d = told d (whole e refl)

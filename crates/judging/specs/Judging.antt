@@ -1,49 +1,23 @@
--- What Judge answers, from the refusal that answers, if any; and what answers from each stage on. Assumes nothing.
+-- What a stage leaves of what was found before it, and what Judge answers. Assumes nothing.
 use Prim.Native.Nat.{ℕ}
 use mathlib.Core.List.{List}
-use mathlib.Core.Option.{Option, none, some}
-use lib.ListN.{length}
-use Rattle.refusals.specs.declared.Fault.the-variants.{ForeignLevel, NormalTooLong}
+use mathlib.Core.Option.{Option}
+use Rattle.lists.specs.Lists.{maybe}
 use Rattle.refusals.specs.declared.Refusal.{Refusal}
-use Rattle.refusals.specs.Refusals.{met, lowest, orElse}
-use Rattle.verdict.specs.Contents.{bodyTokens}
-use Rattle.verdict.specs.Places.{foreignLevel, level, normalTooLong}
-use Rattle.verdict.specs.Stages.{refusalOf}
-use Rattle.machines.specs.Walks.{worded, leveled, ordered, controlled}
-use Rattle.answers.specs.declared.Interchange.{Interchange}
+use Rattle.refusals.specs.declared.Outcome.{Outcome}
+use Rattle.refusals.specs.declared.Outcome.the-variants as outcome
+use Rattle.opening.specs.declared.Found.{Found}
+use Rattle.opening.specs.declared.Progress.{Progress}
+use Rattle.opening.specs.declared.Progress.the-variants as progress
 use Rattle.answers.specs.declared.Judged.{Judged}
 use Rattle.answers.specs.declared.Judged.the-variants.{Accepted, Refused}
 use Rattle.operations.specs.Judge.{interchangeOf}
 
+-- what was found before a stage that passes, or its refusal
+unfoldable pub after : Found → Outcome → Progress
+after found outcome.Passed = progress.Passed found
+after found (outcome.Failed r) = progress.Refused r
+
 -- the interchange is accepted, or the refusal answers
-unfoldable pub verdictOf : Interchange → Option Refusal → Judged
-verdictOf i none = Accepted i
-verdictOf i (some r) = Refused r
-
 unfoldable pub judged : List ℕ → Option Refusal → Judged
-judged s refusal = verdictOf (interchangeOf s) refusal
-
-module _ (s : List ℕ) where
-  -- 13
-  unfoldable pub fromLength : Option Refusal
-  fromLength = lowest (met NormalTooLong (normalTooLong s))
-
-  -- from (10 11 12) on
-  unfoldable pub fromControl : Option Refusal
-  fromControl = orElse (controlled (bodyTokens s)) fromLength
-
-  -- from 9 on
-  unfoldable pub fromOrder : Option Refusal
-  fromOrder = orElse (ordered (length s) (bodyTokens s)) fromControl
-
-  -- from 8 on
-  unfoldable pub fromBytes : Option Refusal
-  fromBytes = orElse (leveled (level s) (bodyTokens s)) fromOrder
-
-  -- from 7 on
-  unfoldable pub fromLevel : Option Refusal
-  fromLevel = orElse (lowest (met ForeignLevel (foreignLevel s))) fromBytes
-
-  -- from (4 5 6) on
-  unfoldable pub fromWords : Option Refusal
-  fromWords = orElse (worded (length s) (bodyTokens s)) fromLevel
+judged s refusal = maybe (Accepted (interchangeOf s)) Refused refusal

@@ -1,42 +1,153 @@
-// Judge (paper 01, "Operations"): the stages one after the other, each asked only where those before
-// it found nothing. It promises, for any bytes, the answer that `operations` gives.
+// Judge (paper 01, "Operations"), and the runs of its stages that others go on from. Each run is the
+// one before it and one stage more, asked only where nothing was refused; it hands on what it found.
+// They promise, for any bytes, what the definition of the stages answers, and Judge the answer that
+// `operations` gives.
 ghost use mathlib.Core.Path.{_≡_};
 ghost use mathlib.Core.Option.{none};
-ghost use lib.ListN.{length};
-ghost use Rattle.segments.specs.Order.{walkOver};
-ghost use Rattle.verdict.specs.Contents.{bodyTokens, kindsOf};
-ghost use Rattle.verdict.specs.Places.{level as levelIn};
-ghost use Rattle.opening.proofs.Openings.{Opening};
-ghost use Rattle.machines.specs.Walks.{worded};
+ghost use Rattle.refusals.specs.Refusals.{answering};
+ghost use Rattle.verdict.specs.Stages.{stagesIn};
+ghost use Rattle.opening.specs.Runs.{foundBy, progress};
 ghost use Rattle.promises.specs.Promises.{Judges};
-ghost use Rattle.judging.specs.Judging.{judged, fromLength, fromControl, fromOrder, fromBytes, fromLevel, fromWords};
+ghost use Rattle.judging.specs.Judging.{after, judged};
 use answers::Interchange;
 use answers::Judged;
-use characters::Characters;
-use opening::Opened;
+use opening::Found;
+use opening::Progress;
+use opening::refused;
 use ordering::Ordered;
 use refusals::Fault;
 use refusals::Outcome;
 use refusals::Refusal;
-use segments::Walk;
 
-// 13: the length of the normal form.
-fn judge_length(s: &[u8], c: Characters, start: usize, walk: Walk) -> Judged
-    requires { ⌜ Opening (now s) c start × (worded (length (now s)) (bodyTokens (now s)) ≡ none) × (walk ≡ walkOver (kindsOf (now s))) ⌝ }
-    ensures { λ r. ⌜ r ≡ judged (now (s .entry)) (fromLength (now (s .entry))) ⌝ }
+// What was found before a stage that passes, or the stage's refusal.
+fn after(found: Found, stage: Outcome) -> Progress
+    ensures { λ r. ⌜ r ≡ after found stage ⌝ }
 {
-    let length = measuring::measured(s, c, start) + 9;
+    match stage {
+        Outcome::Passed => Progress::Passed(found),
+        Outcome::Failed(r) => Progress::Refused(r),
+    }
+}
+
+// 2, 3 and (4 5 6), of any number of bytes.
+pub fn stages_2_to_6(s: &[u8]) -> Progress
+    ensures { λ r. ⌜ r ≡ progress 2 6 (now (s .entry)) ⌝ }
+{
+    match opening::opening_of(s) {
+        Progress::Refused(r) => Progress::Refused(r),
+        Progress::Passed(found) => {
+            let c = found.characters;
+            after(found, wording::wording(s, c, found.start))
+        }
+    }
+}
+
+// 1 before them.
+pub fn stages_to_6(s: &[u8]) -> Progress
+    ensures { λ r. ⌜ r ≡ progress 1 6 (now (s .entry)) ⌝ }
+{
+    if 32000 < s.len() {
+        return refused(Fault::TooLong, 0);
+    }
+    stages_2_to_6(s)
+}
+
+// 7 after them, which finds the level.
+pub fn stages_to_7(s: &[u8]) -> Progress
+    ensures { λ r. ⌜ r ≡ progress 1 7 (now (s .entry)) ⌝ }
+{
+    match stages_to_6(s) {
+        Progress::Refused(r) => Progress::Refused(r),
+        Progress::Passed(found) => {
+            let c = found.characters;
+            let start = found.start;
+            let walk = found.walk;
+            let level = heading::level_of(s, c, start);
+            if level == 0 {
+                return refused(Fault::ForeignLevel, start);
+            }
+            Progress::Passed(Found {
+                characters: c,
+                start,
+                level,
+                walk,
+            })
+        }
+    }
+}
+
+// 8 after them.
+pub fn stages_to_8(s: &[u8]) -> Progress
+    ensures { λ r. ⌜ r ≡ progress 1 8 (now (s .entry)) ⌝ }
+{
+    match stages_to_7(s) {
+        Progress::Refused(r) => Progress::Refused(r),
+        Progress::Passed(found) => {
+            let c = found.characters;
+            let classes = levels::classes();
+            after(
+                found,
+                leveling::in_level(s, c, &classes, found.level, found.start),
+            )
+        }
+    }
+}
+
+// 9 after them, which finds the walk.
+pub fn stages_to_9(s: &[u8]) -> Progress
+    ensures { λ r. ⌜ r ≡ progress 1 9 (now (s .entry)) ⌝ }
+{
+    match stages_to_8(s) {
+        Progress::Refused(r) => Progress::Refused(r),
+        Progress::Passed(found) => {
+            let c = found.characters;
+            let start = found.start;
+            let level = found.level;
+            match ordering::ordering(s, c, start) {
+                Ordered::Failed(r) => Progress::Refused(r),
+                Ordered::Whole(walk) => Progress::Passed(Found {
+                    characters: c,
+                    start,
+                    level,
+                    walk,
+                }),
+            }
+        }
+    }
+}
+
+// (10 11 12) after them.
+pub fn stages_to_12(s: &[u8]) -> Progress
+    ensures { λ r. ⌜ r ≡ progress 1 12 (now (s .entry)) ⌝ }
+{
+    match stages_to_9(s) {
+        Progress::Refused(r) => Progress::Refused(r),
+        Progress::Passed(found) => {
+            let c = found.characters;
+            after(found, controlling::controlling(s, c, found.start))
+        }
+    }
+}
+
+// 13, of an input that all others passed: the length of the normal form.
+pub fn judge_length(s: &[u8], found: Found) -> Judged
+    requires { ⌜ (answering (stagesIn (now s) 1 12) ≡ none) × (found ≡ foundBy 12 (now s)) ⌝ }
+    ensures { λ r. ⌜ r ≡ judged (now (s .entry)) (answering (stagesIn (now (s .entry)) 13 13)) ⌝ }
+{
+    let characters = found.characters;
+    let length = measuring::measured(s, characters, found.start) + 9;
     if 32000 < length {
         return Judged::Refused(Refusal {
             fault: Fault::NormalTooLong,
             place: length,
         });
     }
+    let walk = found.walk;
     let segments = walk.segments;
     let messages = walk.messages;
     let groups = walk.groups;
     Judged::Accepted(Interchange {
-        characters: c,
+        characters,
         segments,
         messages,
         groups,
@@ -44,72 +155,12 @@ fn judge_length(s: &[u8], c: Characters, start: usize, walk: Walk) -> Judged
     })
 }
 
-// Stage (10 11 12), and what follows it.
-fn judge_control(s: &[u8], c: Characters, start: usize, walk: Walk) -> Judged
-    requires { ⌜ Opening (now s) c start × (worded (length (now s)) (bodyTokens (now s)) ≡ none) × (walk ≡ walkOver (kindsOf (now s))) ⌝ }
-    ensures { λ r. ⌜ r ≡ judged (now (s .entry)) (fromControl (now (s .entry))) ⌝ }
-{
-    match controlling::controlling(s, c, start) {
-        Outcome::Failed(r) => Judged::Refused(r),
-        Outcome::Passed => judge_length(s, c, start, walk),
-    }
-}
-
-// Stage 9, and what follows it.
-fn judge_order(s: &[u8], c: Characters, start: usize) -> Judged
-    requires { ⌜ Opening (now s) c start × (worded (length (now s)) (bodyTokens (now s)) ≡ none) ⌝ }
-    ensures { λ r. ⌜ r ≡ judged (now (s .entry)) (fromOrder (now (s .entry))) ⌝ }
-{
-    match ordering::ordering(s, c, start) {
-        Ordered::Failed(r) => Judged::Refused(r),
-        Ordered::Whole(walk) => judge_control(s, c, start, walk),
-    }
-}
-
-// Stage 8, and what follows it.
-fn judge_bytes(s: &[u8], c: Characters, start: usize, level: u8) -> Judged
-    requires { ⌜ Opening (now s) c start × (worded (length (now s)) (bodyTokens (now s)) ≡ none) × (level ≡ levelIn (now s)) ⌝ }
-    ensures { λ r. ⌜ r ≡ judged (now (s .entry)) (fromBytes (now (s .entry))) ⌝ }
-{
-    let classes = levels::classes();
-    match leveling::in_level(s, c, &classes, level, start) {
-        Outcome::Failed(r) => Judged::Refused(r),
-        Outcome::Passed => judge_order(s, c, start),
-    }
-}
-
-// Stage 7, and what follows it.
-fn judge_level(s: &[u8], c: Characters, start: usize) -> Judged
-    requires { ⌜ Opening (now s) c start × (worded (length (now s)) (bodyTokens (now s)) ≡ none) ⌝ }
-    ensures { λ r. ⌜ r ≡ judged (now (s .entry)) (fromLevel (now (s .entry))) ⌝ }
-{
-    let level = heading::level_of(s, c, start);
-    if level == 0 {
-        return Judged::Refused(Refusal {
-            fault: Fault::ForeignLevel,
-            place: start,
-        });
-    }
-    judge_bytes(s, c, start, level)
-}
-
-// Stage (4 5 6), and what follows it.
-fn judge_words(s: &[u8], c: Characters, start: usize) -> Judged
-    requires { ⌜ Opening (now s) c start ⌝ }
-    ensures { λ r. ⌜ r ≡ judged (now (s .entry)) (fromWords (now (s .entry))) ⌝ }
-{
-    match wording::wording(s, c, start) {
-        Outcome::Failed(r) => Judged::Refused(r),
-        Outcome::Passed => judge_level(s, c, start),
-    }
-}
-
 // Judges one interchange: any bytes, any length.
 pub fn judge(s: &[u8]) -> Judged
     ensures { λ r. ⌜ Judges (now (s .entry)) r ⌝ }
 {
-    match opening::opening_of(s) {
-        Opened::Refused(r) => Judged::Refused(r),
-        Opened::Body { characters, start } => judge_words(s, characters, start),
+    match stages_to_12(s) {
+        Progress::Refused(r) => Judged::Refused(r),
+        Progress::Passed(found) => judge_length(s, found),
     }
 }

@@ -22,8 +22,7 @@ use Rattle.verdict.specs.Contents.{bodyTokens, segmentsOf}
 use Rattle.verdict.specs.Stages.{refusalOf}
 use Rattle.placing.specs.Placing.{behindPieces, SegmentAt}
 use Rattle.placing.proofs.Placing.{pieces-behind}
-use Rattle.judging.proofs.Judging.{body-tokens, body-ended}
-use Rattle.judging.proofs.Stages.{accepted-opening, accepted-worded}
+use Rattle.judging.proofs.Bodies.{tokens-here, accepted-ended}
 use Rattle.judging.proofs.Told.{characters-of}
 use Rattle.answers.specs.declared.Interchange.{Interchange}
 use Rattle.answers.specs.declared.Located.{Located}
@@ -50,7 +49,7 @@ module _ (s : List ℕ) (segment element component : ℕ) where
     tokens-are : tokensAt (i .characters) s body ≡ bodyTokens s
     tokens-are =
         ap₂ (λ (c : Characters) (p : ℕ). tokensAt c s p) (characters-of s j) b
-        ∙ body-tokens s (accepted-opening s a)
+        ∙ tokens-here s
 
     start-is : tokensAt (i .characters) s start ≡ behindPieces (ends 0) segment (bodyTokens s)
     start-is = d ∙ ap (behindPieces (ends 0) segment) tokens-are
@@ -59,7 +58,7 @@ module _ (s : List ℕ) (segment element component : ℕ) where
     pub start-whole : Whole (tokensAt (i .characters) s start)
     start-whole =
         subst Whole (sym start-is)
-        (behind-whole (ends 0) segment (bodyTokens s) (body-ended s (accepted-opening s a) (accepted-worded s a)))
+        (behind-whole (ends 0) segment (bodyTokens s) (accepted-ended s a))
 
     -- the value of the segment that tokens begin with; of no segment where there are none
     of-segment : (ts : List Token)

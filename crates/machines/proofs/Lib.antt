@@ -3,4 +3,3 @@ pub mod Rising
 pub mod Segments
 pub mod Walks
 pub mod Worded
-pub mod Stages

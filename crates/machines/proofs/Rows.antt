@@ -7,13 +7,12 @@ use mathlib.Core.List.{List, [], _∷_, _++_, List·Memᴰ, List·Memᴰ·not-ni
 use mathlib.Core.Option.{Option, none}
 use mathlib.Core.Logic.{⊎-elim}
 use native.Mathlib.Omega.{arith}
-use Rattle.lists.specs.Lists.{if_then_else_, gather}
+use Rattle.lists.specs.Lists.{gather}
 use Rattle.refusals.specs.declared.Fault.{Fault}
 use Rattle.refusals.specs.declared.Refusal.{Refusal}
-use Rattle.refusals.specs.Refusals.{Stage, met, placeIf, lowerOf, lowest, orElse}
+use Rattle.refusals.specs.Refusals.{Stage, met, placeIf, lowest, orElse}
 use Rattle.refusals.proofs.Stages.{met-append}
 use Rattle.refusals.proofs.Lowest.{lowest-rising}
-use Rattle.machines.specs.Walks.{refuse}
 
 -- ---- rows
 
@@ -60,13 +59,7 @@ module _ {A : Type 0} (P : ℕ → ℕ → A → Type 0) (f : A → Stage)
 -- ---- what is met where a test passes
 
 module _ (f : Fault) where
-  -- it answers at its place
-  pub lowest-if : (t : Bool) (p : ℕ) → lowest (met f (placeIf t p)) ≡ (if t then refuse f p else none)
-  unfolding met placeIf lowest lowerOf
-  lowest-if true p = refl
-  lowest-if false p = refl
-
-  -- and lies there
+  -- it lies at its place
   pub if-within : {low high : ℕ} (t : Bool) (p : ℕ) → low ≤ p → p < high → Within low high (met f (placeIf t p))
   unfolding met placeIf
   if-within true p l h = λ r m. omega (arith, ap (λ (q : Refusal). q .place) (List·Memᴰ·eq-of-singleton m))

@@ -12,11 +12,11 @@ use Rattle.refusals.specs.declared.Fault.{Fault}
 use Rattle.refusals.specs.declared.Refusal.{Refusal}
 use Rattle.refusals.specs.Refusals.{Stage, met, placeIf, lowest, orElse}
 use Rattle.refusals.proofs.Lowest.{lowest-rising}
-use Rattle.refusals.proofs.Stages.{met-append}
+use Rattle.refusals.proofs.Stages.{lowest-if, met-append}
 use Rattle.reading.specs.Tokens.{Segment, start}
 use Rattle.verdict.specs.Places.{startsWhere}
 use Rattle.machines.specs.Walks.{refuse, firstIn}
-use Rattle.machines.proofs.Rows.{Within, Climbs, end, on, firstOf, gather-within, lowest-row, lowest-if, if-within}
+use Rattle.machines.proofs.Rows.{Within, Climbs, end, on, firstOf, gather-within, lowest-row, if-within}
 use Rattle.machines.proofs.Rising.{Spans}
 
 -- a segment behind what passed before it, the nearest first

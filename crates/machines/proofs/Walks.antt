@@ -2,20 +2,20 @@
 use Prim.Native.Nat.{ℕ, _≤_}
 use mathlib.Core.Path.{_≡_, refl, ap, _∙_}
 use mathlib.Core.Bool.{Bool, true, false, not}
-use mathlib.Core.List.{List, [], _∷_, _++_, map, List·Memᴰ·not-nil}
+use mathlib.Core.List.{List, [], _∷_, _++_, map, append-assoc, List·Memᴰ·not-nil}
 use mathlib.Core.Option.{Option, none, some}
 use lib.ListN.{length}
 use lib.Dec.{lit≤}
 use native.Mathlib.Omega.{arith}
-use Rattle.lists.specs.Lists.{if_then_else_}
+use Rattle.lists.specs.Lists.{if_then_else_, all, those}
 use Rattle.lists.proofs.Texts.{if-false}
 use Rattle.refusals.specs.declared.Fault.{Fault}
 use Rattle.refusals.specs.declared.Fault.the-variants.{OutsideLevel, MisplacedSegment, BadControl, ReferenceDiffers, CountWrong}
 use Rattle.refusals.specs.declared.Refusal.{Refusal}
-use Rattle.refusals.specs.Refusals.{number, Stage, met, placeIf, isLower, lowerOf, lowest, orElse}
+use Rattle.refusals.specs.Refusals.{number, Stage, met, placeIf, isLower, lowerOf, lowest, orElse, answering}
 use Rattle.refusals.proofs.Order.{key, not-lower}
 use Rattle.refusals.proofs.Lowest.{merge, lowest-append, lowest-gather-three}
-use Rattle.refusals.proofs.Stages.{met-append}
+use Rattle.refusals.proofs.Stages.{lowest-if, met-append}
 use Rattle.reading.specs.Tokens.{Token, byte, separator, fault, Segment, start, placeOf}
 use Rattle.levels.specs.Levels.{inLevel}
 use Rattle.segments.specs.Tags.{kindOf}
@@ -23,8 +23,10 @@ use Rattle.segments.specs.Order.{allowed, isComplete}
 use Rattle.control.specs.Control.{controlRule, referenceDiffers, countWrong}
 use Rattle.verdict.specs.Contents.{bodyTokens, segmentsOf, kindsOf}
 use Rattle.verdict.specs.Places.{level, placeOutside, outsideLevel, misplacedSegments, badControls, differingReferences, wrongCounts, misplaced, badControl}
+use Rattle.verdict.specs.Stages.{placesOf, brackets, bracketsIn, bracketed, stagesIn}
+use Rattle.verdict.proofs.Stages.{one-stage}
 use Rattle.machines.specs.Walks.{refuse, firstIn, leveled, orderedSegment, ordered, controlledSegment, controlled}
-use Rattle.machines.proofs.Rows.{Within, firstOf, lowest-row, lowest-if, if-within, append-within, met-gather}
+use Rattle.machines.proofs.Rows.{Within, firstOf, lowest-row, if-within, append-within, met-gather}
 use Rattle.machines.proofs.Rising.{lastPlace, Lies, Spans, body-rises, segments-rise}
 use Rattle.machines.proofs.Segments.{Passed, withPast, failing, failing-within, met-starts, lowest-segments, lowest-ended}
 
@@ -51,10 +53,11 @@ module _ (s : List ℕ) where
   first-outside (separator kind place ∷ ts) = first-outside ts
   first-outside (fault place ∷ ts) = first-outside ts
 
-  pub leveled-answers : lowest (met OutsideLevel (outsideLevel s)) ≡ leveled (level s) (bodyTokens s)
-  unfolding outsideLevel
+  pub leveled-answers : answering (stagesIn s 8 8) ≡ leveled (level s) (bodyTokens s)
+  unfolding bracketsIn brackets those all number bracketed placesOf outsideLevel
   leveled-answers =
-      rw met-gather (lowest-row Lies (λ t. met OutsideLevel (placeOutside s t)) outside-within (body-rises s) ∙ first-outside (bodyTokens s))
+      one-stage s 8 8 (OutsideLevel ∷ []) refl
+      ∙ rw met-gather (lowest-row Lies (λ t. met OutsideLevel (placeOutside s t)) outside-within (body-rises s) ∙ first-outside (bodyTokens s))
 
 -- ---- 9
 
@@ -69,10 +72,11 @@ order-answers : (low high : ℕ) (past : List Segment) (g : Segment) → Spans l
 unfolding orderedSegment
 order-answers low high past g spans = rw lowest-if (if-not (allowed (map kindOf past) (kindOf g)) (refuse MisplacedSegment (start g)))
 
-pub ordered-answers : (s : List ℕ) → lowest (met MisplacedSegment (misplacedSegments s)) ≡ ordered (length s) (bodyTokens s)
-unfolding misplacedSegments ordered segmentsOf kindsOf
+pub ordered-answers : (s : List ℕ) → answering (stagesIn s 9 9) ≡ ordered (length s) (bodyTokens s)
+unfolding bracketsIn brackets those all number bracketed placesOf misplacedSegments ordered segmentsOf kindsOf
 ordered-answers s =
-    rw (met-append, met-starts MisplacedSegment misplaced [] (segmentsOf s))
+    one-stage s 9 9 (MisplacedSegment ∷ []) refl
+    ∙ rw (met-append, met-starts MisplacedSegment misplaced [] (segmentsOf s))
     (lowest-ended (failing MisplacedSegment misplaced) orderedSegment (failing-within MisplacedSegment misplaced) order-answers
     [] MisplacedSegment (not (isComplete (kindsOf s))) (segments-rise s)
     ∙ ap (orElse (firstIn orderedSegment [] (segmentsOf s))) (if-not (isComplete (kindsOf s)) (refuse MisplacedSegment (length s))))
@@ -121,12 +125,11 @@ control-answers low high past g spans = simp (lowest-append, lowest-if) (step (c
         ap (λ (o : Option Refusal). merge o (if c then wrong else none)) (lower-number BadControl ReferenceDiffers (start g) b (lit≤ tt))
         ∙ lower-number BadControl CountWrong (start g) c (lit≤ tt)
 
-pub controlled-answers : (s : List ℕ)
-    → lowest (met BadControl (badControls s) ++ met ReferenceDiffers (differingReferences s) ++ met CountWrong (wrongCounts s))
-    ≡ controlled (bodyTokens s)
-unfolding badControls differingReferences wrongCounts controlled controls segmentsOf
+pub controlled-answers : (s : List ℕ) → answering (stagesIn s 10 12) ≡ controlled (bodyTokens s)
+unfolding bracketsIn brackets those all number bracketed placesOf badControls differingReferences wrongCounts controlled controls segmentsOf
 controlled-answers s =
     let gs = segmentsOf s in
-    rw (met-starts BadControl badControl [] gs, met-starts ReferenceDiffers referenceDiffers [] gs, met-starts CountWrong countWrong [] gs)
+    one-stage s 10 12 (BadControl ∷ ReferenceDiffers ∷ CountWrong ∷ []) refl
+    ∙ rw (← append-assoc, met-starts BadControl badControl [] gs, met-starts ReferenceDiffers referenceDiffers [] gs, met-starts CountWrong countWrong [] gs)
     (lowest-gather-three (failing BadControl badControl) (failing ReferenceDiffers referenceDiffers) (failing CountWrong countWrong) (withPast [] gs)
     ∙ lowest-segments controls controlledSegment control-within control-answers [] (segments-rise s))

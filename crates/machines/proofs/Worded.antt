@@ -4,24 +4,26 @@
 use Prim.Native.Nat.{ℕ}
 use mathlib.Core.Path.{_≡_, refl, sym, ap, ap₂, subst, _∙_}
 use mathlib.Core.Bool.{Bool, true, false, not, _&&_}
-use mathlib.Core.List.{List, [], _∷_, _++_}
+use mathlib.Core.List.{List, [], _∷_, _++_, append-assoc}
 use mathlib.Core.Option.{Option, none, some}
 use lib.ListN.{length}
 use native.Mathlib.Omega.{arith}
-use Rattle.lists.specs.Lists.{if_then_else_, isEmpty, all, lastOr, through, onto, cut, gather, maybe}
+use Rattle.lists.specs.Lists.{if_then_else_, isEmpty, all, those, lastOr, through, onto, cut, gather, maybe}
 use Rattle.lists.proofs.Pieces.{cut-first, gather-cut}
 use Rattle.refusals.specs.declared.Fault.the-variants.{StrayRelease, UnendedSegment, BrokenTag}
 use Rattle.refusals.specs.declared.Refusal.{Refusal}
-use Rattle.refusals.specs.Refusals.{Stage, met, placeIf, lowerOf, lowest, orElse}
+use Rattle.refusals.specs.Refusals.{number, Stage, met, placeIf, lowerOf, lowest, orElse, answering}
 use Rattle.refusals.proofs.Lowest.{merge, merge-comm, merge-assoc, lowest-append, lowest-gather}
-use Rattle.refusals.proofs.Stages.{orElse-none, orElse-assoc}
+use Rattle.refusals.proofs.Stages.{lowest-if, orElse-none, orElse-assoc}
 use Rattle.reading.specs.Tokens.{Token, byte, separator, fault, ends, placeOf, Segment, segments, start}
 use Rattle.reading.specs.Values.{isFault, endedBy, endsInside, finished}
 use Rattle.segments.specs.Tags.{tagRule}
 use Rattle.verdict.specs.Contents.{bodyTokens, segmentsOf}
 use Rattle.verdict.specs.Places.{strayReleases, unendedSegment, brokenTags, brokenTag}
+use Rattle.verdict.specs.Stages.{placesOf, brackets, bracketsIn, bracketed, stagesIn}
+use Rattle.verdict.proofs.Stages.{one-stage}
 use Rattle.machines.specs.Walks.{refuse, firstIn, firstFault, wordedSegment, worded}
-use Rattle.machines.proofs.Rows.{Within, firstOf, gather-within, lowest-row, lowest-if, if-within, append-within, met-gather}
+use Rattle.machines.proofs.Rows.{Within, firstOf, gather-within, lowest-row, if-within, append-within, met-gather}
 use Rattle.machines.proofs.Rising.{Lies, Rising, Spans, segments-rise}
 use Rattle.machines.proofs.Segments.{Passed, withPast, failing, failing-within, met-starts, gather-past, lowest-ended}
 
@@ -176,11 +178,11 @@ module _ (s : List ℕ) where
       ∙ met-gather StrayRelease (gather strayAt) (segmentsOf s)
       ∙ gather-past (λ g. met StrayRelease (gather strayAt g)) [] (segmentsOf s)
 
-  pub worded-answers : lowest (met StrayRelease (strayReleases s) ++ met UnendedSegment (unendedSegment s) ++ met BrokenTag (brokenTags s))
-      ≡ worded (length s) (bodyTokens s)
-  unfolding unendedSegment brokenTags segmentsOf segments worded wordedSegment wordedOr misworded
+  pub worded-answers : answering (stagesIn s 4 6) ≡ worded (length s) (bodyTokens s)
+  unfolding bracketsIn brackets those all number bracketed placesOf unendedSegment brokenTags segmentsOf segments worded wordedSegment wordedOr misworded
   worded-answers =
-      rw (stray-parts, met-starts BrokenTag brokenTag [] (segmentsOf s))
+      one-stage s 4 6 (StrayRelease ∷ UnendedSegment ∷ BrokenTag ∷ []) refl
+      ∙ rw (← append-assoc, stray-parts, met-starts BrokenTag brokenTag [] (segmentsOf s))
       (lowest-around (λ p. met StrayRelease (gather strayAt (p .1))) (failing BrokenTag brokenTag) (withPast [] (segmentsOf s))
       (met UnendedSegment (unendedSegment s))
       ∙ lowest-ended misworded (wordedOr none) misworded-within misworded-answers [] UnendedSegment (endsInside (bodyTokens s)) (segments-rise s)

@@ -20,8 +20,7 @@ use Rattle.emission.proofs.Theorems.{contents-emitted}
 use Rattle.verbatim.specs.Verbatim.{faultless}
 use Rattle.machines.specs.Walks.{refuse}
 use Rattle.storing.proofs.Stores.{sets-append}
-use Rattle.judging.proofs.Judging.{body-ended, body-faultless}
-use Rattle.judging.proofs.Stages.{accepted-opening, accepted-worded}
+use Rattle.judging.proofs.Bodies.{tokens-here, accepted-ended, accepted-sound}
 use Rattle.answers.specs.declared.Stored.the-variants.{Length, Refused}
 use Rattle.answers.specs.Answers.{given, toldStored}
 use Rattle.promises.specs.Promises.{Normalises}
@@ -37,7 +36,7 @@ nine c = refl
 pub form-faultless : (s : List ℕ) → refusalOf s ≡ none → {c : Characters} {start : ℕ} → c ≡ charactersOf s → start ≡ bodyStart s
     → faultless (tokensAt c s start) ≡ true
 form-faultless s a d p =
-    ap₂ (λ (c : Characters) (start : ℕ). faultless (tokensAt c s start)) d p ∙ body-faultless s (accepted-opening s a) (accepted-worded s a)
+    ap faultless (ap₂ (λ (c : Characters) (start : ℕ). tokensAt c s start) d p ∙ tokens-here s) ∙ accepted-sound s a
 
 module _ (buffer s : List ℕ) where
   -- a refusal answers, and the buffer is unchanged
@@ -61,7 +60,7 @@ module _ (buffer s : List ℕ) where
     form-is d p =
         ap (λ (l : List ℕ). adviceOf (normalCharacters (charactersOf s .mark)) ++ l)
         (contents-emitted (normalCharacters (charactersOf s .mark)) (charactersOf s) (bodyStart s) (body s)
-        (body-ended s (accepted-opening s a) (accepted-worded s a)))
+        (accepted-ended s a))
         ∙ ap₂
         (λ (c : Characters) (start : ℕ). adviceOf (normalCharacters (c .mark)) ++ emitted (normalCharacters (c .mark)) 0 0 (tokensAt c s start))
         (sym d)

@@ -12,8 +12,8 @@ use answers::Stored;
 use refusals::Fault;
 use refusals::Refusal;
 
-// Stores the normal form of an interchange that was accepted.
-fn store_form(buffer: &mut [u8], s: &[u8], i: Interchange) -> Stored
+// Stores the normal form of an interchange that Judge accepted, of which it said this.
+pub fn store_form(buffer: &mut [u8], s: &[u8], i: Interchange) -> Stored
     requires { ⌜ (refusalOf (now s) ≡ none) × (i ≡ interchangeOf (now s)) ⌝ }
     ensures { λ r. ⌜ Normalises (now (buffer .entry)) (now (s .entry)) r (now (buffer .exit)) ⌝ }
 {

@@ -3,7 +3,8 @@ use Prim.Native.Nat.{ℕ, _+_, _≤_, _<_, zero-le, suc-le-suc}
 use mathlib.Core.Path.{_≡_, refl, sym, ap, _∙_}
 use mathlib.Core.Bool.{Bool, true, false, not, _&&_, _||_, and-assoc, and-true, false≢true}
 use mathlib.Core.List.{List, [], _∷_, _++_}
-use lib.ListN.{length, getD, drop, drop-of-length-le}
+use native.Mathlib.Omega.{arith}
+use lib.ListN.{length, getD, drop, drop-of-length-le, length-drop}
 use lib.Seq.{drop-cons, drop-drop, getD-drop}
 use lib.Dec.{eqb, ltb, lit≤}
 use Rattle.lists.specs.Lists.{if_then_else_, text, begins}
@@ -97,3 +98,9 @@ module _ (s : List ℕ) where
   unfolding opens body
   opens-tests e f g h =
       cc (begins-at s (bodyStart s) (text "UNB") (charactersOf s .element ∷ []), e, f, g, h)
+
+  -- what opens a body is in the input
+  pub opens-fits : opens s ≡ true → bodyStart s + 4 ≤ length s
+  unfolding opens body
+  opens-fits h =
+      omega (arith, begins-length (text "UNB" ++ charactersOf s .element ∷ []) (body s) h, length-drop (bodyStart s) s)

@@ -1,6 +1,7 @@
-// The opening of an input (paper 01, "Service characters"; refusals 1 to 3): which service characters
-// it uses, whether they are usable, and where its body begins. It promises what the first three stages
-// of Judge come to. What the body holds is left to others.
+// The opening of an input (paper 01, "Service characters"; refusals 2 and 3): which service characters
+// it uses, whether they are usable, and where its body begins. It promises what these two stages of
+// Judge answer, as `Progress`, in which every run of stages hands on what it found. What the body
+// holds is left to others.
 ghost use mathlib.Core.Path.{_≡_};
 ghost use mathlib.Core.Bool.{not};
 ghost use mathlib.Core.List.{[], _∷_, _++_};
@@ -8,10 +9,11 @@ ghost use Prim.Native.Nat.{_≤_};
 ghost use lib.ListN.{getD, drop};
 ghost use Rattle.lists.specs.Lists.{text, begins, member, allDiffer};
 ghost use Rattle.characters.specs.Characters.{between, separates, usable, advised, charactersOf, bodyStart, badAdvice, opens};
-ghost use Rattle.opening.specs.Opening.{openingOf};
+ghost use Rattle.opening.specs.Runs.{progress};
 use characters::Characters;
 use refusals::Fault;
 use refusals::Refusal;
+use segments::Walk;
 
 // ---- when six bytes are usable
 
@@ -155,36 +157,45 @@ fn is_opening(s: &[u8]) -> bool
     tag_stands(s, start, b'B') & byte_stands(s, start + 3, c.element)
 }
 
-// What the first three stages of Judge come to.
-pub enum Opened {
-    Body {
-        characters: Characters,
-        start: usize,
-    },
+// What a run of stages finds of an input: its service characters and where its body begins; the level
+// that UNB names, once stage 7 has passed, and the walk over its segments, once stage 9 has. Before
+// that the level is 0, and the walk has passed no segment.
+pub struct Found {
+    pub characters: Characters,
+    pub start: usize,
+    pub level: u8,
+    pub walk: Walk,
+}
+
+// What a run of stages answers: what it found, or the refusal.
+pub enum Progress {
+    Passed(Found),
     Refused(Refusal),
 }
 
-fn refused(fault: Fault, place: usize) -> Opened
-    ensures { λ r. ⌜ r ≡ Opened.Refused (record { fault = fault; place = place }) ⌝ }
+pub fn refused(fault: Fault, place: usize) -> Progress
+    ensures { λ r. ⌜ r ≡ Progress.Refused (record { fault = fault; place = place }) ⌝ }
 {
-    Opened::Refused(Refusal { fault, place })
+    Progress::Refused(Refusal { fault, place })
 }
 
-pub fn opening_of(s: &[u8]) -> Opened
-    ensures { λ r. ⌜ r ≡ openingOf (now (s .entry)) ⌝ }
+// Stages 2 and 3.
+pub fn opening_of(s: &[u8]) -> Progress
+    ensures { λ r. ⌜ r ≡ progress 2 3 (now (s .entry)) ⌝ }
 {
-    if 32000 < s.len() {
-        return refused(Fault::TooLong, 0);
-    }
     if has_bad_advice(s) {
         return refused(Fault::UnusableAdvice, 0);
     }
     let start = body_start(s);
     if is_opening(s) {
-        return Opened::Body {
-            characters: characters_of(s),
+        let characters = characters_of(s);
+        let walk = walking::beginning();
+        return Progress::Passed(Found {
+            characters,
             start,
-        };
+            level: 0,
+            walk,
+        });
     }
     refused(Fault::NoOpening, start)
 }

@@ -2,7 +2,6 @@
 -- Assumes nothing.
 use Prim.Native.Nat.{ℕ, _≤_, _<_}
 use mathlib.Core.Path.{_≡_, refl, ap, ap₂, _∙_}
-use mathlib.Core.Bool.{Bool}
 use mathlib.Core.List.{List, [], _∷_, _++_}
 use mathlib.Core.Option.{Option, none, some}
 use native.Mathlib.Nat.{zero-add}
@@ -13,8 +12,8 @@ use borrow.Author.Tests.{lt-ltb, le-ltb}
 use Rattle.lists.specs.Lists.{if_then_else_, maybe}
 use Rattle.refusals.specs.declared.Fault.the-variants.{BufferShort}
 use Rattle.refusals.specs.declared.Refusal.{Refusal}
-use Rattle.refusals.specs.Refusals.{Stage, met, placeIf, lowerOf, lowest, orElse, answering}
-use Rattle.refusals.proofs.Stages.{answering-append}
+use Rattle.refusals.specs.Refusals.{Stage, orElse, answering}
+use Rattle.refusals.proofs.Stages.{answering-append, one-place}
 use Rattle.reading.specs.Values.{Value}
 use Rattle.verdict.specs.Contents.{normalForm}
 use Rattle.verdict.specs.Stages.{stages, refusalOf}
@@ -73,16 +72,14 @@ last-answers s last e = answering-append (stages s) last ∙ ap (λ (o : Option 
 -- a lent buffer that is too short answers with the length that is needed
 pub short-answers : (new buffer : List ℕ) (last : List Stage) → length buffer < length new
     → answering (shortFor new buffer ∷ last) ≡ some (record { fault = BufferShort; place = length new })
-unfolding answering shortFor orElse met placeIf lowest lowerOf
-short-answers new buffer last h =
-    ap (λ (t : Bool). answering (met BufferShort (placeIf t (length new)) ∷ last)) (lt-ltb (length buffer) (length new) h)
+unfolding shortFor
+short-answers new buffer last h = one-place BufferShort (length new) last (lt-ltb (length buffer) (length new) h)
 
 -- and one that holds the new leaves it to those behind
 pub room-answers : (new buffer : List ℕ) (last : List Stage) → length new ≤ length buffer
     → answering (shortFor new buffer ∷ last) ≡ answering last
-unfolding answering shortFor orElse met placeIf lowest
-room-answers new buffer last h =
-    ap (λ (t : Bool). answering (met BufferShort (placeIf t (length new)) ∷ last)) (le-ltb (length buffer) (length new) h)
+unfolding shortFor
+room-answers new buffer last h = one-place BufferShort (length new) last (le-ltb (length buffer) (length new) h)
 
 -- a text stored at the front is the text and what is beyond it
 pub front-stored : (buffer text : List ℕ) → length text ≤ length buffer → sets buffer 0 text ≡ storedIn buffer text

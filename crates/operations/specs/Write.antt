@@ -10,7 +10,7 @@ use Rattle.characters.specs.declared.Characters.{Characters}
 use Rattle.characters.specs.Characters.{sixBytes, usable, released, isService}
 use Rattle.refusals.specs.declared.Fault.the-variants.{TooLong, UnusableAdvice, BadList, NeedsRelease}
 use Rattle.refusals.specs.declared.Refusal.{Refusal}
-use Rattle.refusals.specs.Refusals.{met, placeIf, answering}
+use Rattle.refusals.specs.Refusals.{Stage, met, placeIf, answering}
 use Rattle.verdict.specs.Contents.{interchange}
 use Rattle.verdict.specs.Places.{tooLong}
 use Rattle.verdict.specs.Stages.{laterStages}
@@ -57,16 +57,18 @@ module _ (service bytes table : List ℕ) where
 
 module _ (service bytes table output : List ℕ) where
   -- "Writer: 15, 2, 16, 1, 14, then 3 to 13 as Judge would answer for the text."
-  unfoldable pub writeRefusal : Option Refusal
-  writeRefusal =
+  unfoldable pub writeStages : List Stage
+  writeStages =
       let written = writtenText service bytes table in
-      answering
-      (met BadList (badList bytes table)
+      met BadList (badList bytes table)
       ∷ met UnusableAdvice (unusableBytes service)
       ∷ met NeedsRelease (needsRelease service bytes table)
       ∷ met TooLong (tooLong written)
       ∷ shortFor written output
-      ∷ laterStages written)
+      ∷ laterStages written
+
+  unfoldable pub writeRefusal : Option Refusal
+  writeRefusal = answering writeStages
 
   unfoldable pub write : Answer
   write = maybe (given (length (writtenText service bytes table) ∷ [])) refused writeRefusal

@@ -18,8 +18,7 @@ use Rattle.verdict.specs.Stages.{refusalOf}
 use Rattle.emission.proofs.Cases.{reading-known}
 use Rattle.machines.specs.Walks.{refuse}
 use Rattle.forms.proofs.Normal.{contents-shaped}
-use Rattle.judging.proofs.Judging.{body-ended}
-use Rattle.judging.proofs.Stages.{accepted-opening, accepted-worded}
+use Rattle.judging.proofs.Bodies.{accepted-ended}
 use Rattle.tallying.specs.Tally.{tableOf}
 use Rattle.tallying.proofs.Contents.{contents-bytes, contents-table}
 use Rattle.answers.specs.declared.Listed.the-variants.{Values, Refused}
@@ -33,7 +32,7 @@ use Rattle.operations.proofs.Answered.{front-stored, read-refused, read-given, 
 
 module _ (s : List ℕ) (a : refusalOf s ≡ none) {c : Characters} {start : ℕ} (d : c ≡ charactersOf s) (p : start ≡ bodyStart s) where
   whole : endsInside (bodyTokens s) ≡ false
-  whole = body-ended s (accepted-opening s a) (accepted-worded s a)
+  whole = accepted-ended s a
 
   -- the tokens that the code reads are the body's
   same-tokens : bodyTokens s ≡ tokensAt c s start

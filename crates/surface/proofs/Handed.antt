@@ -1,18 +1,17 @@
 -- The parts that Keep and Locate's companion hand back, as the functions name them. Assumes nothing.
-use Prim.Native.Nat.{ℕ, _≤_, _<_}
-use mathlib.Core.Path.{_≡_, refl, sym, ap}
-use mathlib.Core.Bool.{true, false}
+use Prim.Native.Nat.{ℕ}
+use mathlib.Core.Path.{_≡_, refl, sym, ap, _∙_}
 use mathlib.Core.List.{List, [], _∷_}
 use mathlib.Core.Option.{Option, none, some}
-use lib.ListN.{length}
-use borrow.Author.Tests.{lt-ltb, le-ltb}
 use Rattle.lists.specs.Lists.{maybe}
 use Rattle.reading.specs.Values.{Value}
 use Rattle.refusals.specs.declared.Refusal.{Refusal}
 use Rattle.verdict.specs.Stages.{refusalOf}
 use Rattle.answers.specs.Answers.{given, refused}
-use Rattle.operations.specs.Compare.{areSame, keep}
+use Rattle.operations.specs.Compare.{keep}
 use Rattle.operations.specs.Locate.{located, locate, partOffset, partLength}
+use Rattle.comparing.specs.declared.Kept.{Kept}
+use Rattle.comparing.specs.Parts.{partOf as partNamed}
 use Rattle.surface.specs.declared.Location.{Location}
 use Rattle.surface.specs.declared.Part.{Part}
 use Rattle.surface.specs.Verdicts.{value}
@@ -22,22 +21,9 @@ use Rattle.surface.proofs.Laid.{refused-location}
 
 -- ---- Keep
 
-module _ (first second : List ℕ) where
-  -- the two are not the same
-  pub kept-none : areSame first second ≡ false → record { input = 1; offset = 0; length = 0 } ≡ keptOf (keep first second)
-  unfolding keep keptOf
-  kept-none e = rw e
-
-  module _ (e : areSame first second ≡ true) where
-    -- they are, and the second is shorter
-    pub kept-second : length second < length first → record { input = 2; offset = 0; length = length second } ≡ keptOf (keep first second)
-    unfolding keep keptOf
-    kept-second h = rw (e, lt-ltb (length second) (length first) h)
-
-    -- they are, and it is not
-    pub kept-first : length first ≤ length second → record { input = 1; offset = 0; length = length first } ≡ keptOf (keep first second)
-    unfolding keep keptOf
-    kept-first h = rw (e, le-ltb (length second) (length first) h)
+-- the part that an answer names, laid out
+pub kept-laid : (first second : List ℕ) {r q : Kept} → partNamed r ≡ keep first second → r ≡ q → keptOf (partNamed q) ≡ keptOf (keep first second)
+kept-laid first second e d = ap keptOf (sym (ap partNamed d) ∙ e)
 
 -- ---- Locate's companion
 

@@ -112,29 +112,22 @@ pub extern "C" fn hverolda_compare(first: &[u8], second: &[u8]) -> Comparison
     comparison_of(comparing::compare(first, second))
 }
 
-// A slice that is handed back cannot cross, so the part is named: `comparing::keep`'s choice.
+// A slice that is handed back cannot cross, so the part is named.
 #[no_mangle]
 pub extern "C" fn hverolda_keep(first: &[u8], second: &[u8]) -> Kept
     ensures { λ r. ⌜ r ≡ keptOf (keepOf (now (first .entry)) (now (second .entry))) ⌝ }
 {
-    if !comparing::are_same(first, second) {
-        return Kept {
+    match comparing::kept_part(first, second) {
+        comparing::Kept::First(length) => Kept {
             input: 1,
             offset: 0,
-            length: 0,
-        };
-    }
-    if second.len() < first.len() {
-        return Kept {
+            length,
+        },
+        comparing::Kept::Second(length) => Kept {
             input: 2,
             offset: 0,
-            length: second.len(),
-        };
-    }
-    Kept {
-        input: 1,
-        offset: 0,
-        length: first.len(),
+            length,
+        },
     }
 }
 

@@ -27,7 +27,8 @@ use Rattle.forms.proofs.Normal.{accepted-usable, accepted-passes}
 use Rattle.forms.proofs.Theorems.{same-exactly}
 use Rattle.trips.specs.Trips.{listGiven, standingAt, WrittenBack, Rewritable, ReadBack, Named, Placed}
 use Rattle.trips.proofs.Values.{kinds-sound}
-use Rattle.trips.proofs.Written.{write-passed, text-accepted, text-contents, text-characters, text-stored, list-read, list-sound, list-releasable, list-text, six-usable, short-enough, later-none, read-accepted, bytes-stand, table-stands}
+use Rattle.verdict.proofs.Stages.{later-none}
+use Rattle.trips.proofs.Written.{write-passed, text-accepted, text-contents, text-characters, text-stored, list-read, list-sound, list-releasable, list-text, six-usable, short-enough, read-accepted, bytes-stand, table-stands}
 use Rattle.trips.proofs.Positions.{standing-map, every-standing}
 use Rattle.trips.proofs.Places.{named-body}
 use Rattle.trips.proofs.Placed.{standing-placed}

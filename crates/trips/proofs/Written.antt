@@ -23,12 +23,13 @@ use Rattle.reading.specs.Spelling.{SegmentList, spell}
 use Rattle.verdict.specs.Contents.{contents, interchange, normalCharacters, normalForm}
 use Rattle.verdict.specs.Places.{tooLong, unusableAdvice, normalTooLong}
 use Rattle.verdict.specs.Stages.{laterStages, stages, refusalOf}
+use Rattle.verdict.proofs.Stages.{later-answers}
 use Rattle.verdict.proofs.Over.{within}
 use Rattle.answers.specs.Answers.{given, refused}
 use Rattle.operations.specs.Judge.{shortFor, storedIn, unlessRefused}
 use Rattle.operations.specs.Read.{valueBytes, valueTable, readRefusal, readBytes, readTable}
 use Rattle.operations.specs.ValueList.{Item, listOf, listBytes, listTable, listedIn, segmentsListed, trimList}
-use Rattle.operations.specs.Write.{badList, unusableBytes, needsRelease, writtenText, writeRefusal, write, writeOutput}
+use Rattle.operations.specs.Write.{badList, unusableBytes, needsRelease, writtenText, writeStages, writeRefusal, write, writeOutput}
 use Rattle.operations.proofs.Answered.{read-given}
 use Rattle.spelling.specs.Bodies.{Shaped, Releasable}
 use Rattle.spelling.proofs.Grammar.{spells-list}
@@ -57,13 +58,6 @@ first-none stage rest h =
 pub none-first : (stage : Stage) (rest : List Stage) → stage ≡ [] → answering rest ≡ none → answering (stage ∷ rest) ≡ none
 unfolding answering orElse
 none-first stage rest e h = ap₂ orElse (lowest-none stage .1 e) h
-
--- the later stages refuse nothing in an accepted input
-pub later-none : (s : List ℕ) → refusalOf s ≡ none → answering (laterStages s) ≡ none
-unfolding refusalOf stages
-later-none s h =
-    let second : List Stage = met UnusableAdvice (unusableAdvice s) ∷ laterStages s in
-    first-none (met UnusableAdvice (unusableAdvice s)) (laterStages s) (first-none (met TooLong (tooLong s)) second h .1) .1
 
 -- 14 is not met exactly where the buffer holds the new
 pub room : (new buffer : List ℕ) → (shortFor new buffer ≡ []) ↔ (length new ≤ length buffer)
@@ -108,7 +102,7 @@ module _ (service bytes table output : List ℕ) where
     pub later : answering (laterStages t) ≡ none
 
   pub write-passed : (writeRefusal service bytes table output ≡ none) ↔ Passed
-  unfolding writeRefusal
+  unfolding writeRefusal writeStages
   write-passed = (there, back)
     where
       listed : Stage
@@ -164,13 +158,7 @@ module _ (service bytes table output : List ℕ) where
   module _ (p : Passed) where
     -- the text is accepted
     pub text-accepted : refusalOf t ≡ none
-    unfolding refusalOf stages
-    text-accepted =
-        none-first (met TooLong (tooLong t)) (met UnusableAdvice (unusableAdvice t) ∷ laterStages t)
-        (met-none TooLong (tooLong t) .1 (p .short))
-        (none-first (met UnusableAdvice (unusableAdvice t)) (laterStages t)
-        (met-none UnusableAdvice (unusableAdvice t) .1 (text-advice (p .characters)))
-        (p .later))
+    text-accepted = sym (later-answers t (p .short) (text-advice (p .characters))) ∙ p .later
 
     -- its contents are the trimmed list
     pub text-contents : contents t ≡ listGiven bytes table

@@ -6,11 +6,9 @@ ghost use mathlib.Core.Bool.{true};
 ghost use Prim.Native.Nat.{_≤_};
 ghost use lib.ListN.{length, take, replicate};
 ghost use Rattle.characters.specs.Characters.{sixBytes, usable};
-ghost use Rattle.refusals.specs.Refusals.{answering};
 ghost use Rattle.verdict.specs.Stages.{refusalOf};
-ghost use Rattle.operations.specs.Judge.{storedIn};
 ghost use Rattle.promises.specs.Promises.{Writes};
-ghost use Rattle.writing.specs.Writing.{Written, Passed, textOf, textStages, releaseStages, serviceStages};
+ghost use Rattle.writing.specs.Writing.{Written, WritesAfter, Passed};
 use answers::Judged;
 use answers::Stored;
 use characters::Characters;
@@ -39,9 +37,15 @@ fn write_judged(output: &mut [u8], n: usize) -> Stored
 }
 
 // 1 and 14, then the text itself.
-fn write_text(c: Characters, bytes: &[u8], table: &[u32], output: &mut [u8]) -> Stored
-    requires { ⌜ (usable c ≡ true) × Passed (now bytes) (now table) ⌝ }
-    ensures { λ r. ⌜ Written (answering (textStages c (now (bytes .entry)) (now (table .entry)) (now (output .entry)))) (length (textOf c (now (bytes .entry)) (now (table .entry)))) (storedIn (now (output .entry)) (textOf c (now (bytes .entry)) (now (table .entry)))) (now (output .entry)) r (now (output .exit)) ⌝ }
+fn write_text(
+    service: &[u8],
+    c: Characters,
+    bytes: &[u8],
+    table: &[u32],
+    output: &mut [u8],
+) -> Stored
+    requires { ⌜ (c ≡ sixBytes (now service)) × (usable c ≡ true) × Passed (now bytes) (now table) ⌝ }
+    ensures { λ r. ⌜ WritesAfter 3 (now (service .entry)) (now (bytes .entry)) (now (table .entry)) (now (output .entry)) r (now (output .exit)) ⌝ }
 {
     let n = composing::text_length(c, bytes, table);
     if 32000 < n {
@@ -67,13 +71,19 @@ fn write_text(c: Characters, bytes: &[u8], table: &[u32], output: &mut [u8]) -> 
 }
 
 // 16, and what follows it.
-fn write_released(c: Characters, bytes: &[u8], table: &[u32], output: &mut [u8]) -> Stored
-    requires { ⌜ (usable c ≡ true) × Passed (now bytes) (now table) ⌝ }
-    ensures { λ r. ⌜ Written (answering (releaseStages c (now (bytes .entry)) (now (table .entry)) (now (output .entry)))) (length (textOf c (now (bytes .entry)) (now (table .entry)))) (storedIn (now (output .entry)) (textOf c (now (bytes .entry)) (now (table .entry)))) (now (output .entry)) r (now (output .exit)) ⌝ }
+fn write_released(
+    service: &[u8],
+    c: Characters,
+    bytes: &[u8],
+    table: &[u32],
+    output: &mut [u8],
+) -> Stored
+    requires { ⌜ (c ≡ sixBytes (now service)) × (usable c ≡ true) × Passed (now bytes) (now table) ⌝ }
+    ensures { λ r. ⌜ WritesAfter 2 (now (service .entry)) (now (bytes .entry)) (now (table .entry)) (now (output .entry)) r (now (output .exit)) ⌝ }
 {
     match value_lists::check_release(c, bytes, table) {
         Outcome::Failed(r) => refuse(output, r),
-        Outcome::Passed => write_text(c, bytes, table, output),
+        Outcome::Passed => write_text(service, c, bytes, table, output),
     }
 }
 
@@ -95,7 +105,7 @@ fn characters_of(service: &[u8]) -> Characters
 // 2, and what follows it.
 fn write_listed(service: &[u8], bytes: &[u8], table: &[u32], output: &mut [u8]) -> Stored
     requires { ⌜ Passed (now bytes) (now table) ⌝ }
-    ensures { λ r. ⌜ Written (answering (serviceStages (now (service .entry)) (now (bytes .entry)) (now (table .entry)) (now (output .entry)))) (length (textOf (sixBytes (now (service .entry))) (now (bytes .entry)) (now (table .entry)))) (storedIn (now (output .entry)) (textOf (sixBytes (now (service .entry))) (now (bytes .entry)) (now (table .entry)))) (now (output .entry)) r (now (output .exit)) ⌝ }
+    ensures { λ r. ⌜ WritesAfter 1 (now (service .entry)) (now (bytes .entry)) (now (table .entry)) (now (output .entry)) r (now (output .exit)) ⌝ }
 {
     let unusable = Refusal {
         fault: Fault::UnusableAdvice,
@@ -106,7 +116,7 @@ fn write_listed(service: &[u8], bytes: &[u8], table: &[u32], output: &mut [u8]) 
     }
     let c = characters_of(service);
     if opening::is_usable(c) {
-        return write_released(c, bytes, table, output);
+        return write_released(service, c, bytes, table, output);
     }
     refuse(output, unusable)
 }

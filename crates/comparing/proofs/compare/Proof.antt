@@ -1,7 +1,8 @@
 -- `comparing::compare` meets its contract: "1st is judged first". Assumes nothing.
+use mathlib.Core.Path.{sym, _∙_}
 use borrow.Author.Needs.{needs}
 use Rattle.judging.proofs.Told.{told-accepted, told-refused}
-use Rattle.comparing.proofs.Compared.{first-refused}
+use Rattle.comparing.proofs.Compared.{first-refused, bytes-same}
 use Rattle.comparing.proofs.compare.Statement.{statement}
 use Rattle.comparing.proofs.compare.Tie as tie
 
@@ -14,18 +15,37 @@ enum-known-r c = search needs
 enum-known-i : tie.Need-enum-known-i
 enum-known-i c = search needs
 
-compare-second-requires : tie.Need-compare-second-requires
-compare-second-requires c κs = told-accepted (c .before .before .before .before .before .before .args .first .now) (c .before .before .before .judge .ensures) (c .before .i .given .1)
+equal-requires : tie.Need-equal-requires
+equal-requires c κs = search needs
 
 returns : tie.Need-returns
 returns c =
-    let first = c .before .before .before .before .before .before .args .first .now in
-    first-refused first (c .before .before .before .before .before .before .args .second .now) (told-refused first (c .before .before .before .judge .ensures) (c .before .r .given .1))
+    let first = c .before .before .before .before .before .before .before .before .args .first .now in
+    let second = c .before .before .before .before .before .before .before .before .args .second .now in
+    let passes = told-accepted first (c .before .before .before .before .before .judge .ensures) (c .before .before .before .i .given .1) .0 in
+    bytes-same first second passes (sym (c .before .equal .ensures) ∙ c .if1 .taken)
+
+compare-second-requires : tie.Need-compare-second-requires
+compare-second-requires c κs = told-accepted (c .before .before .before .before .before .before .before .before .args .first .now) (c .before .before .before .before .before .judge .ensures) (c .before .before .before .i .given .1)
 
 returns-2 : tie.Need-returns-2
-returns-2 c = search needs
+returns-2 c =
+    let first = c .before .before .before .before .before .before .args .first .now in
+    let second = c .before .before .before .before .before .before .args .second .now in
+    first-refused first second (told-refused first (c .before .before .before .judge .ensures) (c .before .r .given .1))
+
+returns-3 : tie.Need-returns-3
+returns-3 c = search needs
 
 pub compare-spec : {M : Type 1} → statement M
 compare-spec =
     tie.close
-    (tie.spec judge-requires enum-known-r enum-known-i compare-second-requires returns returns-2)
+    (tie.spec
+    judge-requires
+    enum-known-r
+    enum-known-i
+    equal-requires
+    returns
+    compare-second-requires
+    returns-2
+    returns-3)

@@ -1,29 +1,51 @@
 -- `comparing::keep` meets its contract: the slice that it hands back is the part that is named. Assumes nothing.
-use mathlib.Core.Path.{refl, sym, _∙_}
+use mathlib.Core.Path.{refl, sym}
+use lib.Seq.{length-take-le}
 use borrow.Author.Needs.{needs}
-use borrow.Author.Tests.{not-true, not-false}
-use Rattle.comparing.proofs.Kept.{handed-none, handed-second, handed-first}
+use Rattle.comparing.specs.Parts.{partOf}
+use Rattle.comparing.proofs.Keeping.{kept-fits, handed-first, handed-second}
 use Rattle.comparing.proofs.keep.Statement.{statement}
 use Rattle.comparing.proofs.keep.Tie as tie
 
-are-same-requires : tie.Need-are-same-requires
-are-same-requires c κs = search needs
+kept-part-requires : tie.Need-kept-part-requires
+kept-part-requires c κs = search needs
+
+enum-known-n : tie.Need-enum-known-n
+enum-known-n c = search needs
 
 slice-aggregate-result : tie.Need-slice-aggregate-result
-slice-aggregate-result c = search needs
+unfolding partOf
+slice-aggregate-result c =
+    let x = c .before .before .before .before .before .before .before .args in
+    sym (length-take-le _ (x .first .now) (kept-fits (x .first .now) (x .second .now) (c .before .before .before .before .kept-part .ensures) (c .before .before .n .given .1)))
+
+enum-known-n-2 : tie.Need-enum-known-n-2
+enum-known-n-2 c = search needs
+
+slice-aggregate-result-2 : tie.Need-slice-aggregate-result-2
+unfolding partOf
+slice-aggregate-result-2 c =
+    let x = c .before .before .before .before .before .before .before .args in
+    sym (length-take-le _ (x .second .now) (kept-fits (x .first .now) (x .second .now) (c .before .before .before .before .kept-part .ensures) (c .before .before .n2 .given .1)))
 
 returns : tie.Need-returns
 returns c =
-    handed-none (c .before .before .before .before .before .args .first) (c .before .before .before .before .before .args .second) _ (sym (c .before .before .are-same .ensures) ∙ not-true (c .before .before .are-same .result) (c .before .if1 .taken)) refl refl
+    let x = c .before .before .before .before .before .before .before .args in
+    handed-first (x .first) (x .second) _ (c .before .before .before .before .kept-part .result) (c .before .before .before .before .kept-part .ensures) (c .before .before .n .given .1) refl refl
 
 returns-2 : tie.Need-returns-2
 returns-2 c =
-    handed-second (c .before .before .before .before .before .args .first) (c .before .before .before .before .before .args .second) (sym (c .before .before .are-same .ensures) ∙ not-false (c .before .before .are-same .result) (c .before .if1 .left)) (c .if2 .taken)
-
-returns-3 : tie.Need-returns-3
-returns-3 c =
-    handed-first (c .before .before .before .before .before .args .first) (c .before .before .before .before .before .args .second) (sym (c .before .before .are-same .ensures) ∙ not-false (c .before .before .are-same .result) (c .before .if1 .left)) (c .if2 .left)
+    let x = c .before .before .before .before .before .before .before .args in
+    handed-second (x .first) (x .second) _ (c .before .before .before .before .kept-part .result) (c .before .before .before .before .kept-part .ensures) (c .before .before .n2 .given .1) refl refl
 
 pub keep-spec : {M : Type 1} → statement M
 keep-spec =
-    tie.close (tie.spec are-same-requires slice-aggregate-result returns returns-2 returns-3)
+    tie.close
+    (tie.spec
+    kept-part-requires
+    enum-known-n
+    slice-aggregate-result
+    enum-known-n-2
+    slice-aggregate-result-2
+    returns
+    returns-2)

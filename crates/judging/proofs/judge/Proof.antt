@@ -1,31 +1,31 @@
--- `judging::judge` meets its contract: 1, 2 or 3 answers, or what follows them does. Assumes nothing.
+-- `judging::judge` meets its contract: one of 1 to 12 answers, or 13 does. Assumes nothing.
+use Rattle.opening.proofs.Runs.{refused-is, passed-is}
+use Rattle.judging.proofs.Stages.{earlier-answers, last-answers}
 use borrow.Author.Needs.{needs}
-use Rattle.opening.proofs.Openings.{opens-as}
-use Rattle.judging.proofs.Stages.{opening-answers, body-answers}
 use Rattle.judging.proofs.judge.Statement.{statement}
 use Rattle.judging.proofs.judge.Tie as tie
 
-opening-of-requires : tie.Need-opening-of-requires
-opening-of-requires c κs = search needs
+stages-to-12-requires : tie.Need-stages-to-12-requires
+stages-to-12-requires c κs = search needs
 
 enum-known-r : tie.Need-enum-known-r
 enum-known-r c = search needs
 
-enum-known-characters : tie.Need-enum-known-characters
-enum-known-characters c = search needs
+enum-known-found : tie.Need-enum-known-found
+enum-known-found c = search needs
 
-judge-words-requires : tie.Need-judge-words-requires
-judge-words-requires c κs = opens-as (c .before .before .before .before .before .args .s .now) (c .before .before .before .opening-of .ensures) (c .before .characters .given .1)
+judge-length-requires : tie.Need-judge-length-requires
+judge-length-requires c κs = passed-is (c .before .before .before .before .before .args .s .now) 1 12 (c .before .before .before .stages-to-12 .ensures) (c .before .found .given .1)
 
 returns : tie.Need-returns
 returns c =
     let s = c .before .before .before .before .before .args .s .now in
-    opening-answers s (opens-as s (c .before .before .before .opening-of .ensures) (c .before .r .given .1))
+    earlier-answers s (refused-is s 1 12 (c .before .before .before .stages-to-12 .ensures) (c .before .r .given .1))
 
 returns-2 : tie.Need-returns-2
 returns-2 c =
     let s = c .before .before .before .before .before .before .args .s .now in
-    body-answers s (opens-as s (c .before .before .before .before .opening-of .ensures) (c .before .before .characters .given .1) .unmet) (c .judge-words .ensures)
+    last-answers s (passed-is s 1 12 (c .before .before .before .before .stages-to-12 .ensures) (c .before .before .found .given .1) .0) (c .judge-length .ensures)
 
 pub judge-spec : {M : Type 1} → statement M
-judge-spec = tie.close (tie.spec opening-of-requires enum-known-r enum-known-characters judge-words-requires returns returns-2)
+judge-spec = tie.close (tie.spec stages-to-12-requires enum-known-r enum-known-found judge-length-requires returns returns-2)

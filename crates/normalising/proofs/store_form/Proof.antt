@@ -14,7 +14,7 @@ use Rattle.verdict.specs.Contents.{normalCharacters}
 use Rattle.emission.specs.Emission.{emitted}
 use Rattle.answers.specs.declared.Interchange.{Interchange}
 use Rattle.emitting.proofs.Putting.{stored-length}
-use Rattle.judging.proofs.Stages.{accepted-opening}
+use Rattle.judging.proofs.Bodies.{accepted-short}
 use Rattle.judging.proofs.Told.{length-of, characters-of}
 use Rattle.normalising.proofs.Storing.{form-faultless, short-refuses, form-is, form-stored, parts-fit}
 use Rattle.normalising.proofs.store_form.Statement.{statement}
@@ -63,7 +63,7 @@ put-contents-requires c κs =
     (c .before .before .before .before .before .before .before .before .if1 .left) in
     let room : 9 + length (spelled (c .before .before .before .before .before .before .before .before .before .before .before .args .i) s (c .body-start .result)) ≤ length (c .before .before .before .before .put-advice .last .0) = omega arith in
     let a = c .before .before .before .before .before .before .before .before .before .before .before .pre .0 in
-    (room, lit≤ tt, accepted-opening s a .short, form-faultless s a (characters-of s i) (c .body-start .ensures))
+    (room, lit≤ tt, accepted-short s a, form-faultless s a (characters-of s i) (c .body-start .ensures))
 
 same-length : tie.Need-same-length
 same-length c = search needs

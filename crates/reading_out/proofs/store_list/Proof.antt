@@ -2,7 +2,7 @@
 use mathlib.Core.Path.{ap, _∙_}
 use native.Mathlib.Omega.{arith}
 use Rattle.answers.specs.Answers.{toldListed}
-use Rattle.judging.proofs.Stages.{accepted-opening}
+use Rattle.judging.proofs.Bodies.{accepted-short}
 use Rattle.judging.proofs.Told.{characters-of}
 use Rattle.reading_out.proofs.Reading.{bytes-are, table-is, bytes-needed, numbers-needed, bytes-refused, table-refused, list-stored}
 use borrow.Author.Needs.{needs}
@@ -13,7 +13,7 @@ body-start-requires : tie.Need-body-start-requires
 body-start-requires c κs = search needs
 
 tally-of-requires : tie.Need-tally-of-requires
-tally-of-requires c κs = accepted-opening (c .before .before .before .before .before .args .s .now) (c .before .before .before .before .before .pre .0) .short
+tally-of-requires c κs = accepted-short (c .before .before .before .before .before .args .s .now) (c .before .before .before .before .before .pre .0)
 
 too-short-requires : tie.Need-too-short-requires
 too-short-requires c κs = search needs
@@ -45,7 +45,7 @@ returns-2 c =
 put-values-requires : tie.Need-put-values-requires
 put-values-requires c κs =
     let t = c .before .before .before .before .before .before .tally-of .ensures in
-    let short = accepted-opening (c .before .before .before .before .before .before .before .before .before .before .before .before .args .s .now) (c .before .before .before .before .before .before .before .before .before .before .before .before .pre .0) .short in
+    let short = accepted-short (c .before .before .before .before .before .before .before .before .before .before .before .before .args .s .now) (c .before .before .before .before .before .before .before .before .before .before .before .before .pre .0) in
     omega arith
 
 same-length : tie.Need-same-length

@@ -1,11 +1,10 @@
 -- `writing::write_listed` meets its contract: 2 answers, or what follows it does. Assumes nothing.
-use mathlib.Core.Path.{sym, ap, _∙_}
+use mathlib.Core.Path.{refl, sym, ap, _∙_}
 use lib.ListN.{length}
 use borrow.Author.Needs.{needs}
-use Rattle.characters.specs.Characters.{sixBytes, usable}
-use Rattle.operations.specs.Judge.{storedIn}
-use Rattle.writing.specs.Writing.{textOf}
-use Rattle.writing.proofs.Writing.{refused-written, service-short, service-unusable, service-refused, service-passed}
+use borrow.Author.Tests.{eq-eqb, ne-eqb}
+use Rattle.characters.specs.Characters.{usable}
+use Rattle.writing.proofs.Writing.{refuses, passes, service-answers}
 use Rattle.writing.proofs.write_listed.Statement.{statement}
 use Rattle.writing.proofs.write_listed.Tie as tie
 
@@ -21,10 +20,9 @@ returns c =
     let bytes = c .before .before .before .before .before .before .before .before .before .args .bytes .now in
     let table = c .before .before .before .before .before .before .before .before .before .args .table .now in
     let output = c .before .before .before .before .before .before .before .before .before .args .output .now in
-    let text = textOf (sixBytes service) bytes table in
-    refused-written (length text) (storedIn output text) output
-    (service-refused service bytes table output (service-short service (c .before .before .before .before .if1 .taken)))
-    (c .before .before .refuse .ensures .0) (c .before .before .refuse .ensures .1)
+    refuses service bytes table output 1
+    (service-answers service bytes table output (ne-eqb (length service) 6 (c .before .before .before .before .if1 .taken)) refl)
+    (c .before .before .refuse .ensures)
 
 characters-of-requires : tie.Need-characters-of-requires
 characters-of-requires c κs = search needs
@@ -33,15 +31,22 @@ is-usable-requires : tie.Need-is-usable-requires
 is-usable-requires c κs = search needs
 
 write-released-requires : tie.Need-write-released-requires
-write-released-requires c κs = (sym (c .before .before .is-usable .ensures) ∙ c .before .if2 .taken, c .before .before .before .before .before .before .before .before .before .pre)
+write-released-requires c κs =
+    (c .before .before .before .characters-of .ensures, sym (c .before .before .is-usable .ensures) ∙ c .before .if2 .taken, c .before .before .before .before .before .before .before .before .before .pre)
 
 same-length-2 : tie.Need-same-length-2
 same-length-2 c = search needs
 
 returns-2 : tie.Need-returns-2
 returns-2 c =
-    service-passed (c .before .before .before .before .before .before .before .before .before .before .before .before .args .service .now) (c .before .before .before .before .before .before .before .before .before .before .before .before .args .bytes .now) (c .before .before .before .before .before .before .before .before .before .before .before .before .args .table .now) (c .before .before .before .before .before .before .before .before .before .before .before .before .args .output .now)
-    (c .before .before .before .before .before .before .before .if1 .left) (c .before .before .before .before .before .before .characters-of .ensures) (sym (c .before .before .before .before .before .is-usable .ensures) ∙ c .before .before .before .before .if2 .taken) (c .before .before .write-released .ensures)
+    let service = c .before .before .before .before .before .before .before .before .before .before .before .before .args .service .now in
+    let bytes = c .before .before .before .before .before .before .before .before .before .before .before .before .args .bytes .now in
+    let table = c .before .before .before .before .before .before .before .before .before .before .before .before .args .table .now in
+    let output = c .before .before .before .before .before .before .before .before .before .before .before .before .args .output .now in
+    let fit = sym (ap usable (c .before .before .before .before .before .before .characters-of .ensures)) ∙ sym (c .before .before .before .before .before .is-usable .ensures) ∙ c .before .before .before .before .if2 .taken in
+    passes service bytes table output 1 2
+    (service-answers service bytes table output (eq-eqb (length service) 6 (c .before .before .before .before .before .before .before .if1 .left)) fit)
+    (c .before .before .write-released .ensures)
 
 refuse-requires-2 : tie.Need-refuse-requires-2
 refuse-requires-2 c κs = search needs
@@ -55,11 +60,10 @@ returns-3 c =
     let bytes = c .before .before .before .before .before .before .before .before .before .before .before .before .args .bytes .now in
     let table = c .before .before .before .before .before .before .before .before .before .before .before .before .args .table .now in
     let output = c .before .before .before .before .before .before .before .before .before .before .before .before .args .output .now in
-    let text = textOf (sixBytes service) bytes table in
     let unfit = sym (ap usable (c .before .before .before .before .before .before .characters-of .ensures)) ∙ sym (c .before .before .before .before .before .is-usable .ensures) ∙ c .before .before .before .before .if2 .left in
-    refused-written (length text) (storedIn output text) output
-    (service-refused service bytes table output (service-unusable service (c .before .before .before .before .before .before .before .if1 .left) unfit))
-    (c .before .before .refuse2 .ensures .0) (c .before .before .refuse2 .ensures .1)
+    refuses service bytes table output 1
+    (service-answers service bytes table output (eq-eqb (length service) 6 (c .before .before .before .before .before .before .before .if1 .left)) unfit)
+    (c .before .before .refuse2 .ensures)
 
 pub write-listed-spec : {M : Type 1} → statement M
 write-listed-spec =
