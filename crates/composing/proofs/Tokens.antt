@@ -19,7 +19,9 @@ use Rattle.emission.proofs.Cases.{known}
 use Rattle.operations.specs.ValueList.{Item, closed, closes, elementsListed, segmentsListed, trimList}
 use Rattle.spelling.specs.Bodies.{wordsOf}
 use Rattle.trimming.specs.Kinds.{firstKind}
+use Rattle.held_separators.specs.Putting.{valueTokens}
 use Rattle.forms.proofs.Trimmed.{contents-words}
+use Rattle.composing.specs.Composing.{rankOf, listTokens}
 
 -- ---- a list cut, where each of its parts may end a piece
 
@@ -79,45 +81,38 @@ cut-each (x ∷ xs) = ap (λ (l : List (List _)). (x ∷ []) ∷ l) (cut-each xs
 
 -- ---- the tokens of a value list
 
-abbrev pub valueByte : ℕ → Token
-valueByte b = byte b 0 0
-
--- a separator's kind; any kind but 0 and 1 is that of a component
-unfoldable pub endKind : ℕ → ℕ
-endKind kind = if leb kind 0 then 0 else if leb kind 1 then 1 else 2
-
 abbrev ending : Item → Token
-ending l = separator (endKind (l .kind)) 0
+ending l = separator (rankOf (l .kind)) 0
 
 -- the tokens of values that are known by what ends them
 abbrev endedTokens : List Item → List Token
-endedTokens items = gather (part (λ l. map valueByte (l .value)) ending) items
+endedTokens items = gather (part (λ l. valueTokens (l .value)) ending) items
 
 -- the tokens of a value list
 unfoldable pub itemTokens : List Item → List Token
 itemTokens items = endedTokens (closed items)
 
--- the separator that ends what stands before a value list, and the list's tokens
-abbrev pub tokensBehind : List Item → List Token
-tokensBehind items = separator (endKind (firstKind items)) 0 ∷ itemTokens items
-
--- a value's bytes stand in front of what ends it
-pub item-tokens : (l : Item) (ls : List Item) → itemTokens (l ∷ ls) ≡ map valueByte (l .value) ++ tokensBehind ls
-unfolding itemTokens closed gather firstKind
-item-tokens l [] = append-snoc (map valueByte (l .value)) (separator (endKind 0) 0) []
-item-tokens l (m ∷ ms) = append-snoc (map valueByte (l .value)) (separator (endKind (m .kind)) 0) (endedTokens (closed (m ∷ ms)))
+-- they follow the separator in front of the first record
+pub list-tokens : (items : List Item) → listTokens items ≡ separator (rankOf (firstKind items)) 0 ∷ itemTokens items
+unfolding listTokens itemTokens closed gather firstKind rankOf
+list-tokens [] = refl
+list-tokens (l ∷ []) = ap (λ (ts : List Token). separator (rankOf (l .kind)) 0 ∷ ts) (sym (append-snoc (valueTokens (l .value)) (separator 0 0) []))
+list-tokens (l ∷ m ∷ ms) =
+    ap (λ (ts : List Token). separator (rankOf (l .kind)) 0 ∷ ts)
+    (ap (λ (ts : List Token). valueTokens (l .value) ++ ts) (list-tokens (m ∷ ms))
+    ∙ sym (append-snoc (valueTokens (l .value)) (separator (rankOf (m .kind)) 0) (endedTokens (closed (m ∷ ms)))))
 
 -- ---- what they hold
 
 -- no byte of a value ends anything
-quiet : (kind : ℕ) (bs : Bytes) → None (ends kind) (map valueByte bs)
+quiet : (kind : ℕ) (bs : Bytes) → None (ends kind) (valueTokens bs)
 unfolding all ends
 quiet kind [] = refl
 quiet kind (b ∷ bs) = quiet kind bs
 
 -- what ends a value ends what the kind says
 end-of-segment : (l : Item) → ends 0 (ending l) ≡ closes 0 l
-unfolding ends closes endKind
+unfolding ends closes rankOf
 end-of-segment l = step (leb (l .kind) 0) (leb (l .kind) 1)
   where
     step : (a b : Bool) → leb (if a then 0 else if b then 1 else 2) 0 ≡ a
@@ -126,7 +121,7 @@ end-of-segment l = step (leb (l .kind) 0) (leb (l .kind) 1)
     step false false = refl
 
 end-of-element : (l : Item) → ends 1 (ending l) ≡ closes 1 l
-unfolding ends closes endKind
+unfolding ends closes rankOf
 end-of-element l =
     step (leb (l .kind) 0) (leb (l .kind) 1) (λ e. le-leb (l .kind) 1 (omega (arith, leb-true (l .kind) 0 e)))
   where
@@ -135,8 +130,8 @@ end-of-element l =
     step false true h = refl
     step false false h = refl
 
-end-known : (kind : ℕ) → leb (endKind kind) 2 ≡ true
-unfolding endKind
+end-known : (kind : ℕ) → leb (rankOf kind) 2 ≡ true
+unfolding rankOf
 end-known kind = step (leb kind 0) (leb kind 1)
   where
     step : (a b : Bool) → leb (if a then 0 else if b then 1 else 2) 2 ≡ true
@@ -153,7 +148,7 @@ value-read : (l : Item) → bytesOf (endedTokens (l ∷ [])) ≡ l .value
 unfolding gather bytesOf byteOf
 value-read l = back (l .value)
   where
-    back : (bs : Bytes) → gather byteOf ((map valueByte bs ++ ending l ∷ []) ++ []) ≡ bs
+    back : (bs : Bytes) → gather byteOf ((valueTokens bs ++ ending l ∷ []) ++ []) ≡ bs
     back [] = refl
     back (b ∷ bs) = ap (λ (v : Bytes). b ∷ v) (back bs)
 
@@ -162,7 +157,7 @@ unfolding valuesOf valueOf
 element-read element =
     map-map (λ v. v .bytes) valueOf (cut (ends 2) (endedTokens element))
     ∙ ap (map bytesOf)
-    (cut-gather (λ l. map valueByte (l .value)) ending (ends 2) (λ l. true) (λ l. quiet 2 (l .value)) end-of-value element
+    (cut-gather (λ l. valueTokens (l .value)) ending (ends 2) (λ l. true) (λ l. quiet 2 (l .value)) end-of-value element
     ∙ ap (map endedTokens) (cut-each element))
     ∙ map-map bytesOf endedTokens (map (λ l. l ∷ []) element)
     ∙ map-map (λ ls. bytesOf (endedTokens ls)) (λ l. l ∷ []) element
@@ -173,7 +168,7 @@ unfolding wordsOf elementsOf
 segment-read segment =
     map-map (map (λ v. v .bytes)) valuesOf (cut (ends 1) (endedTokens segment))
     ∙ ap (map (λ piece. map (λ v. v .bytes) (valuesOf piece)))
-    (cut-gather (λ l. map valueByte (l .value)) ending (ends 1) (closes 1) (λ l. quiet 1 (l .value)) end-of-element segment)
+    (cut-gather (λ l. valueTokens (l .value)) ending (ends 1) (closes 1) (λ l. quiet 1 (l .value)) end-of-element segment)
     ∙ map-map (λ piece. map (λ v. v .bytes) (valuesOf piece)) endedTokens (cut (closes 1) segment)
     ∙ ap (λ (f : List Item → List Bytes). map f (cut (closes 1) segment)) (fun-ext element-read)
 
@@ -182,7 +177,7 @@ pub contents-listed : (items : List Item) → map contentsOf (segments (itemToke
 unfolding segments itemTokens trimList segmentsListed
 contents-listed items =
     ap (map contentsOf)
-    (cut-gather (λ l. map valueByte (l .value)) ending (ends 0) (closes 0) (λ l. quiet 0 (l .value)) end-of-segment (closed items))
+    (cut-gather (λ l. valueTokens (l .value)) ending (ends 0) (closes 0) (λ l. quiet 0 (l .value)) end-of-segment (closed items))
     ∙ map-map contentsOf endedTokens (cut (closes 0) (closed items))
     ∙ ap (λ (f : List Item → List (List Bytes)). map f (cut (closes 0) (closed items)))
     (fun-ext (λ segment. contents-words (endedTokens segment) ∙ ap (trimSegment isEmpty) (segment-read segment)))
@@ -190,50 +185,42 @@ contents-listed items =
 
 -- ---- they are whole
 
--- in front of others, the bytes of a value change neither what ends them nor whether all are known
-module _ (t : Token) (ts : List Token) where
-  ended-behind : (x : Token) (bs : Bytes) → lastOr x (map valueByte bs ++ t ∷ ts) ≡ lastOr t ts
-  unfolding lastOr
-  ended-behind x [] = refl
-  ended-behind x (b ∷ bs) = ended-behind (valueByte b) bs
+last-append : (x : Token) (us ts : List Token) → lastOr x (us ++ ts) ≡ lastOr (lastOr x us) ts
+unfolding lastOr
+last-append x [] ts = refl
+last-append x (u ∷ us) ts = last-append u us ts
 
-  pub ended-value : (bs : Bytes) → endedBy 0 (map valueByte bs ++ t ∷ ts) ≡ endedBy 0 (t ∷ ts)
-  unfolding endedBy
-  ended-value [] = refl
-  ended-value (b ∷ bs) = ap (ends 0) (ended-behind (valueByte b) bs)
-
-pub known-value : (bs : Bytes) (ts : List Token) → all known (map valueByte bs ++ ts) ≡ all known ts
-unfolding all known
-known-value [] ts = refl
-known-value (b ∷ bs) ts = known-value bs ts
-
-behind-ended : (items : List Item) → endedBy 0 (tokensBehind items) ≡ true
-unfolding endedBy lastOr itemTokens closed gather ends endKind firstKind
-behind-ended [] = refl
-behind-ended (l ∷ ls) =
-    ap (λ (ts : List Token). endedBy 0 (separator (endKind (l .kind)) 0 ∷ ts)) (item-tokens l ls)
-    ∙ ap (ends 0) (ended-behind (separator (endKind (firstKind ls)) 0) (itemTokens ls) (separator (endKind (l .kind)) 0) (l .value))
-    ∙ behind-ended ls
-
-behind-known : (items : List Item) → all known (tokensBehind items) ≡ true
-unfolding all known itemTokens closed gather endKind firstKind
-behind-known [] = refl
-behind-known (l ∷ ls) =
-    ap (λ (b : Bool). b && all known (itemTokens (l ∷ ls))) (end-known (l .kind))
-    ∙ ap (all known) (item-tokens l ls)
-    ∙ known-value (l .value) (tokensBehind ls)
-    ∙ behind-known ls
+list-ended : (x : Token) (items : List Item) → ends 0 (lastOr x (listTokens items)) ≡ true
+unfolding lastOr listTokens ends
+list-ended x [] = refl
+list-ended x (l ∷ ls) =
+    ap (ends 0) (last-append (ending l) (valueTokens (l .value)) (listTokens ls)) ∙ list-ended (lastOr (ending l) (valueTokens (l .value))) ls
 
 pub tokens-whole : (items : List Item) → endsInside (itemTokens items) ≡ false
-unfolding endsInside isEmpty itemTokens closed gather
-tokens-whole [] = refl
-tokens-whole (l ∷ ls) = ap endsInside (item-tokens l ls) ∙ step (l .value)
+unfolding endsInside endedBy isEmpty lastOr
+tokens-whole items = step (itemTokens items) (ap (λ (ts : List Token). ends 0 (lastOr first ts)) (sym (list-tokens items)) ∙ list-ended first items)
   where
-    step : (bs : Bytes) → endsInside (map valueByte bs ++ tokensBehind ls) ≡ false
-    step [] = ap not (behind-ended ls)
-    step (b ∷ bs) = ap not (ended-value (separator (endKind (firstKind ls)) 0) (itemTokens ls) (b ∷ bs) ∙ behind-ended ls)
+    first : Token
+    first = separator (rankOf (firstKind items)) 0
+
+    step : (ts : List Token) → ends 0 (lastOr first ts) ≡ true → endsInside ts ≡ false
+    step [] h = refl
+    step (t ∷ ts) h = ap not h
+
+value-known : (bs : Bytes) (ts : List Token) → all known (valueTokens bs ++ ts) ≡ all known ts
+unfolding all known
+value-known [] ts = refl
+value-known (b ∷ bs) ts = value-known bs ts
+
+list-known : (items : List Item) → all known (listTokens items) ≡ true
+unfolding all known listTokens
+list-known [] = refl
+list-known (l ∷ ls) =
+    ap (λ (b : Bool). b && all known (valueTokens (l .value) ++ listTokens ls)) (end-known (l .kind))
+    ∙ value-known (l .value) (listTokens ls)
+    ∙ list-known ls
 
 pub tokens-known : (items : List Item) → all known (itemTokens items) ≡ true
-unfolding all itemTokens closed gather
-tokens-known [] = refl
-tokens-known (l ∷ ls) = ap (all known) (item-tokens l ls) ∙ known-value (l .value) (tokensBehind ls) ∙ behind-known ls
+unfolding all known
+tokens-known items =
+    and-right (leb (rankOf (firstKind items)) 2) (all known (itemTokens items)) (ap (all known) (sym (list-tokens items)) ∙ list-known items)

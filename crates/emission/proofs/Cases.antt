@@ -24,13 +24,6 @@ by-spelling P c b p q = step (isService c b)
     step true = p
     step false = q
 
--- what is related for each kind of separator is related where tests choose the kind
-pub by-kind : {A B : Type 0} (R : A → B → Type 0) {a a′ a″ : A} {b b′ b″ : B} (t u : Bool) → R a b → R a′ b′ → R a″ b″
-    → R (if t then a else if u then a′ else a″) (if t then b else if u then b′ else b″)
-by-kind R true u p q r = p
-by-kind R false true p q r = q
-by-kind R false false p q r = r
-
 -- a separator is of one of the three kinds
 unfoldable pub known : Token → Bool
 known (byte b from place) = true

@@ -6,14 +6,14 @@ use mathlib.Core.Bool.{Bool}
 use mathlib.Core.List.{List, [], _∷_, _++_, map}
 use Rattle.lists.specs.Lists.{if_then_else_, isEmpty, through, cut, unlessIdle, dropEnd, trimEnd, behind, joined, beyond}
 use Rattle.lists.proofs.Pieces.{cut-first}
-use Rattle.emission.proofs.Held.{held}
+use Rattle.emission.proofs.Runs.{held}
 
 -- the pieces, trimmed and spelled
 unfoldable pub whole : {T A : Type 0} → (T → Bool) → (List T → A) → (A → Bool) → (A → List ℕ) → ℕ → List T → List ℕ
 whole ends read idle spelled x ts = joined x (map spelled (trimEnd idle (map read (cut ends ts))))
 
 module _ {A : Type 0} (idle : A → Bool) (spelled : A → List ℕ) (x : ℕ) where
-  -- the separator in front of a piece stays, unless the piece and all behind it are empty
+  -- the separator in front of a piece stays, unless the piece and all after it are empty
   spelled-behind : (a : A) (rest : List A) → idle a ≡ isEmpty (spelled a)
       → behind x (map spelled (unlessIdle (idle a) a rest)) ≡ held 1 x (spelled a ++ behind x (map spelled rest))
   unfolding behind unlessIdle held isEmpty
@@ -27,7 +27,7 @@ module _ {A : Type 0} (idle : A → Bool) (spelled : A → List ℕ) (x : ℕ) w
 
   module _ {T : Type 0} (ends : T → Bool) (read : List T → A)
       (nothing : spelled (read []) ≡ []) (blank : (t : T) (ts : List T) → idle (read (t ∷ ts)) ≡ isEmpty (spelled (read (t ∷ ts)))) where
-    -- the pieces behind another one are held back as one
+    -- the pieces after another one are held back as one
     all-behind : (ts : List T) → behind x (map spelled (dropEnd idle (map read (cut ends ts)))) ≡ held 1 x (whole ends read idle spelled x ts)
     unfolding whole cut through joined behind trimEnd dropEnd held
     all-behind [] = refl
@@ -39,7 +39,7 @@ module _ {A : Type 0} (idle : A → Bool) (spelled : A → List ℕ) (x : ℕ) w
         (blank t (if ends t then [] else through ends ts))
         ∙ ap (λ (ps : List (List T)). held 1 x (joined x (map spelled (trimEnd idle (map read ps))))) (sym (cut-first ends t ts))
 
-    -- the whole is the first piece and, held back behind it, the whole of what follows
+    -- the whole is the first piece and, held back after it, the whole of what follows
     pub whole-step : (ts : List T)
         → whole ends read idle spelled x ts ≡ spelled (read (through ends ts)) ++ held 1 x (whole ends read idle spelled x (beyond ends ts))
     unfolding whole cut through beyond joined behind trimEnd dropEnd held

@@ -1,8 +1,7 @@
 pub mod Cases
-pub mod Measure
-pub mod Held
+pub mod Steps
+pub mod Runs
 pub mod Level
 pub mod Parts
 pub mod Spelled
-pub mod Idle
 pub mod Theorems

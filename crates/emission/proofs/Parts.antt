@@ -12,7 +12,7 @@ use Rattle.reading.specs.Values.{Value, byteOf, bytesOf, valueOf, valuesOf, ele
 use Rattle.reading.specs.Trimming.{trimElement, isIdle, trimSegment, isBlank, trimmed, contentsOf}
 use Rattle.reading.specs.Spelling.{spellByte, spellValue, spellElement, spellSegment}
 use Rattle.emission.proofs.Cases.{by-spelling}
-use Rattle.emission.proofs.Held.{held}
+use Rattle.emission.proofs.Runs.{held}
 use Rattle.emission.proofs.Level.{whole, whole-step}
 
 -- the values of an element that was read, trimmed
@@ -42,7 +42,7 @@ module _ (c : Characters) where
   blank-value [] = refl
   blank-value (b ∷ bs) = by-spelling (λ s. false ≡ isEmpty (s ++ spellValue c bs)) c b refl refl
 
-  -- an element is its first value and, held back behind it, the rest of the element
+  -- an element is its first value and, held back after it, the rest of the element
   element-step : (piece : List Token)
       → elementText piece ≡ spellValue c (bytesOf (through (ends 2) piece)) ++ held 1 (c .component) (elementText (beyond (ends 2) piece))
   unfolding elementText spellElement valuesOf valueOf trimElement bytesOf spellValue gather whole
@@ -98,7 +98,7 @@ module _ (c : Characters) where
       rw (cut-first (ends 2) t ts)
       (blank-values (valueOf (through (ends 2) (t ∷ ts))) (dropEnd isBlank (map valueOf (cut (ends 2) (beyond (ends 2) (t ∷ ts))))))
 
-  -- a segment is its first element and, held back behind it, the rest of the segment
+  -- a segment is its first element and, held back after it, the rest of the segment
   pub segment-step : (segment : Segment)
       → segmentText segment ≡ elementText (through (ends 1) segment) ++ held 1 (c .element) (segmentText (beyond (ends 1) segment))
   unfolding segmentText elementText trimElement trimEnd valuesOf cut spellElement joined

@@ -3,35 +3,60 @@
 use Prim.Native.Nat.{ℕ, _+_}
 use mathlib.Core.List.{List, [], _∷_, _++_}
 use lib.Dec.{leb}
-use lib.ListN.{replicate}
+use lib.ListN.{length, replicate}
 use Rattle.lists.specs.Lists.{if_then_else_}
 use Rattle.characters.specs.declared.Characters.{Characters}
-use Rattle.characters.specs.Characters.{isService}
 use Rattle.reading.specs.Tokens.{Token, byte, separator, fault}
 use Rattle.reading.specs.Spelling.{spellByte}
+use Rattle.emission.specs.declared.Held.{Held}
+use Rattle.emission.specs.declared.Measure.{Measure}
 
--- Held back are so many element separators, and behind them so many component separators. A byte of a value lets them out.
--- A terminator drops them: "elements at a segment's end that are a single empty value go"; an element separator drops those
--- of components: "empty components at the end of an element go".
+-- ---- what is held back
+
+abbrev pub nothing : Held
+nothing = record { elements = 0; components = 0 }
+
+-- how many separators there are
+abbrev pub waiting : Held → ℕ
+waiting h = h .elements + h .components
+
+-- After a separator of a rank. A terminator drops them all: "elements at a segment's end that are a single empty value go"; an
+-- element separator drops those of components, "empty components at the end of an element go", and is one more.
+unfoldable pub separated : Held → ℕ → Held
+separated h rank =
+    if leb rank 0 then nothing
+    else if leb rank 1 then record { elements = h .elements + 1; components = 0 }
+    else record { elements = h .elements; components = h .components + 1 }
+
+-- after a token: a byte of a value lets them all out
+unfoldable pub heldNext : Held → Token → Held
+heldNext h (byte b from place) = nothing
+heldNext h (separator rank place) = separated h rank
+heldNext h (fault place) = h
+
+-- after tokens
+unfoldable pub heldAfter : Held → List Token → Held
+heldAfter h [] = h
+heldAfter h (t ∷ ts) = heldAfter (heldNext h t) ts
+
+-- ---- what is spelled
+
 module _ (c : Characters) where
-  -- what is held back, let out in front of a text
-  abbrev pub letOut : (elements components : ℕ) → List ℕ → List ℕ
-  letOut e k text = replicate e (c .element) ++ (replicate k (c .component) ++ text)
+  -- the separators that are held back
+  unfoldable pub letOut : Held → List ℕ
+  letOut h = replicate (h .elements) (c .element) ++ replicate (h .components) (c .component)
 
-  -- what is spelled from here on
-  unfoldable pub emitted : (elements components : ℕ) → List Token → List ℕ
-  emitted e k [] = []
-  emitted e k (byte b from place ∷ ts) = letOut e k (spellByte c b ++ emitted 0 0 ts)
-  emitted e k (separator kind place ∷ ts) =
-      if leb kind 0 then c .terminator ∷ emitted 0 0 ts
-      else if leb kind 1 then emitted (e + 1) 0 ts else emitted e (k + 1) ts
-  emitted e k (fault place ∷ ts) = emitted e k ts
+  -- a token, where so much is held back
+  unfoldable pub spelledNext : Held → Token → List ℕ
+  spelledNext h (byte b from place) = letOut h ++ spellByte c b
+  spelledNext h (separator rank place) = if leb rank 0 then c .terminator ∷ [] else []
+  spelledNext h (fault place) = []
 
-  -- how many bytes are spelled, where so many are spelled already
-  unfoldable pub emittedLength : (total elements components : ℕ) → List Token → ℕ
-  emittedLength n e k [] = n
-  emittedLength n e k (byte b from place ∷ ts) = emittedLength (n + e + k + (if isService c b then 2 else 1)) 0 0 ts
-  emittedLength n e k (separator kind place ∷ ts) =
-      if leb kind 0 then emittedLength (n + 1) 0 0 ts
-      else if leb kind 1 then emittedLength n (e + 1) 0 ts else emittedLength n e (k + 1) ts
-  emittedLength n e k (fault place ∷ ts) = emittedLength n e k ts
+  -- tokens
+  unfoldable pub emitted : Held → List Token → List ℕ
+  emitted h [] = []
+  emitted h (t ∷ ts) = spelledNext h t ++ emitted (heldNext h t) ts
+
+  -- how long the text is after tokens, and what is held back then
+  unfoldable pub after : Measure → List Token → Measure
+  after m ts = record { total = m .total + length (emitted (m .held) ts); held = heldAfter (m .held) ts }

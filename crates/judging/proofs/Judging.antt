@@ -23,9 +23,9 @@ use Rattle.segments.specs.declared.Walk.{Walk}
 use Rattle.segments.specs.Order.{walkOver}
 use Rattle.verdict.specs.Contents.{bodyTokens, segmentsOf, contents, kindsOf, normalCharacters, interchange, normalForm}
 use Rattle.verdict.specs.Places.{isOver, strayReleases, unendedSegment, brokenTags, normalTooLong}
-use Rattle.emission.specs.Emission.{emittedLength}
+use Rattle.emission.specs.Emission.{nothing, emitted}
 use Rattle.verbatim.specs.Verbatim.{faultless}
-use Rattle.emission.proofs.Theorems.{contents-length, contents-bound}
+use Rattle.emission.proofs.Theorems.{contents-emitted, contents-bound}
 use Rattle.machines.specs.Walks.{refuse, worded}
 use Rattle.machines.proofs.Rows.{lowest-if}
 use Rattle.machines.proofs.Worded.{worded-answers}
@@ -78,26 +78,26 @@ module _ (s : List ℕ) {c : Characters} {start : ℕ} (o : Opening s c start) w
 
   -- the length of the normal form, as it is measured
   pub form-length : worded (length s) (bodyTokens s) ≡ none
-      → emittedLength (normalCharacters (c .mark)) 0 0 0 (tokensAt c s start) + 9 ≡ length (normalForm s)
+      → length (emitted (normalCharacters (c .mark)) nothing (tokensAt c s start)) + 9 ≡ length (normalForm s)
   unfolding normalForm interchange contents segmentsOf bodyTokens adviceOf spelledOut
   form-length h =
       let n = normalCharacters (charactersOf s .mark) in
       let whole = body-ended h in
       let sum = length-append (adviceOf n) (spell n (contents s)) in
-      let spelled = contents-length n (charactersOf s) (bodyStart s) (body s) whole in
-      let same = ap₂ (λ (d : Characters) (ts : List _). emittedLength (normalCharacters (d .mark)) 0 0 0 ts) (o .characters) body-tokens in
+      let spelled = ap length (contents-emitted n (charactersOf s) (bodyStart s) (body s) whole) in
+      let same = ap₂ (λ (d : Characters) (ts : List _). length (emitted (normalCharacters (d .mark)) nothing ts)) (o .characters) body-tokens in
       omega (arith, sum, spelled, same)
 
   -- it is not too long to count
   pub measure-bound : worded (length s) (bodyTokens s) ≡ none
-      → emittedLength (normalCharacters (c .mark)) 0 0 0 (tokensAt c s start) ≤ 64000
+      → length (emitted (normalCharacters (c .mark)) nothing (tokensAt c s start)) ≤ 64000
   unfolding bodyTokens body
   measure-bound h =
       let n = normalCharacters (charactersOf s .mark) in
       let whole = body-ended h in
-      let spelled = contents-length n (charactersOf s) (bodyStart s) (body s) whole in
+      let spelled = ap length (contents-emitted n (charactersOf s) (bodyStart s) (body s) whole) in
       let most = contents-bound n (charactersOf s) (bodyStart s) (body s) whole in
-      let same = ap₂ (λ (d : Characters) (ts : List _). emittedLength (normalCharacters (d .mark)) 0 0 0 ts) (o .characters) body-tokens in
+      let same = ap₂ (λ (d : Characters) (ts : List _). length (emitted (normalCharacters (d .mark)) nothing ts)) (o .characters) body-tokens in
       omega (arith, spelled, most, same, length-drop (bodyStart s) s, o .short)
 
 -- ---- 13

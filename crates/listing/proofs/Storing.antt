@@ -13,9 +13,8 @@ use Rattle.lists.proofs.Texts.{if-true, if-false}
 use Rattle.reading.specs.Tokens.{Token, byte, separator, fault}
 use Rattle.reading.specs.Values.{byteOf, bytesOf}
 use Rattle.operations.specs.ValueList.{Entry}
-use Rattle.emission.specs.Emission.{emitted}
-use Rattle.storing.proofs.Stores.{sets-append}
-use Rattle.emitting.proofs.Putting.{Goes, goes-step, front-fits}
+use Rattle.emission.specs.Emission.{heldNext, spelledNext, emitted}
+use Rattle.storing.proofs.Stores.{stored-after, Goes, goes-step, front-fits}
 use Rattle.tallying.specs.declared.Listing.{Listing}
 use Rattle.tallying.specs.Marks.{runOut, runNext, numbersOut, entryNext, readMarks, numbersFrom}
 use Rattle.tallying.specs.Tally.{entryOf, listing, fresh, values, end, marksOut, entryBehind, behindMarks, behindByte, byteNumbers, behindSeparator, separatorNumbers, tableRest, tableOf}
@@ -43,7 +42,7 @@ module _ (kind count i : ℕ) (h : i < count) where
   unfolding behindMarks runNext
   behind-first m =
       ap (λ (n : ℕ). behindMarks kind n m) one-more
-      ∙ ap (λ (n : ℕ). listing n (entryBehind kind (count - (i + 1)) (entryNext kind (entryOf m))) (m .elements) (m .components)) sum
+      ∙ ap (λ (n : ℕ). listing n (entryBehind kind (count - (i + 1)) (entryNext kind (entryOf m))) (m .held)) sum
     where
       sum : m .records + suc (count - (i + 1)) ≡ m .records + 1 + (count - (i + 1))
       sum = omega arith
@@ -81,8 +80,7 @@ lets-step {kind} {count} {t₀} {t₁} {t₂} {l} m {n} {i} s h e d =
       stored =
           s .stored
           ∙ ap (sets t₁ (m .records * 3)) (marks-first kind count i h (entryOf m))
-          ∙ sets-append t₁ (m .records * 3) (numbersOut (entryOf m)) (marksOut kind (count - (i + 1)) (entryNext kind (entryOf m)))
-          ∙ ap₂ (λ (t : List ℕ) (at : ℕ). sets t at (marksOut kind (count - (i + 1)) (entryNext kind (entryOf m)))) (sym e) next;
+          ∙ sym (stored-after t₁ (m .records * 3) (numbersOut (entryOf m)) (marksOut kind (count - (i + 1)) (entryNext kind (entryOf m))) e next refl);
       behind = s .behind ∙ behind-first kind count i h m;
       as-long = ap length e ∙ length-sets t₁ (m .records * 3) (numbersOut (entryOf m)) ∙ s .as-long;
       passed = omega arith;
@@ -90,7 +88,7 @@ lets-step {kind} {count} {t₀} {t₁} {t₂} {l} m {n} {i} s h e d =
       ended = end-marks kind 1 m ∙ s .ended;
     })
   where
-    next : m .records * 3 + 3 ≡ (m .records + 1) * 3
+    next : (m .records + 1) * 3 ≡ m .records * 3 + 3
     next = omega arith
 
 -- where none is left all is stored
@@ -117,18 +115,17 @@ no-numbers l kind z = if-false (leb kind 0) (numbersOut (entryOf l)) [] (lt-leb 
 -- ---- a byte of a value
 
 -- the records that it lets out: those of elements, and behind them those of components
-pub byte-stored : (t₀ : List ℕ) {t₁ t₂ : List ℕ} (l o : Listing) → t₁ ≡ sets t₀ (l .records * 3) (marksOut 1 (l .elements) (entryOf l))
-    → o ≡ behindMarks 1 (l .elements) l → t₂ ≡ sets t₁ (o .records * 3) (marksOut 2 (l .components) (entryOf o))
+pub byte-stored : (t₀ : List ℕ) {t₁ t₂ : List ℕ} (l o : Listing) → t₁ ≡ sets t₀ (l .records * 3) (marksOut 1 (l .held .elements) (entryOf l))
+    → o ≡ behindMarks 1 (l .held .elements) l → t₂ ≡ sets t₁ (o .records * 3) (marksOut 2 (l .held .components) (entryOf o))
     → t₂ ≡ sets t₀ (l .records * 3) (byteNumbers l)
 unfolding behindMarks byteNumbers
-byte-stored t₀ {t₁} {t₂} l o p d q =
-    q
-    ∙ ap (λ (x : Listing). sets t₁ (x .records * 3) (marksOut 2 (l .components) (entryOf x))) d
-    ∙ ap₂ (λ (t : List ℕ) (at : ℕ). sets t at (marksOut 2 (l .components) (entryBehind 1 (l .elements) (entryOf l)))) p next
-    ∙ sym (sets-append t₀ (l .records * 3) (marksOut 1 (l .elements) (entryOf l)) (marksOut 2 (l .components) (entryBehind 1 (l .elements) (entryOf l))))
+byte-stored t₀ {t₁} l o p d q =
+    let components = marksOut 2 (l .held .components) (entryBehind 1 (l .held .elements) (entryOf l)) in
+    stored-after t₀ (l .records * 3) (marksOut 1 (l .held .elements) (entryOf l)) components p next
+    (q ∙ ap (λ (x : Listing). sets t₁ (x .records * 3) (marksOut 2 (l .held .components) (entryOf x))) d)
   where
-    next : (l .records + l .elements) * 3 ≡ l .records * 3 + length (marksOut 1 (l .elements) (entryOf l))
-    next = omega (arith, marks-length 1 (l .elements) (entryOf l))
+    next : (l .records + l .held .elements) * 3 ≡ l .records * 3 + length (marksOut 1 (l .held .elements) (entryOf l))
+    next = omega (arith, marks-length 1 (l .held .elements) (entryOf l))
 
 -- ---- the whole list
 
@@ -160,19 +157,19 @@ module _ {b₀ b₁ t₀ t₁ : List ℕ} {whole : List Token} (l : Listing) {ts
     table-first = ap (tableRest l) e ∙ table-byte l rest b from place
 
     pub byte-fits : end l < length b₁
-    byte-fits = omega (arith, front-fits (b ∷ []) (bytesOf rest) (g .bytes) bytes-first)
+    byte-fits = omega (arith, front-fits (g .bytes) (b ∷ []) (bytesOf rest) bytes-first)
 
     pub records-fit : values l * 3 ≤ length t₁
     unfolding behindByte behindMarks
-    records-fit = omega (arith, front-fits (byteNumbers l) (tableRest (behindByte l) rest) (g .table) table-first, records-byte l)
+    records-fit = omega (arith, front-fits (g .table) (byteNumbers l) (tableRest (behindByte l) rest) table-first, records-byte l)
 
     pub stored-byte : {b₂ t₂ : List ℕ} {m : Listing} {less : ℕ} → b₂ ≡ sets b₁ (end l) (b ∷ []) → t₂ ≡ sets t₁ (l .records * 3) (byteNumbers l)
         → m ≡ behindByte l → less < left → Stored b₀ b₂ t₀ t₂ whole m rest less room
     stored-byte {b₂} {t₂} {m} {less} p q d h =
         subst (λ (x : Listing). Stored b₀ b₂ t₀ t₂ whole x rest less room) (sym d)
         (record {
-          bytes = goes-step (b ∷ []) (bytesOf rest) (g .bytes) bytes-first p (end-byte l);
-          table = goes-step (byteNumbers l) (tableRest (behindByte l) rest) (g .table) table-first q (omega (arith, records-byte l));
+          bytes = goes-step (g .bytes) (b ∷ []) (bytesOf rest) bytes-first p (end-byte l);
+          table = goes-step (g .table) (byteNumbers l) (tableRest (behindByte l) rest) table-first q (omega (arith, records-byte l));
           enough = room-byte l (g .enough) h;
         })
 
@@ -182,7 +179,7 @@ module _ {b₀ b₁ t₀ t₁ : List ℕ} {whole : List Token} (l : Listing) {ts
     numbers-first = ap (tableRest l) e ∙ table-separator l rest kind place
 
     pub separator-fits : l .records * 3 + length (separatorNumbers l kind) ≤ length t₁
-    separator-fits = front-fits (separatorNumbers l kind) (tableRest (behindSeparator l kind) rest) (g .table) numbers-first
+    separator-fits = front-fits (g .table) (separatorNumbers l kind) (tableRest (behindSeparator l kind) rest) numbers-first
 
     pub stored-separator : {t₂ : List ℕ} {m : Listing} {less : ℕ} → t₂ ≡ sets t₁ (l .records * 3) (separatorNumbers l kind)
         → m ≡ behindSeparator l kind → less < left → Stored b₀ b₁ t₀ t₂ whole m rest less room
@@ -190,14 +187,14 @@ module _ {b₀ b₁ t₀ t₁ : List ℕ} {whole : List Token} (l : Listing) {ts
     stored-separator {t₂} {m} {less} q d h =
         subst (λ (x : Listing). Stored b₀ b₁ t₀ t₂ whole x rest less room) (sym d)
         (record {
-          bytes = goes-step [] (bytesOf rest) (g .bytes) (ap bytesOf e) refl (omega (arith, end-separator l kind));
-          table = goes-step (separatorNumbers l kind) (tableRest (behindSeparator l kind) rest) (g .table) numbers-first q (omega (arith, records-separator l kind));
+          bytes = goes-step (g .bytes) [] (bytesOf rest) (ap bytesOf e) refl (omega (arith, end-separator l kind));
+          table = goes-step (g .table) (separatorNumbers l kind) (tableRest (behindSeparator l kind) rest) numbers-first q (omega (arith, records-separator l kind));
           enough = room-separator l (g .enough) h kind;
         })
 
   -- a stray release character stores nothing
   pub stored-fault : {place : ℕ} {rest : List Token} {less : ℕ} → ts ≡ fault place ∷ rest → less < left → Stored b₀ b₁ t₀ t₁ whole l rest less room
-  unfolding tableRest emitted bytesOf byteOf gather
+  unfolding tableRest emitted spelledNext heldNext bytesOf byteOf gather
   stored-fault {place} {rest} e h = record {
     bytes = subst (λ (bs : List ℕ). Goes b₀ b₁ 0 (end l) (bytesOf whole) bs) (ap bytesOf e) (g .bytes);
     table = subst (λ (ns : List ℕ). Goes t₀ t₁ 0 (l .records * 3) (tableOf whole) ns) (ap (tableRest l) e) (g .table);

@@ -52,20 +52,21 @@ fn put_value_byte(buffer: &mut [u8], table: &mut [u32], l: Listing, b: u8) -> Li
 {
     let at = l.start + l.size;
     buffer[at] = b;
-    let elements = put_marks(table, l, 1, l.elements);
-    with_one_more(put_marks(table, elements, 2, l.components))
+    let h = l.held;
+    let elements = put_marks(table, l, 1, h.elements);
+    with_one_more(put_marks(table, elements, 2, h.components))
 }
 
 // A terminator stores the record of the value that it ends; another separator is held back.
-fn put_separator(table: &mut [u32], l: Listing, kind: u8) -> Listing
-    requires { ⌜ (l .records * 3 + length (separatorNumbers l kind) ≤ length (now table)) × (values l ≤ 32000) × (end l ≤ 32000) ⌝ }
-    ensures { λ r. ⌜ (now (table .exit) ≡ sets (now (table .entry)) (l .records * 3) (separatorNumbers l kind)) × (r ≡ behindSeparator l kind) ⌝ }
+fn put_separator(table: &mut [u32], l: Listing, rank: u8) -> Listing
+    requires { ⌜ (l .records * 3 + length (separatorNumbers l rank) ≤ length (now table)) × (values l ≤ 32000) × (end l ≤ 32000) ⌝ }
+    ensures { λ r. ⌜ (now (table .exit) ≡ sets (now (table .entry)) (l .records * 3) (separatorNumbers l rank)) × (r ≡ behindSeparator l rank) ⌝ }
 {
-    if kind == 0 {
+    if rank == 0 {
         put_record(table, l);
-        return with_separator(l, kind);
+        return with_separator(l, rank);
     }
-    with_separator(l, kind)
+    with_separator(l, rank)
 }
 
 // Stores the values of the body that begins at `start`.

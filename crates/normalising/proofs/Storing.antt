@@ -15,7 +15,7 @@ use Rattle.refusals.specs.declared.Refusal.{Refusal}
 use Rattle.reading.specs.Tokens.{tokensAt}
 use Rattle.verdict.specs.Contents.{bodyTokens, segmentsOf, contents, normalCharacters, interchange, normalForm}
 use Rattle.verdict.specs.Stages.{refusalOf}
-use Rattle.emission.specs.Emission.{emitted}
+use Rattle.emission.specs.Emission.{nothing, emitted}
 use Rattle.emission.proofs.Theorems.{contents-emitted}
 use Rattle.verbatim.specs.Verbatim.{faultless}
 use Rattle.machines.specs.Walks.{refuse}
@@ -56,14 +56,14 @@ module _ (buffer s : List ℕ) where
 
     -- the normal form is the advice and what is emitted
     pub form-is : {c : Characters} {start : ℕ} → c ≡ charactersOf s → start ≡ bodyStart s
-        → normalForm s ≡ adviceOf (normalCharacters (c .mark)) ++ emitted (normalCharacters (c .mark)) 0 0 (tokensAt c s start)
+        → normalForm s ≡ adviceOf (normalCharacters (c .mark)) ++ emitted (normalCharacters (c .mark)) nothing (tokensAt c s start)
     unfolding normalForm interchange contents segmentsOf bodyTokens body tokensAt
     form-is d p =
         ap (λ (l : List ℕ). adviceOf (normalCharacters (charactersOf s .mark)) ++ l)
         (contents-emitted (normalCharacters (charactersOf s .mark)) (charactersOf s) (bodyStart s) (body s)
         (body-ended s (accepted-opening s a) (accepted-worded s a)))
         ∙ ap₂
-        (λ (c : Characters) (start : ℕ). adviceOf (normalCharacters (c .mark)) ++ emitted (normalCharacters (c .mark)) 0 0 (tokensAt c s start))
+        (λ (c : Characters) (start : ℕ). adviceOf (normalCharacters (c .mark)) ++ emitted (normalCharacters (c .mark)) nothing (tokensAt c s start))
         (sym d)
         (sym p)
 

@@ -26,8 +26,8 @@ fn store_form(buffer: &mut [u8], s: &[u8], i: Interchange) -> Stored
     }
     let c = i.characters;
     let mark = c.mark;
-    storing::put_advice(buffer, emitting::normal_characters(mark));
-    emitting::put_contents(buffer, 9, mark, s, c, opening::body_start(s));
+    storing::put_advice(buffer, verbatim::normal_characters(mark));
+    emitting::put_contents(buffer, 9, s, c, opening::body_start(s));
     Stored::Length(length)
 }
 

@@ -2,7 +2,7 @@
 -- read as the value list of the body's contents, whose bytes are all the value bytes of the body. Assumes nothing.
 use Prim.Native.Nat.{ℕ, zero, suc, _+_, _≤_}
 use native.Mathlib.Omega.{arith}
-use mathlib.Core.Path.{_≡_, refl, sym, ap, _∙_}
+use mathlib.Core.Path.{_≡_, refl, sym, ap, subst, _∙_}
 use mathlib.Core.Bool.{true, false, not, false≢true}
 use mathlib.Core.List.{List, [], _∷_, _++_, map, append-nil, append-assoc}
 use lib.Dec.{leb}
@@ -17,7 +17,9 @@ use Rattle.reading.proofs.Ends.{ended-next}
 use Rattle.reading.specs.Spelling.{Bytes, SegmentList, spellByte, spellValue, spellElement, spellSegment, spell}
 use Rattle.operations.specs.ValueList.{Item, listElement, listSegment, listOf, listBytes, tableFrom, listTable}
 use Rattle.spelling.specs.Bodies.{shapedSegment, Shaped}
-use Rattle.emission.specs.Emission.{emitted}
+use Rattle.emission.specs.declared.Held.{Held}
+use Rattle.emission.specs.Emission.{nothing, separated, heldNext, spelledNext, emitted}
+use Rattle.emission.proofs.Steps.{let-out-runs, byte-first}
 use Rattle.emission.proofs.Cases.{known}
 use Rattle.emission.proofs.Spelled.{spelled-emitted}
 use Rattle.tallying.specs.Marks.{marks, readMarks, itemOut, itemNext, itemGrow, itemsFrom}
@@ -102,7 +104,7 @@ list-items (g ∷ gs) s =
 
 -- the values of the contents are those that are read off what the tokens emit
 pub contents-items : (ts : List Token) → endsInside ts ≡ false → all known ts ≡ true → Shaped (map contentsOf (segments ts))
-    → listOf (map contentsOf (segments ts)) ≡ itemsFrom (item 0 []) false (emitted marks 0 0 ts)
+    → listOf (map contentsOf (segments ts)) ≡ itemsFrom (item 0 []) false (emitted marks nothing ts)
 contents-items ts h a s =
     sym (list-items (map contentsOf (segments ts)) s) ∙ ap (itemsFrom (item 0 []) false) (spelled-emitted marks ts h a)
 
@@ -123,22 +125,23 @@ marks-hold kind k (suc count) text bytes h l =
 byte-holds : (b : ℕ) (text bytes : List ℕ) → Holds text bytes → Holds (spellByte marks b ++ text) (b ∷ bytes)
 byte-holds b text bytes h l = ap listBytes (byte-item l b text) ∙ h (itemGrow b l) ∙ append-assoc (l .value) (b ∷ []) bytes
 
-tokens-hold : (ts : List Token) → endedBy 0 ts ≡ true → all known ts ≡ true → (e k : ℕ) → Holds (emitted marks e k ts) (bytesOf ts)
-unfolding emitted marks ends endedBy lastOr all known bytesOf byteOf gather itemsFrom readMarks listBytes
-tokens-hold [] h a e k = absurd (false≢true h)
-tokens-hold (byte b from place ∷ ts) h a e k =
-    let value = byte-holds b (emitted marks 0 0 ts) (bytesOf ts) (tokens-hold ts (ended-next 0 (byte b from place) ts refl h) a 0 0) in
-    let text = spellByte marks b ++ emitted marks 0 0 ts in
-    marks-hold 1 refl e (replicate k 2 ++ text) (b ∷ bytesOf ts) (marks-hold 2 refl k text (b ∷ bytesOf ts) value)
-tokens-hold (separator zero place ∷ []) h a e k = λ l. refl
-tokens-hold (separator zero place ∷ t ∷ ts) h a e k =
-    λ l. ap (λ (bs : Bytes). l .value ++ bs) (tokens-hold (t ∷ ts) h a 0 0 (item 0 []))
-tokens-hold (separator (suc zero) place ∷ ts) h a e k = tokens-hold ts (ended-next 0 (separator 1 place) ts refl h) a (e + 1) 0
-tokens-hold (separator (suc (suc zero)) place ∷ ts) h a e k = tokens-hold ts (ended-next 0 (separator 2 place) ts refl h) a e (k + 1)
-tokens-hold (separator (suc (suc (suc n))) place ∷ ts) h a e k =
+tokens-hold : (ts : List Token) → endedBy 0 ts ≡ true → all known ts ≡ true → (k : Held) → Holds (emitted marks k ts) (bytesOf ts)
+unfolding emitted spelledNext heldNext separated marks ends endedBy lastOr all known bytesOf byteOf gather itemsFrom readMarks listBytes
+tokens-hold [] h a k = absurd (false≢true h)
+tokens-hold (byte b from place ∷ ts) h a k =
+    let value = byte-holds b (emitted marks nothing ts) (bytesOf ts) (tokens-hold ts (ended-next 0 (byte b from place) ts refl h) a nothing) in
+    let text = spellByte marks b ++ emitted marks nothing ts in
+    subst (λ (t : List ℕ). Holds t (b ∷ bytesOf ts)) (sym (byte-first marks k b from place ts ∙ let-out-runs marks k text))
+    (marks-hold 1 refl (k .elements) (replicate (k .components) 2 ++ text) (b ∷ bytesOf ts) (marks-hold 2 refl (k .components) text (b ∷ bytesOf ts) value))
+tokens-hold (separator zero place ∷ []) h a k = λ l. refl
+tokens-hold (separator zero place ∷ t ∷ ts) h a k =
+    λ l. ap (λ (bs : Bytes). l .value ++ bs) (tokens-hold (t ∷ ts) h a nothing (item 0 []))
+tokens-hold (separator (suc zero) place ∷ ts) h a k = tokens-hold ts (ended-next 0 (separator 1 place) ts refl h) a (separated k 1)
+tokens-hold (separator (suc (suc zero)) place ∷ ts) h a k = tokens-hold ts (ended-next 0 (separator 2 place) ts refl h) a (separated k 2)
+tokens-hold (separator (suc (suc (suc n))) place ∷ ts) h a k =
     let low : suc (suc (suc n)) ≤ 2 = leb-true (suc (suc (suc n))) 2 (and-left (leb (suc (suc (suc n))) 2) (all known ts) a) in
     absurd (omega arith)
-tokens-hold (fault place ∷ ts) h a e k = tokens-hold ts (ended-next 0 (fault place) ts refl h) a e k
+tokens-hold (fault place ∷ ts) h a k = tokens-hold ts (ended-next 0 (fault place) ts refl h) a k
 
 -- the bytes of the contents' values are the value bytes of the tokens
 pub contents-bytes : (ts : List Token) → endsInside ts ≡ false → all known ts ≡ true → Shaped (map contentsOf (segments ts))
@@ -147,9 +150,9 @@ unfolding endsInside isEmpty emitted itemsFrom readMarks listBytes bytesOf gathe
 contents-bytes ts h a s = ap listBytes (contents-items ts h a s) ∙ held ts h a
   where
     held : (ts : List Token) → endsInside ts ≡ false → all known ts ≡ true
-        → listBytes (itemsFrom (item 0 []) false (emitted marks 0 0 ts)) ≡ bytesOf ts
+        → listBytes (itemsFrom (item 0 []) false (emitted marks nothing ts)) ≡ bytesOf ts
     held [] h a = refl
-    held (t ∷ ts) h a = tokens-hold (t ∷ ts) (not-false (endedBy 0 (t ∷ ts)) h) a 0 0 (item 0 [])
+    held (t ∷ ts) h a = tokens-hold (t ∷ ts) (not-false (endedBy 0 (t ∷ ts)) h) a nothing (item 0 [])
 
 -- ---- the table of the values
 
@@ -158,4 +161,4 @@ pub contents-table : (ts : List Token) → endsInside ts ≡ false → all known
     → listTable (listOf (map contentsOf (segments ts))) ≡ tableOf ts
 unfolding listTable tableOf tableRest
 contents-table ts h a s =
-    ap (tableFrom 0) (contents-items ts h a s) ∙ table-read 0 (item 0 []) false (emitted marks 0 0 ts)
+    ap (tableFrom 0) (contents-items ts h a s) ∙ table-read 0 (item 0 []) false (emitted marks nothing ts)

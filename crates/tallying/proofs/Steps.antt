@@ -12,7 +12,8 @@ use Rattle.reading.specs.Tokens.{Token, byte, separator, fault}
 use Rattle.reading.specs.Values.{byteOf, bytesOf}
 use Rattle.reading.specs.Spelling.{spellByte}
 use Rattle.operations.specs.ValueList.{Entry}
-use Rattle.emission.specs.Emission.{emitted}
+use Rattle.emission.specs.Emission.{nothing, separated, heldNext, spelledNext, emitted}
+use Rattle.emission.proofs.Steps.{by-rank, let-out-runs, byte-first}
 use Rattle.tallying.specs.declared.Listing.{Listing}
 use Rattle.tallying.specs.Marks.{marks, readMarks, runOut, runNext, numbersOut, entryNext, entryGrow, numbersFrom}
 use Rattle.tallying.specs.Tally.{entryOf, listing, fresh, values, end, marksOut, entryBehind, behindMarks, behindByte, byteNumbers, behindSeparator, separatorNumbers, tableRest, tableOf}
@@ -45,14 +46,14 @@ marks-length kind (suc count) e = omega (arith, marks-length kind count (entryNe
 pub behind-none : (kind count : ℕ) (l : Listing) → count ≡ 0 → l ≡ behindMarks kind count l
 unfolding behindMarks runNext
 behind-none kind count l e =
-    ap (λ (n : ℕ). listing n (entryOf l) (l .elements) (l .components)) (sym (add-zero (l .records)))
+    ap (λ (n : ℕ). listing n (entryOf l) (l .held)) (sym (add-zero (l .records)))
     ∙ ap (λ (n : ℕ). behindMarks kind n l) (sym e)
 
 pub behind-some : (kind count : ℕ) (l : Listing) → 0 < count
-    → listing (l .records + count) (record { kind = kind; start = end l; size = 0 }) (l .elements) (l .components) ≡ behindMarks kind count l
+    → listing (l .records + count) (record { kind = kind; start = end l; size = 0 }) (l .held) ≡ behindMarks kind count l
 unfolding behindMarks
 behind-some kind count l h =
-    ap (λ (e : Entry). listing (l .records + count) e (l .elements) (l .components)) (sym (entry-behind kind count (entryOf l) h))
+    ap (λ (e : Entry). listing (l .records + count) e (l .held)) (sym (entry-behind kind count (entryOf l) h))
 
 pub records-marks : (kind count : ℕ) (l : Listing) → behindMarks kind count l .records ≡ l .records + count
 unfolding behindMarks
@@ -66,35 +67,31 @@ end-marks kind count l = end-behind kind count (entryOf l)
 
 module _ (l : Listing) (ts : List Token) where
   pub table-byte : (b from place : ℕ) → tableRest l (byte b from place ∷ ts) ≡ byteNumbers l ++ tableRest (behindByte l) ts
-  unfolding tableRest numbersFrom emitted marks byteNumbers behindByte behindMarks
+  unfolding tableRest numbersFrom marks byteNumbers behindByte behindMarks
   table-byte b from place =
-      let o : Entry = entryBehind 1 (l .elements) (entryOf l) in
-      let p : Entry = entryBehind 2 (l .components) o in
-      let text : List ℕ = spellByte marks b ++ emitted marks 0 0 ts in
-      read-run numbersOut entryNext entryGrow 1 refl (l .elements) (entryOf l) (replicate (l .components) 2 ++ text)
-      ∙ ap (λ (ns : List ℕ). marksOut 1 (l .elements) (entryOf l) ++ ns)
-      (read-run numbersOut entryNext entryGrow 2 refl (l .components) o text
-      ∙ ap (λ (ns : List ℕ). marksOut 2 (l .components) o ++ ns) (read-byte numbersOut entryNext entryGrow p b (emitted marks 0 0 ts)))
-      ∙ sym (append-assoc (marksOut 1 (l .elements) (entryOf l)) (marksOut 2 (l .components) o) (numbersFrom (entryGrow b p) false (emitted marks 0 0 ts)))
+      let o : Entry = entryBehind 1 (l .held .elements) (entryOf l) in
+      let p : Entry = entryBehind 2 (l .held .components) o in
+      let text : List ℕ = spellByte marks b ++ emitted marks nothing ts in
+      ap (numbersFrom (entryOf l) false) (byte-first marks (l .held) b from place ts ∙ let-out-runs marks (l .held) text)
+      ∙ read-run numbersOut entryNext entryGrow 1 refl (l .held .elements) (entryOf l) (replicate (l .held .components) 2 ++ text)
+      ∙ ap (λ (ns : List ℕ). marksOut 1 (l .held .elements) (entryOf l) ++ ns)
+      (read-run numbersOut entryNext entryGrow 2 refl (l .held .components) o text
+      ∙ ap (λ (ns : List ℕ). marksOut 2 (l .held .components) o ++ ns) (read-byte numbersOut entryNext entryGrow p b (emitted marks nothing ts)))
+      ∙ sym (append-assoc (marksOut 1 (l .held .elements) (entryOf l)) (marksOut 2 (l .held .components) o) (numbersFrom (entryGrow b p) false (emitted marks nothing ts)))
 
-  pub table-separator : (kind place : ℕ)
-      → tableRest l (separator kind place ∷ ts) ≡ separatorNumbers l kind ++ tableRest (behindSeparator l kind) ts
-  unfolding tableRest numbersFrom readMarks emitted marks separatorNumbers behindSeparator
-  table-separator kind place = step (leb kind 0) (leb kind 1)
+  pub table-separator : (rank place : ℕ)
+      → tableRest l (separator rank place ∷ ts) ≡ separatorNumbers l rank ++ tableRest (behindSeparator l rank) ts
+  unfolding tableRest numbersFrom readMarks emitted spelledNext heldNext marks separatorNumbers behindSeparator
+  table-separator rank place = step (leb rank 0)
     where
-      step : (terminates ends : Bool)
-          → numbersFrom (entryOf l) false
-          (if terminates then 0 ∷ emitted marks 0 0 ts
-          else if ends then emitted marks (l .elements + 1) 0 ts else emitted marks (l .elements) (l .components + 1) ts)
-          ≡ (if terminates then numbersOut (entryOf l) else [])
+      step : (t : Bool)
+          → numbersFrom (entryOf l) false ((if t then 0 ∷ [] else []) ++ emitted marks (separated (l .held) rank) ts)
+          ≡ (if t then numbersOut (entryOf l) else [])
           ++ tableRest
-          (if terminates then listing (l .records + 1) (entryNext 0 (entryOf l)) 0 0
-          else if ends then listing (l .records) (entryOf l) (l .elements + 1) 0
-          else listing (l .records) (entryOf l) (l .elements) (l .components + 1))
+          (if t then listing (l .records + 1) (entryNext 0 (entryOf l)) (separated (l .held) rank) else listing (l .records) (entryOf l) (separated (l .held) rank))
           ts
-      step true ends = refl
-      step false true = refl
-      step false false = refl
+      step true = refl
+      step false = refl
 
 -- ---- how far the places move
 
@@ -102,45 +99,39 @@ module _ (l : Listing) where
   pub records-byte : 3 * behindByte l .records ≡ 3 * l .records + length (byteNumbers l)
   unfolding behindByte behindMarks byteNumbers
   records-byte =
-      let o : Entry = entryBehind 1 (l .elements) (entryOf l) in
-      let both = length-append (marksOut 1 (l .elements) (entryOf l)) (marksOut 2 (l .components) o) in
-      omega (arith, both, marks-length 1 (l .elements) (entryOf l), marks-length 2 (l .components) o)
+      let o : Entry = entryBehind 1 (l .held .elements) (entryOf l) in
+      let both = length-append (marksOut 1 (l .held .elements) (entryOf l)) (marksOut 2 (l .held .components) o) in
+      omega (arith, both, marks-length 1 (l .held .elements) (entryOf l), marks-length 2 (l .held .components) o)
 
   pub end-byte : end (behindByte l) ≡ end l + 1
   unfolding behindByte behindMarks
   end-byte =
-      let o : Entry = entryBehind 1 (l .elements) (entryOf l) in
-      omega (arith, end-behind 1 (l .elements) (entryOf l), end-behind 2 (l .components) o)
+      let o : Entry = entryBehind 1 (l .held .elements) (entryOf l) in
+      omega (arith, end-behind 1 (l .held .elements) (entryOf l), end-behind 2 (l .held .components) o)
 
   pub values-byte : values (behindByte l) ≡ values l
   unfolding behindByte behindMarks
   values-byte = omega arith
 
-  module _ (kind : ℕ) where
-    -- what holds of each of the three listings holds behind a separator
-    by-separator : (P : Listing → List ℕ → Type 0) → P (listing (l .records + 1) (entryNext 0 (entryOf l)) 0 0) (numbersOut (entryOf l))
-        → P (listing (l .records) (entryOf l) (l .elements + 1) 0) [] → P (listing (l .records) (entryOf l) (l .elements) (l .components + 1)) []
-        → P (behindSeparator l kind) (separatorNumbers l kind)
+  module _ (rank : ℕ) where
+    -- what holds of each of the three listings holds after a separator
+    by-separator : (P : Listing → List ℕ → Type 0) → P (listing (l .records + 1) (entryNext 0 (entryOf l)) nothing) (numbersOut (entryOf l))
+        → P (listing (l .records) (entryOf l) (record { elements = l .held .elements + 1; components = 0 })) []
+        → P (listing (l .records) (entryOf l) (record { elements = l .held .elements; components = l .held .components + 1 })) []
+        → P (behindSeparator l rank) (separatorNumbers l rank)
     unfolding behindSeparator separatorNumbers
-    by-separator P p q r = step (leb kind 0) (leb kind 1)
-      where
-        step : (terminates ends : Bool)
-            → P
-            (if terminates then listing (l .records + 1) (entryNext 0 (entryOf l)) 0 0
-            else if ends then listing (l .records) (entryOf l) (l .elements + 1) 0
-            else listing (l .records) (entryOf l) (l .elements) (l .components + 1))
-            (if terminates then numbersOut (entryOf l) else [])
-        step true ends = p
-        step false true = q
-        step false false = r
+    by-separator P p q r =
+        by-rank
+        (λ t h. P (if t then listing (l .records + 1) (entryNext 0 (entryOf l)) h else listing (l .records) (entryOf l) h) (if t then numbersOut (entryOf l) else []))
+        (l .held) rank p q r
 
-    pub records-separator : 3 * behindSeparator l kind .records ≡ 3 * l .records + length (separatorNumbers l kind)
+    pub records-separator : 3 * behindSeparator l rank .records ≡ 3 * l .records + length (separatorNumbers l rank)
     records-separator = by-separator (λ m ns. 3 * m .records ≡ 3 * l .records + length ns) (omega arith) (omega arith) (omega arith)
 
-    pub end-separator : end (behindSeparator l kind) ≡ end l
+    pub end-separator : end (behindSeparator l rank) ≡ end l
     end-separator = by-separator (λ m ns. end m ≡ end l) (omega arith) refl refl
 
-    pub values-separator : values (behindSeparator l kind) ≤ values l + 1
+    pub values-separator : values (behindSeparator l rank) ≤ values l + 1
     values-separator = by-separator (λ m ns. values m ≤ values l + 1) (omega arith) (omega arith) (omega arith)
 
 -- ---- room
@@ -203,7 +194,7 @@ module _ {whole : List Token} (l : Listing) {ts : List Token} {left room : ℕ} 
 -- a stray release character changes nothing
 pub tallied-fault : {whole : List Token} (l : Listing) {ts : List Token} {left room : ℕ} → Tallied whole l ts left room
     → {rest : List Token} {less : ℕ} → less < left → {place : ℕ} → ts ≡ fault place ∷ rest → Tallied whole l rest less room
-unfolding tableRest emitted bytesOf byteOf gather
+unfolding tableRest emitted spelledNext heldNext bytesOf byteOf gather
 tallied-fault l t h e = record {
   numbers = t .numbers ∙ ap (λ (us : List Token). 3 * l .records + length (tableRest l us)) e;
   bytes = t .bytes ∙ ap (λ (us : List Token). end l + length (bytesOf us)) e;

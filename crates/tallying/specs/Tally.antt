@@ -9,7 +9,8 @@ use Rattle.lists.specs.Lists.{if_then_else_}
 use Rattle.reading.specs.Tokens.{Token}
 use Rattle.reading.specs.Values.{bytesOf}
 use Rattle.operations.specs.ValueList.{Entry}
-use Rattle.emission.specs.Emission.{emitted}
+use Rattle.emission.specs.declared.Held.{Held}
+use Rattle.emission.specs.Emission.{nothing, waiting, separated, emitted}
 use Rattle.tallying.specs.declared.Listing.{Listing}
 use Rattle.tallying.specs.declared.Tally.{Tally}
 use Rattle.tallying.specs.Marks.{marks, runOut, runNext, numbersOut, entryNext, entryGrow, numbersFrom}
@@ -18,18 +19,17 @@ use Rattle.tallying.specs.Marks.{marks, runOut, runNext, numbersOut, ent
 abbrev pub entryOf : Listing → Entry
 entryOf l = record { kind = l .kind; start = l .start; size = l .size }
 
--- so many records stand before the open one, and so many separators are held back behind it
-abbrev pub listing : ℕ → Entry → ℕ → ℕ → Listing
-listing records e elements components =
-    record { records = records; kind = e .kind; start = e .start; size = e .size; elements = elements; components = components }
+-- so many records stand before the open one, and so much is held back after it
+abbrev pub listing : ℕ → Entry → Held → Listing
+listing records e h = record { records = records; kind = e .kind; start = e .start; size = e .size; held = h }
 
 -- the first value is open, and nothing is listed
 abbrev pub fresh : Listing
-fresh = record { records = 0; kind = 0; start = 0; size = 0; elements = 0; components = 0 }
+fresh = record { records = 0; kind = 0; start = 0; size = 0; held = nothing }
 
 -- all values that are listed or held back
 abbrev pub values : Listing → ℕ
-values l = l .records + l .elements + l .components
+values l = l .records + waiting (l .held)
 
 -- where the open value ends
 abbrev pub end : Listing → ℕ
@@ -45,36 +45,35 @@ abbrev pub entryBehind : ℕ → ℕ → Entry → Entry
 entryBehind kind count e = runNext numbersOut entryNext entryGrow kind count e
 
 unfoldable pub behindMarks : ℕ → ℕ → Listing → Listing
-behindMarks kind count l = listing (l .records + count) (entryBehind kind count (entryOf l)) (l .elements) (l .components)
+behindMarks kind count l = listing (l .records + count) (entryBehind kind count (entryOf l)) (l .held)
 
 -- ---- one step
 
--- one byte more in the open value, behind which nothing is held back
+-- one byte more in the open value, after which nothing is held back
 abbrev pub grown : Listing → Listing
-grown l = record { records = l .records; kind = l .kind; start = l .start; size = l .size + 1; elements = 0; components = 0 }
+grown l = record { records = l .records; kind = l .kind; start = l .start; size = l .size + 1; held = nothing }
 
 -- a byte of a value lets out what is held back
 unfoldable pub behindByte : Listing → Listing
-behindByte l = grown (behindMarks 2 (l .components) (behindMarks 1 (l .elements) l))
+behindByte l = grown (behindMarks 2 (l .held .components) (behindMarks 1 (l .held .elements) l))
 
 unfoldable pub byteNumbers : Listing → List ℕ
-byteNumbers l = marksOut 1 (l .elements) (entryOf l) ++ marksOut 2 (l .components) (entryBehind 1 (l .elements) (entryOf l))
+byteNumbers l = marksOut 1 (l .held .elements) (entryOf l) ++ marksOut 2 (l .held .components) (entryBehind 1 (l .held .elements) (entryOf l))
 
--- a terminator drops what is held back, and the next value begins a segment; another separator is held back
+-- after a terminator the next value begins a segment; another separator is held back
 unfoldable pub behindSeparator : Listing → ℕ → Listing
-behindSeparator l kind =
-    if leb kind 0 then listing (l .records + 1) (entryNext 0 (entryOf l)) 0 0
-    else if leb kind 1 then listing (l .records) (entryOf l) (l .elements + 1) 0
-    else listing (l .records) (entryOf l) (l .elements) (l .components + 1)
+behindSeparator l rank =
+    if leb rank 0 then listing (l .records + 1) (entryNext 0 (entryOf l)) (separated (l .held) rank)
+    else listing (l .records) (entryOf l) (separated (l .held) rank)
 
 unfoldable pub separatorNumbers : Listing → ℕ → List ℕ
-separatorNumbers l kind = if leb kind 0 then numbersOut (entryOf l) else []
+separatorNumbers l rank = if leb rank 0 then numbersOut (entryOf l) else []
 
 -- ---- the whole
 
 -- the table, from what is listed and the tokens that follow
 unfoldable pub tableRest : Listing → List Token → List ℕ
-tableRest l ts = numbersFrom (entryOf l) false (emitted marks (l .elements) (l .components) ts)
+tableRest l ts = numbersFrom (entryOf l) false (emitted marks (l .held) ts)
 
 unfoldable pub tableOf : List Token → List ℕ
 tableOf ts = tableRest fresh ts

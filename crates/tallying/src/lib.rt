@@ -7,18 +7,20 @@ ghost use lib.ListN.{length};
 ghost use Rattle.reading.specs.Tokens.{tokensAt};
 ghost use Rattle.tallying.specs.Tally.{fresh, values, end, behindMarks, grown, behindByte, behindSeparator, Tallies};
 use characters::Characters;
+use emission::Held;
+use held_separators::after_separator;
+use held_separators::nothing_held;
 use scanner::Lexed;
 use scanner::lex;
 
-// What is listed so far: so many records, the record of the value that is open, and how many
-// separators are held back behind it.
+// What is listed so far: so many records, the record of the value that is open, and what is held
+// back after it.
 pub struct Listing {
     pub records: usize,
     pub kind: u32,
     pub start: usize,
     pub size: usize,
-    pub elements: usize,
-    pub components: usize,
+    pub held: Held,
 }
 
 // How many bytes, and how many numbers of the table.
@@ -36,12 +38,11 @@ pub fn start_of_list() -> Listing
         kind: 0,
         start: 0,
         size: 0,
-        elements: 0,
-        components: 0,
+        held: nothing_held(),
     }
 }
 
-// Behind so many separators of one kind that are let out: each ends a value and begins the next.
+// After so many separators of one kind that are let out: each ends a value and begins the next.
 pub fn behind_marks(l: Listing, kind: u32, count: usize) -> Listing
     requires { ⌜ (l .records + count ≤ 32000) × (end l ≤ 32000) ⌝ }
     ensures { λ r. ⌜ r ≡ behindMarks kind count l ⌝ }
@@ -49,13 +50,13 @@ pub fn behind_marks(l: Listing, kind: u32, count: usize) -> Listing
     if count == 0 {
         return l;
     }
+    let held = l.held;
     Listing {
         records: l.records + count,
         kind,
         start: l.start + l.size,
         size: 0,
-        elements: l.elements,
-        components: l.components,
+        held,
     }
 }
 
@@ -69,8 +70,7 @@ pub fn with_one_more(l: Listing) -> Listing
         kind: l.kind,
         start: l.start,
         size: l.size + 1,
-        elements: 0,
-        components: 0,
+        held: nothing_held(),
     }
 }
 
@@ -78,32 +78,23 @@ pub fn with_byte(l: Listing) -> Listing
     requires { ⌜ (values l ≤ 32000) × (end l ≤ 32000) ⌝ }
     ensures { λ r. ⌜ r ≡ behindByte l ⌝ }
 {
-    let elements = behind_marks(l, 1, l.elements);
-    with_one_more(behind_marks(elements, 2, l.components))
+    let h = l.held;
+    let elements = behind_marks(l, 1, h.elements);
+    with_one_more(behind_marks(elements, 2, h.components))
 }
 
-pub fn with_separator(l: Listing, kind: u8) -> Listing
+pub fn with_separator(l: Listing, rank: u8) -> Listing
     requires { ⌜ (values l ≤ 32000) × (end l ≤ 32000) ⌝ }
-    ensures { λ r. ⌜ r ≡ behindSeparator l kind ⌝ }
+    ensures { λ r. ⌜ r ≡ behindSeparator l rank ⌝ }
 {
-    if kind == 0 {
+    let held = after_separator(l.held, rank);
+    if rank == 0 {
         return Listing {
             records: l.records + 1,
             kind: 0,
             start: l.start + l.size,
             size: 0,
-            elements: 0,
-            components: 0,
-        };
-    }
-    if kind == 1 {
-        return Listing {
-            records: l.records,
-            kind: l.kind,
-            start: l.start,
-            size: l.size,
-            elements: l.elements + 1,
-            components: 0,
+            held,
         };
     }
     Listing {
@@ -111,8 +102,7 @@ pub fn with_separator(l: Listing, kind: u8) -> Listing
         kind: l.kind,
         start: l.start,
         size: l.size,
-        elements: l.elements,
-        components: l.components + 1,
+        held,
     }
 }
 

@@ -2,10 +2,9 @@
 use native.Mathlib.Omega.{arith}
 use borrow.Author.Needs.{needs}
 use Rattle.characters.specs.Characters.{adviceOf}
-use Rattle.emitting.proofs.Putting.{stored-length}
+use Rattle.storing.proofs.Stores.{stored-length}
 use Rattle.operations.specs.ValueList.{listedIn}
-use Rattle.composing.proofs.Lengths.{length-start}
-use Rattle.composing.proofs.Stored.{advice-fits, text-stored}
+use Rattle.composing.proofs.Composed.{advice-fits, text-length, text-stored}
 use Rattle.composing.proofs.put_text.Statement.{statement}
 use Rattle.composing.proofs.put_text.Tie as tie
 
@@ -15,7 +14,7 @@ put-advice-requires c κs = advice-fits (c .before .before .before .before .args
 put-records-requires : tie.Need-put-records-requires
 put-records-requires c κs =
     let chars = c .before .before .before .before .before .before .before .before .args .c in
-    let start = length-start chars (listedIn (c .before .before .before .before .before .before .before .before .args .bytes .now) (c .before .before .before .before .before .before .before .before .args .table .now)) in
+    let start = text-length chars (listedIn (c .before .before .before .before .before .before .before .before .args .bytes .now) (c .before .before .before .before .before .before .before .before .args .table .now)) in
     let same = stored-length (c .before .before .before .before .before .before .before .before .args .buffer .now) 0 (adviceOf chars) (c .before .before .before .put-advice .ensures) in
     (c .before .before .before .before .before .before .before .before .pre .0, c .before .before .before .before .before .before .before .before .pre .1, omega (arith, c .before .before .before .before .before .before .before .before .pre .2), omega (arith, c .before .before .before .before .before .before .before .before .pre .3))
 

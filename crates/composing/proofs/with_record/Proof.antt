@@ -1,21 +1,19 @@
--- `composing::with_record` meets its contract: first its kind, then its value. Assumes nothing.
-use Prim.Native.Nat.{_≤_}
+-- `composing::with_record` meets its contract: first its separator, then its value. Assumes nothing.
 use mathlib.Core.Path.{ap}
+use mathlib.Core.List.{[], _∷_}
 use native.Mathlib.Omega.{arith}
 use lib.ListN.{length}
 use borrow.Author.Needs.{needs}
-use Rattle.measuring.specs.declared.Measure.{Measure}
-use Rattle.measuring.specs.Measure.{held}
-use Rattle.measuring.proofs.Steps.{held-separator}
+use Rattle.reading.specs.Tokens.{separator}
+use Rattle.emission.proofs.Steps.{after-most}
 use Rattle.value_lists.specs.Records.{entryOf}
 use Rattle.composing.specs.Composing.{itemOf}
-use Rattle.composing.proofs.Lengths.{value-size}
-use Rattle.composing.proofs.Stored.{behind-item}
+use Rattle.composing.proofs.Composed.{value-size, record-passed}
 use Rattle.composing.proofs.with_record.Statement.{statement}
 use Rattle.composing.proofs.with_record.Tie as tie
 
-cast-with-separator : tie.Need-cast-with-separator
-cast-with-separator c = search needs
+rank-of-requires : tie.Need-rank-of-requires
+rank-of-requires c κs = search needs
 
 with-separator-requires : tie.Need-with-separator-requires
 with-separator-requires c κs = search needs
@@ -25,23 +23,18 @@ value-of-requires c κs = search needs
 
 with-value-requires : tie.Need-with-value-requires
 with-value-requires c κs =
-    let r = c .before .before .before .before .args .r in
-    let kept : held (c .before .with-separator .result) ≤ 64010 =
-    omega (arith, ap (λ (m : Measure). held m) (c .before .with-separator .ensures), held-separator (c .before .before .before .before .args .m) (r .kind))
-    in
-    (kept, omega (arith, ap length (c .value-of .ensures), value-size (c .before .before .before .before .args .bytes .now) (entryOf r)))
+    omega (
+      arith,
+      c .before .before .before .before .pre,
+      after-most (c .before .before .before .before .args .c) (c .before .before .before .before .args .m) (separator (c .before .before .rank-of .result) 0 ∷ []) (c .before .with-separator .ensures (c .before .before .before .before .args .c)),
+      ap length (c .value-of .ensures),
+      value-size (c .before .before .before .before .args .bytes .now) (entryOf (c .before .before .before .before .args .r)),
+    )
 
 returns : tie.Need-returns
 returns c =
-    behind-item (c .before .before .before .before .before .args .c) (c .before .before .before .before .before .args .m) (itemOf (c .before .before .before .before .before .args .bytes .now) (c .before .before .before .before .before .args .r))
-    (c .before .before .with-separator .ensures) (c .before .value-of .ensures) (c .with-value .ensures)
+    record-passed (c .before .before .before .before .before .args .c) (c .before .before .before .before .before .args .m) (itemOf (c .before .before .before .before .before .args .bytes .now) (c .before .before .before .before .before .args .r)) (c .before .before .before .rank-of .ensures) (c .before .value-of .ensures)
+    (c .before .before .with-separator .ensures (c .before .before .before .before .before .args .c)) (c .with-value .ensures)
 
 pub with-record-spec : {M : Type 1} → statement M
-with-record-spec =
-    tie.close
-    (tie.spec
-    cast-with-separator
-    with-separator-requires
-    value-of-requires
-    with-value-requires
-    returns)
+with-record-spec = tie.close (tie.spec rank-of-requires with-separator-requires value-of-requires with-value-requires returns)

@@ -10,7 +10,7 @@ use Rattle.listing.proofs.put_separator.Statement.{statement}
 use Rattle.listing.proofs.put_separator.Tie as tie
 
 put-record-requires : tie.Need-put-record-requires
-put-record-requires c κs = omega (arith, ap length (terminator-numbers (c .before .before .before .args .l) (c .before .before .before .args .kind) (c .before .if1 .taken)))
+put-record-requires c κs = omega (arith, ap length (terminator-numbers (c .before .before .before .args .l) (c .before .before .before .args .rank) (c .before .if1 .taken)))
 
 with-separator-requires : tie.Need-with-separator-requires
 with-separator-requires c κs = search needs
@@ -21,7 +21,7 @@ same-length c = search needs
 returns : tie.Need-returns
 returns c =
     let l = c .before .before .before .before .before .before .before .args .l in
-    (c .before .before .before .put-record .ensures ∙ sym (ap (sets (c .before .before .before .before .before .before .before .args .table .now) (l .records * 3)) (terminator-numbers l (c .before .before .before .before .before .before .before .args .kind) (c .before .before .before .before .before .if1 .taken))), c .with-separator .ensures)
+    (c .before .before .before .put-record .ensures ∙ sym (ap (sets (c .before .before .before .before .before .before .before .args .table .now) (l .records * 3)) (terminator-numbers l (c .before .before .before .before .before .before .before .args .rank) (c .before .before .before .before .before .if1 .taken))), c .with-separator .ensures)
 
 with-separator-requires-2 : tie.Need-with-separator-requires-2
 with-separator-requires-2 c κs = search needs
@@ -29,7 +29,7 @@ with-separator-requires-2 c κs = search needs
 returns-2 : tie.Need-returns-2
 returns-2 c =
     let l = c .before .before .before .args .l in
-    (sym (ap (sets (c .before .before .before .args .table .now) (l .records * 3)) (no-numbers l (c .before .before .before .args .kind) (c .before .if1 .left))), c .with-separator2 .ensures)
+    (sym (ap (sets (c .before .before .before .args .table .now) (l .records * 3)) (no-numbers l (c .before .before .before .args .rank) (c .before .if1 .left))), c .with-separator2 .ensures)
 
 pub put-separator-spec : {M : Type 1} → statement M
 put-separator-spec =

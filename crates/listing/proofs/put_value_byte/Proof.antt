@@ -20,20 +20,20 @@ put-marks-requires c κs = search needs
 
 put-marks-requires-2 : tie.Need-put-marks-requires-2
 put-marks-requires-2 c κs =
-    let l = c .before .before .before .before .before .before .before .before .args .l in
+    let l = c .before .before .before .before .before .before .before .before .before .args .l in
     let e = c .before .before .before .put-marks .ensures .1 in
-    omega (arith, ap (λ (m : Listing). m .records) e, ap (λ (m : Listing). end m) e, records-marks 1 (l .elements) l, end-marks 1 (l .elements) l)
+    omega (arith, ap (λ (m : Listing). m .records) e, ap (λ (m : Listing). end m) e, records-marks 1 (l .held .elements) l, end-marks 1 (l .held .elements) l)
 
 with-one-more-requires : tie.Need-with-one-more-requires
 with-one-more-requires c κs =
-    let l = c .before .before .before .before .before .before .before .before .before .before .before .args .l in
+    let l = c .before .before .before .before .before .before .before .before .before .before .before .before .args .l in
     let o = c .before .before .before .before .before .before .put-marks .result in
     omega (
       arith,
       ap (λ (m : Listing). end m) (c .before .before .before .before .before .before .put-marks .ensures .1),
-      end-marks 1 (l .elements) l,
+      end-marks 1 (l .held .elements) l,
       ap (λ (m : Listing). end m) (c .before .before .put-marks2 .ensures .1),
-      end-marks 2 (l .components) o,
+      end-marks 2 (l .held .components) o,
     )
 
 same-length : tie.Need-same-length
@@ -45,12 +45,12 @@ same-length-2 c = search needs
 returns : tie.Need-returns
 unfolding behindByte
 returns c =
-    let l = c .before .before .before .before .before .before .before .before .before .before .before .before .args .l in
+    let l = c .before .before .before .before .before .before .before .before .before .before .before .before .before .args .l in
     let elements = c .before .before .before .before .before .before .before .put-marks in
     let components = c .before .before .before .put-marks2 in (
       refl,
-      byte-stored (c .before .before .before .before .before .before .before .before .before .before .before .before .args .table .now) l (elements .result) (elements .ensures .0) (elements .ensures .1) (components .ensures .0),
-      c .with-one-more .ensures ∙ ap (λ (m : Listing). grown m) (components .ensures .1 ∙ ap (behindMarks 2 (l .components)) (elements .ensures .1)),
+      byte-stored (c .before .before .before .before .before .before .before .before .before .before .before .before .before .args .table .now) l (elements .result) (elements .ensures .0) (elements .ensures .1) (components .ensures .0),
+      c .with-one-more .ensures ∙ ap (λ (m : Listing). grown m) (components .ensures .1 ∙ ap (behindMarks 2 (l .held .components)) (elements .ensures .1)),
     )
 
 pub put-value-byte-spec : {M : Type 1} → statement M

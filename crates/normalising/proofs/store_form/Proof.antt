@@ -11,9 +11,9 @@ use Rattle.characters.specs.declared.Characters.{Characters}
 use Rattle.characters.specs.Characters.{adviceOf, bodyStart}
 use Rattle.reading.specs.Tokens.{tokensAt}
 use Rattle.verdict.specs.Contents.{normalCharacters}
-use Rattle.emission.specs.Emission.{emitted}
+use Rattle.emission.specs.Emission.{nothing, emitted}
 use Rattle.answers.specs.declared.Interchange.{Interchange}
-use Rattle.emitting.proofs.Putting.{stored-length}
+use Rattle.storing.proofs.Stores.{stored-length}
 use Rattle.judging.proofs.Stages.{accepted-opening}
 use Rattle.judging.proofs.Told.{length-of, characters-of}
 use Rattle.normalising.proofs.Storing.{form-faultless, short-refuses, form-is, form-stored, parts-fit}
@@ -25,7 +25,7 @@ abbrev advised : Interchange → Characters
 advised i = normalCharacters (i .characters .mark)
 
 abbrev spelled : Interchange → List ℕ → ℕ → List ℕ
-spelled i s start = emitted (advised i) 0 0 (tokensAt (i .characters) s start)
+spelled i s start = emitted (advised i) nothing (tokensAt (i .characters) s start)
 
 returns : tie.Need-returns
 returns c =

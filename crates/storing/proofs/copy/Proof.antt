@@ -1,9 +1,9 @@
 -- `storing::copy` meets its contract. The loop's invariant: what is left of the text, stored from here, gives what the whole, stored at the
 -- start, gives; and it fits. What is left falls. Assumes nothing.
-use Prim.Native.Nat.{ℕ, _+_, _-_, _≤_}
+use Prim.Native.Nat.{_+_, _-_, _≤_}
 use mathlib.Core.Path.{_≡_, refl, sym, ap, _∙_}
 use native.Mathlib.Omega.{arith}
-use lib.ListN.{length, set, getD, drop, length-set, length-drop, drop-of-length-le}
+use lib.ListN.{length, getD, drop, length-set, length-drop, drop-of-length-le}
 use lib.Seq.{sets}
 use Rattle.storing.proofs.Stores.{rest-first}
 use Rattle.storing.proofs.copy.Statement.{statement}

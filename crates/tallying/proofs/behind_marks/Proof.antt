@@ -8,14 +8,14 @@ use Rattle.tallying.proofs.behind_marks.Tie as tie
 returns : tie.Need-returns
 returns c = behind-none (c .before .args .kind) (c .before .args .count) (c .before .args .l) (c .if1 .taken)
 
-add-t5 : tie.Need-add-t5
-add-t5 c = search needs
-
 add-t6 : tie.Need-add-t6
 add-t6 c = search needs
 
+add-t7 : tie.Need-add-t7
+add-t7 c = search needs
+
 returns-2 : tie.Need-returns-2
-returns-2 c = behind-some (c .before .before .before .args .kind) (c .before .before .before .args .count) (c .before .before .before .args .l) (pos-of-ne-zero (c .before .before .if1 .left))
+returns-2 c = behind-some (c .before .before .before .before .args .kind) (c .before .before .before .before .args .count) (c .before .before .before .before .args .l) (pos-of-ne-zero (c .before .before .before .if1 .left))
 
 pub behind-marks-spec : {M : Type 1} → statement M
-behind-marks-spec = tie.close (tie.spec returns add-t5 add-t6 returns-2)
+behind-marks-spec = tie.close (tie.spec returns add-t6 add-t7 returns-2)

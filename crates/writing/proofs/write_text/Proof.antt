@@ -4,7 +4,7 @@ use mathlib.Core.Path.{_≡_, _∙_}
 use native.Mathlib.Omega.{arith}
 use lib.ListN.{length}
 use borrow.Author.Needs.{needs}
-use Rattle.emitting.proofs.Putting.{stored-length}
+use Rattle.storing.proofs.Stores.{stored-length}
 use Rattle.operations.specs.Judge.{storedIn}
 use Rattle.operations.specs.ValueList.{listedIn}
 use Rattle.composing.specs.Composing.{composedText}
