@@ -1,0 +1,1 @@
+// Laws of lists nested to any depth.
