@@ -14,10 +14,10 @@ use Rattle.emitting.proofs.Putting.{let-out-append}
 use Rattle.measuring.specs.declared.Measure.{Measure}
 use Rattle.measuring.specs.Measure.{behindSeparator}
 use Rattle.measuring.proofs.Steps.{by-separator}
-use Rattle.operations.specs.ValueList.{Item, closed, segmentsListed, trimList}
+use Rattle.operations.specs.ValueList.{Item, rankOf, closed, segmentsListed, trimList}
 use Rattle.trimming.specs.Kinds.{firstKind}
 use Rattle.composing.specs.Composing.{firstMeasure, endText, valueText, behindValue, behindItem, itemText, composed, adviceFront, composedText}
-use Rattle.composing.proofs.Tokens.{valueByte, endKind, itemTokens, tokensBehind, item-tokens, contents-listed, tokens-whole, tokens-known}
+use Rattle.composing.proofs.Tokens.{valueByte, itemTokens, tokensBehind, item-tokens, contents-listed, tokens-whole, tokens-known}
 
 module _ (c : Characters) where
   -- what is emitted from a measure on
@@ -26,8 +26,8 @@ module _ (c : Characters) where
 
   -- the separator in front of a record
   emit-kind : (m : Measure) (kind : ℕ) (ts : List Token)
-      → emittedFrom m (separator (endKind kind) 0 ∷ ts) ≡ endText c kind ++ emittedFrom (behindSeparator m kind) ts
-  unfolding emitted endKind endText
+      → emittedFrom m (separator (rankOf kind) 0 ∷ ts) ≡ endText c kind ++ emittedFrom (behindSeparator m kind) ts
+  unfolding emitted rankOf endText
   emit-kind m kind ts =
       by-separator
       (λ terminates ends n.
@@ -54,7 +54,7 @@ module _ (c : Characters) where
 
   -- record by record, what is stored is what is emitted
   composed-emitted : (m : Measure) (items : List Item) → emittedFrom m (tokensBehind items) ≡ composed c m items
-  unfolding emitted composed itemText behindItem itemTokens firstKind endKind gather closed
+  unfolding emitted composed itemText behindItem itemTokens firstKind rankOf gather closed
   composed-emitted m [] = refl
   composed-emitted m (l ∷ ls) =
       let kept = behindSeparator m (l .kind) in
@@ -68,10 +68,10 @@ module _ (c : Characters) where
   -- a value list whose first record begins a segment: its text is the interchange that the paper says
   pub composed-written : (items : List Item) → firstKind items ≡ 0
       → composedText c items ≡ interchange c (trimList (segmentsListed items))
-  unfolding composedText adviceFront interchange adviceOf spelledOut emitted endKind
+  unfolding composedText adviceFront interchange adviceOf spelledOut emitted rankOf
   composed-written items h =
       ap (λ (l : List ℕ). adviceFront c ++ l)
       (sym (composed-emitted firstMeasure items)
-      ∙ ap (λ (kind : ℕ). emitted c 0 0 (separator (endKind kind) 0 ∷ itemTokens items)) h
+      ∙ ap (λ (kind : ℕ). emitted c 0 0 (separator (rankOf kind) 0 ∷ itemTokens items)) h
       ∙ ap (λ (l : List ℕ). c .terminator ∷ l)
       (sym (spelled-emitted c (itemTokens items) (tokens-whole items) (tokens-known items)) ∙ ap (spell c) (contents-listed items)))

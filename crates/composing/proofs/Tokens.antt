@@ -6,8 +6,7 @@ use mathlib.Core.Bool.{Bool, true, false, not, _&&_}
 use mathlib.Core.List.{List, [], _∷_, _++_, map, append-nil, map-map}
 use lib.Dec.{leb}
 use lib.Seq.{append-snoc}
-use native.Mathlib.Omega.{arith}
-use borrow.Author.Tests.{not-true, leb-true, le-leb}
+use borrow.Author.Tests.{not-true}
 use Rattle.lists.specs.Lists.{if_then_else_, isEmpty, all, lastOr, onto, cut, gather}
 use Rattle.lists.proofs.Texts.{and-left, and-right}
 use Rattle.lists.proofs.Pieces.{None}
@@ -16,7 +15,7 @@ use Rattle.reading.specs.Values.{byteOf, bytesOf, valueOf, valuesOf, elementsOf
 use Rattle.reading.specs.Trimming.{trimSegment, contentsOf}
 use Rattle.reading.specs.Spelling.{Bytes}
 use Rattle.emission.proofs.Cases.{known}
-use Rattle.operations.specs.ValueList.{Item, closed, closes, elementsListed, segmentsListed, trimList}
+use Rattle.operations.specs.ValueList.{Item, rankOf, closed, closes, elementsListed, segmentsListed, trimList}
 use Rattle.spelling.specs.Bodies.{wordsOf}
 use Rattle.trimming.specs.Kinds.{firstKind}
 use Rattle.forms.proofs.Trimmed.{contents-words}
@@ -82,12 +81,8 @@ cut-each (x ∷ xs) = ap (λ (l : List (List _)). (x ∷ []) ∷ l) (cut-each xs
 abbrev pub valueByte : ℕ → Token
 valueByte b = byte b 0 0
 
--- a separator's kind; any kind but 0 and 1 is that of a component
-unfoldable pub endKind : ℕ → ℕ
-endKind kind = if leb kind 0 then 0 else if leb kind 1 then 1 else 2
-
 abbrev ending : Item → Token
-ending l = separator (endKind (l .kind)) 0
+ending l = separator (rankOf (l .kind)) 0
 
 -- the tokens of values that are known by what ends them
 abbrev endedTokens : List Item → List Token
@@ -99,13 +94,13 @@ itemTokens items = endedTokens (closed items)
 
 -- the separator that ends what stands before a value list, and the list's tokens
 abbrev pub tokensBehind : List Item → List Token
-tokensBehind items = separator (endKind (firstKind items)) 0 ∷ itemTokens items
+tokensBehind items = separator (rankOf (firstKind items)) 0 ∷ itemTokens items
 
 -- a value's bytes stand in front of what ends it
 pub item-tokens : (l : Item) (ls : List Item) → itemTokens (l ∷ ls) ≡ map valueByte (l .value) ++ tokensBehind ls
 unfolding itemTokens closed gather firstKind
-item-tokens l [] = append-snoc (map valueByte (l .value)) (separator (endKind 0) 0) []
-item-tokens l (m ∷ ms) = append-snoc (map valueByte (l .value)) (separator (endKind (m .kind)) 0) (endedTokens (closed (m ∷ ms)))
+item-tokens l [] = append-snoc (map valueByte (l .value)) (separator (rankOf 0) 0) []
+item-tokens l (m ∷ ms) = append-snoc (map valueByte (l .value)) (separator (rankOf (m .kind)) 0) (endedTokens (closed (m ∷ ms)))
 
 -- ---- what they hold
 
@@ -116,27 +111,12 @@ quiet kind [] = refl
 quiet kind (b ∷ bs) = quiet kind bs
 
 -- what ends a value ends what the kind says
-end-of-segment : (l : Item) → ends 0 (ending l) ≡ closes 0 l
-unfolding ends closes endKind
-end-of-segment l = step (leb (l .kind) 0) (leb (l .kind) 1)
-  where
-    step : (a b : Bool) → leb (if a then 0 else if b then 1 else 2) 0 ≡ a
-    step true b = refl
-    step false true = refl
-    step false false = refl
+end-of : (rank : ℕ) (l : Item) → ends rank (ending l) ≡ closes rank l
+unfolding ends closes
+end-of rank l = refl
 
-end-of-element : (l : Item) → ends 1 (ending l) ≡ closes 1 l
-unfolding ends closes endKind
-end-of-element l =
-    step (leb (l .kind) 0) (leb (l .kind) 1) (λ e. le-leb (l .kind) 1 (omega (arith, leb-true (l .kind) 0 e)))
-  where
-    step : (a b : Bool) → (a ≡ true → b ≡ true) → leb (if a then 0 else if b then 1 else 2) 1 ≡ b
-    step true b h = sym (h refl)
-    step false true h = refl
-    step false false h = refl
-
-end-known : (kind : ℕ) → leb (endKind kind) 2 ≡ true
-unfolding endKind
+end-known : (kind : ℕ) → leb (rankOf kind) 2 ≡ true
+unfolding rankOf
 end-known kind = step (leb kind 0) (leb kind 1)
   where
     step : (a b : Bool) → leb (if a then 0 else if b then 1 else 2) 2 ≡ true
@@ -173,7 +153,7 @@ unfolding wordsOf elementsOf
 segment-read segment =
     map-map (map (λ v. v .bytes)) valuesOf (cut (ends 1) (endedTokens segment))
     ∙ ap (map (λ piece. map (λ v. v .bytes) (valuesOf piece)))
-    (cut-gather (λ l. map valueByte (l .value)) ending (ends 1) (closes 1) (λ l. quiet 1 (l .value)) end-of-element segment)
+    (cut-gather (λ l. map valueByte (l .value)) ending (ends 1) (closes 1) (λ l. quiet 1 (l .value)) (end-of 1) segment)
     ∙ map-map (λ piece. map (λ v. v .bytes) (valuesOf piece)) endedTokens (cut (closes 1) segment)
     ∙ ap (λ (f : List Item → List Bytes). map f (cut (closes 1) segment)) (fun-ext element-read)
 
@@ -182,7 +162,7 @@ pub contents-listed : (items : List Item) → map contentsOf (segments (itemToke
 unfolding segments itemTokens trimList segmentsListed
 contents-listed items =
     ap (map contentsOf)
-    (cut-gather (λ l. map valueByte (l .value)) ending (ends 0) (closes 0) (λ l. quiet 0 (l .value)) end-of-segment (closed items))
+    (cut-gather (λ l. map valueByte (l .value)) ending (ends 0) (closes 0) (λ l. quiet 0 (l .value)) (end-of 0) (closed items))
     ∙ map-map contentsOf endedTokens (cut (closes 0) (closed items))
     ∙ ap (λ (f : List Item → List (List Bytes)). map f (cut (closes 0) (closed items)))
     (fun-ext (λ segment. contents-words (endedTokens segment) ∙ ap (trimSegment isEmpty) (segment-read segment)))
@@ -208,15 +188,15 @@ known-value [] ts = refl
 known-value (b ∷ bs) ts = known-value bs ts
 
 behind-ended : (items : List Item) → endedBy 0 (tokensBehind items) ≡ true
-unfolding endedBy lastOr itemTokens closed gather ends endKind firstKind
+unfolding endedBy lastOr itemTokens closed gather ends rankOf firstKind
 behind-ended [] = refl
 behind-ended (l ∷ ls) =
-    ap (λ (ts : List Token). endedBy 0 (separator (endKind (l .kind)) 0 ∷ ts)) (item-tokens l ls)
-    ∙ ap (ends 0) (ended-behind (separator (endKind (firstKind ls)) 0) (itemTokens ls) (separator (endKind (l .kind)) 0) (l .value))
+    ap (λ (ts : List Token). endedBy 0 (separator (rankOf (l .kind)) 0 ∷ ts)) (item-tokens l ls)
+    ∙ ap (ends 0) (ended-behind (separator (rankOf (firstKind ls)) 0) (itemTokens ls) (separator (rankOf (l .kind)) 0) (l .value))
     ∙ behind-ended ls
 
 behind-known : (items : List Item) → all known (tokensBehind items) ≡ true
-unfolding all known itemTokens closed gather endKind firstKind
+unfolding all known itemTokens closed gather rankOf firstKind
 behind-known [] = refl
 behind-known (l ∷ ls) =
     ap (λ (b : Bool). b && all known (itemTokens (l ∷ ls))) (end-known (l .kind))
@@ -231,7 +211,7 @@ tokens-whole (l ∷ ls) = ap endsInside (item-tokens l ls) ∙ step (l .value)
   where
     step : (bs : Bytes) → endsInside (map valueByte bs ++ tokensBehind ls) ≡ false
     step [] = ap not (behind-ended ls)
-    step (b ∷ bs) = ap not (ended-value (separator (endKind (firstKind ls)) 0) (itemTokens ls) (b ∷ bs) ∙ behind-ended ls)
+    step (b ∷ bs) = ap not (ended-value (separator (rankOf (firstKind ls)) 0) (itemTokens ls) (b ∷ bs) ∙ behind-ended ls)
 
 pub tokens-known : (items : List Item) → all known (itemTokens items) ≡ true
 unfolding all itemTokens closed gather

@@ -18,9 +18,7 @@ use Rattle.operations.specs.ValueList.{trimList}
 use Rattle.operations.proofs.Answered.{compare-by, normalise-refused, normalises, form-short, read-refused, bytes-short, table-short}
 use Rattle.spelling.specs.Bodies.{Spelled, wordsOf, listed, readList}
 use Rattle.spelling.proofs.Laws.{passes-exactly, only-one, spell-read, read-spelling, spelling-unique}
-use Rattle.trimming.proofs.Trimmed.{trimList-trimmed, list-only}
-use Rattle.trimming.proofs.Again.{trimList-again}
-use Rattle.trimming.proofs.Ends.{same-trimmed}
+use Rattle.trimming.proofs.Trimmed.{trimList-trimmed, list-only, trimList-again, same-trimmed}
 use Rattle.forms.specs.Forms.{markOf, formCharacters}
 use Rattle.forms.proofs.Accepted.{passes-accepted}
 use Rattle.forms.proofs.Trimmed.{contents-read}

@@ -87,7 +87,7 @@ segments-more c list more u s r =
     let passes : Passes c 9 bs = spelling-passes c u 9 list s r in
     ap segmentsOf (append-assoc (adviceOf c) bs more)
     ∙ segments-advised c (bs ++ more)
-    ∙ ap segments (tokens-append c u 9 bs more passes)
+    ∙ ap segments (tokens-append c u 9 bs passes more)
     ∙ segments-append (tokens c 9 bs) (tokens c (9 + length bs) more) (passes .1)
     ∙ ap₂ (λ (gs : List Segment) (n : ℕ). gs ++ segments (tokens c n more)) (sym (segments-advised c bs)) (omega arith)
 

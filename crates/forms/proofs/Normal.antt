@@ -17,7 +17,7 @@ use Rattle.verdict.specs.Stages.{refusalOf}
 use Rattle.operations.specs.ValueList.{trimList}
 use Rattle.spelling.specs.Bodies.{Shaped, Releasable}
 use Rattle.spelling.proofs.Laws.{read-shaped}
-use Rattle.trimming.proofs.Again.{trimList-shaped}
+use Rattle.trimming.proofs.Trimmed.{trimList-shaped}
 use Rattle.forms.specs.Forms.{markOf, formCharacters, BodyPasses, listOf}
 use Rattle.forms.proofs.Trimmed.{contents-read, contents-trimmed}
 use Rattle.forms.proofs.Openings.{advice-characters, interchange-passes, interchange-read}

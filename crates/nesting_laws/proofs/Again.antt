@@ -2,13 +2,13 @@
 -- keeps which of them are empty may be done before or after. Assumes nothing.
 use Prim.Native.Nat.{ℕ, zero, suc}
 use mathlib.Core.Path.{_≡_, refl, sym, ap, ap₂, fun-ext, _∙_}
-use mathlib.Core.Bool.{Bool, true, not, false≢true}
+use mathlib.Core.Bool.{Bool, true}
 use mathlib.Core.List.{List, [], _∷_, map, map-map}
 use Rattle.lists.specs.Lists.{isEmpty, all, dropEnd, trimEnd}
 use Rattle.lists.proofs.Texts.{and-left, and-right, and-both, all-append, all-map}
 use Rattle.lists.proofs.Ends.{trimEnd-again, trimEnd-map}
 use Rattle.nesting.specs.Nesting.{Nest, shaped, every, mapped, isIdle, idle, trim}
-use Rattle.nesting_laws.proofs.Shape.{shaped-step, trim-step}
+use Rattle.nesting_laws.proofs.Shape.{trim-step, shaped-some, shaped-all, all-shaped}
 use Rattle.nesting_laws.proofs.Trimmed.{dropEnd-shortened}
 
 -- what does nothing more to any when done again does nothing more to each
@@ -53,22 +53,13 @@ module _ (A : Type 0) (isBlank : A → Bool) where
   trim-every p zero v h = h
   trim-every p (suc n) xs h = left-all (every p) n (trim-every p n) xs h
 
-  -- where something was, something is left
-  trim-some : (n : ℕ) (xs : List (Nest A n)) → isEmpty (trim A isBlank (suc n) xs) ≡ isEmpty xs
-  unfolding isEmpty trimEnd
-  trim-some n [] = ap isEmpty (trim-step A isBlank n [])
-  trim-some n (x ∷ xs) = ap isEmpty (trim-step A isBlank n (x ∷ xs))
-
   pub trim-shaped : (n : ℕ) (x : Nest A n) → shaped A n x ≡ true → shaped A n (trim A isBlank n x) ≡ true
+  unfolding isEmpty trimEnd
   trim-shaped zero v h = h
-  trim-shaped (suc n) xs h =
-      let some : Bool = not (isEmpty xs) in
-      let k = sym (shaped-step A n xs) ∙ h in
-      let left : List (Nest A n) = trim A isBlank (suc n) xs in
-      shaped-step A n left
-      ∙ and-both (not (isEmpty left)) (all (shaped A n) left)
-      (ap not (trim-some n xs) ∙ and-left some (all (shaped A n) xs) k)
-      (left-all (shaped A) n (trim-shaped n) xs (and-right some (all (shaped A n) xs) k))
+  trim-shaped (suc n) [] h = absurd (shaped-some A n h)
+  trim-shaped (suc n) (x ∷ xs) h =
+      all-shaped A n (trim A isBlank (suc n) (x ∷ xs)) (ap isEmpty (trim-step A isBlank n (x ∷ xs)))
+      (left-all (shaped A) n (trim-shaped n) (x ∷ xs) (shaped-all A n (x ∷ xs) h))
 
 module _ {A B : Type 0} (f : A → B) (t : B → Bool) where
   abbrev u : A → Bool

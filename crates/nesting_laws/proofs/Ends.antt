@@ -41,7 +41,7 @@ more-map f {idle} (oneMore x xs) = rw map-append (oneMore (f x) (map f xs))
 
 -- ---- a list differs from what trimming leaves of it by empty ends alone
 
--- rows of steps of one kind are rows of steps of another where each step is
+-- rows of steps of one relation are rows of steps of another where each step is
 linked-map : {A B : Type 0} {R : A → A → Type 0} {S : B → B → Type 0} (g : A → B) → ((x y : A) → R x y → S (g x) (g y))
     → {x y : A} → Linked R x y → Linked S (g x) (g y)
 linked-map g h (step {x} {y} r) = step (h x y r)

@@ -2,6 +2,9 @@ pub mod Shape
 pub mod Trimmed
 pub mod Again
 pub mod Ends
+pub mod Ranks
 pub mod Reading
 pub mod Writing
-pub mod Ranks
+pub mod Flat
+pub mod Splits
+pub mod Positions

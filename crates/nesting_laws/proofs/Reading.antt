@@ -1,12 +1,12 @@
 -- What is read of tokens, at any depth: what one token more in front adds to it. Assumes nothing.
 use Prim.Native.Nat.{ℕ, zero, suc}
-use mathlib.Core.Path.{_≡_, refl, sym, ap, fun-ext, _∙_}
-use mathlib.Core.Bool.{Bool, true, false, not, _&&_}
+use mathlib.Core.Path.{_≡_, refl, ap, fun-ext, _∙_}
+use mathlib.Core.Bool.{Bool, true, false, not, _&&_, and-true, and-assoc, false≢true}
 use mathlib.Core.List.{List, [], _∷_, map, map-map}
 use Rattle.lists.specs.Lists.{isEmpty, all, onto, cut}
-use Rattle.lists.proofs.Texts.{and-left, and-right, and-both}
-use Rattle.nesting.specs.Nesting.{Nest, shaped, mapped, nested}
-use Rattle.nesting_laws.proofs.Shape.{shaped-step}
+use Rattle.lists.proofs.Texts.{and-right, all-mapped, all-map}
+use Rattle.nesting.specs.Nesting.{Nest, shaped, every, mapped, nested}
+use Rattle.nesting_laws.proofs.Shape.{shaped-all, all-shaped}
 
 -- what is read may be mapped before or after it is nested
 pub nested-mapped : {T A B : Type 0} (ends : ℕ → T → Bool) (read : List T → A) (f : A → B) (n : ℕ) (ts : List T)
@@ -15,6 +15,17 @@ nested-mapped ends read f zero ts = refl
 nested-mapped ends read f (suc n) ts =
     map-map (mapped f n) (nested ends read n) (cut (ends n) ts)
     ∙ ap (λ (g : List _ → Nest _ n). map g (cut (ends n) ts)) (fun-ext (nested-mapped ends read f n))
+
+-- a test of all is a test of all pieces
+all-cut : {T : Type 0} (t p : T → Bool) (xs : List T) → all (all p) (cut t xs) ≡ all p xs
+unfolding cut onto all
+all-cut t p [] = refl
+all-cut {T} t p (x ∷ xs) = step (t x) (cut t xs) ∙ ap (λ (b : Bool). p x && b) (all-cut t p xs)
+  where
+    step : (b : Bool) (pieces : List (List T)) → all (all p) (onto b x pieces) ≡ (p x && all (all p) pieces)
+    step true pieces = ap (λ (b : Bool). b && all (all p) pieces) (and-true (p x))
+    step false [] = and-true (p x && true)
+    step false (piece ∷ pieces) = and-assoc (p x) (all p piece) (all (all p) pieces)
 
 -- f done to the first, or to `none` put in front: where what is added ends its part, or where there is no part
 abbrev pub pushed : {B : Type 0} → B → Bool → (B → B) → List B → List B
@@ -58,47 +69,50 @@ module _ {T A : Type 0} (ends : ℕ → T → Bool) (start : A) (add : T → A �
       nothing zero = e
       nothing (suc n) = refl
 
-  -- ---- the shape
+-- ---- the shape
 
-  -- it is never empty
-  pub push-some : (n : ℕ) (t : T) (xs : List (Nest A n)) → isEmpty (push (suc n) t xs) ≡ false
+-- the pieces of a list are there, where it is, and none is empty
+cut-full : {T : Type 0} (t : T → Bool) (x : T) (xs : List T) → (isEmpty (cut t (x ∷ xs)) ≡ false) × (all (λ piece. not (isEmpty piece)) (cut t (x ∷ xs)) ≡ true)
+unfolding cut onto isEmpty all
+cut-full t x [] = step (t x)
+  where
+    step : (b : Bool) → (isEmpty (onto b x []) ≡ false) × (all (λ piece. not (isEmpty piece)) (onto b x []) ≡ true)
+    step true = (refl, refl)
+    step false = (refl, refl)
+cut-full {T} t x (y ∷ ys) = step (t x) (cut t (y ∷ ys)) (cut-full t y ys .1)
+  where
+    step : (b : Bool) (pieces : List (List T)) → all (λ piece. not (isEmpty piece)) pieces ≡ true
+        → (isEmpty (onto b x pieces) ≡ false) × (all (λ piece. not (isEmpty piece)) (onto b x pieces) ≡ true)
+    step true pieces h = (refl, h)
+    step false [] h = (refl, refl)
+    step false (piece ∷ pieces) h = (refl, and-right (not (isEmpty piece)) (all (λ p. not (isEmpty p)) pieces) h)
+
+module _ {T A : Type 0} (ends : ℕ → T → Bool) (read : List T → A) where
+  -- so what is read of something has what it should
+  pub nested-shaped : (n : ℕ) (ts : List T) → not (isEmpty ts) ≡ true → shaped A n (nested ends read n ts) ≡ true
   unfolding isEmpty
-  push-some n t xs = step (ends n t) xs
+  nested-shaped zero ts h = refl
+  nested-shaped (suc n) [] h = absurd (false≢true h)
+  nested-shaped (suc n) (t ∷ ts) h =
+      let full = cut-full (ends n) t ts in
+      let pieces : List (List T) = cut (ends n) (t ∷ ts) in
+      all-shaped A n (map (nested ends read n) pieces) (map-empty pieces ∙ full .0)
+      (all-map (nested ends read n) (λ piece. not (isEmpty piece)) (shaped A n) (nested-shaped n) pieces (full .1))
     where
-      step : (b : Bool) (xs : List (Nest A n)) → isEmpty (pushed (bare start n) b (push n t) xs) ≡ false
-      step true xs = refl
-      step false [] = refl
-      step false (x ∷ xs) = refl
+      map-empty : (pieces : List (List T)) → isEmpty (map (nested ends read n) pieces) ≡ isEmpty pieces
+      map-empty [] = refl
+      map-empty (piece ∷ pieces) = refl
 
-  -- the part that begins with the token is shaped, and with the token in front what was shaped stays so
-  abbrev Keeps : ℕ → T → Type 0
-  Keeps n t = (shaped A n (push n t (bare start n)) ≡ true) × ((x : Nest A n) → shaped A n x ≡ true → shaped A n (push n t x) ≡ true)
+  pub nested-all : (n : ℕ) (ts : List T) → all (shaped A n) (nested ends read (suc n) ts) ≡ true
+  unfolding cut all isEmpty
+  nested-all n [] = refl
+  nested-all n (t ∷ ts) = shaped-all A n (nested ends read (suc n) (t ∷ ts)) (nested-shaped (suc n) (t ∷ ts) refl)
 
-  all-keep : (n : ℕ) (t : T) → Keeps n t → (xs : List (Nest A n)) → all (shaped A n) xs ≡ true → all (shaped A n) (push (suc n) t xs) ≡ true
-  unfolding all
-  all-keep n t k xs h = step (ends n t) xs h
-    where
-      step : (b : Bool) (xs : List (Nest A n)) → all (shaped A n) xs ≡ true
-          → all (shaped A n) (pushed (bare start n) b (push n t) xs) ≡ true
-      step true xs h = and-both (shaped A n (push n t (bare start n))) (all (shaped A n) xs) (k .0) h
-      step false [] h = and-both (shaped A n (push n t (bare start n))) true (k .0) refl
-      step false (x ∷ xs) h =
-          and-both (shaped A n (push n t x)) (all (shaped A n) xs)
-          (k .1 x (and-left (shaped A n x) (all (shaped A n) xs) h))
-          (and-right (shaped A n x) (all (shaped A n) xs) h)
-
-  keeps : (n : ℕ) (t : T) → Keeps n t
-  unfolding all
-  keeps zero t = (refl, λ v h. refl)
-  keeps (suc n) t =
-      let k : Keeps n t = keeps n t in
-      (some k [] refl, λ xs h. some k xs (and-right (not (isEmpty xs)) (all (shaped A n) xs) (sym (shaped-step A n xs) ∙ h)))
-    where
-      some : Keeps n t → (xs : List (Nest A n)) → all (shaped A n) xs ≡ true → shaped A (suc n) (push (suc n) t xs) ≡ true
-      some k xs h =
-          let more : List (Nest A n) = push (suc n) t xs in
-          shaped-step A n more
-          ∙ and-both (not (isEmpty more)) (all (shaped A n) more) (ap not (push-some n t xs)) (all-keep n t k xs h)
-
-  pub push-shaped : (n : ℕ) (t : T) (xs : List (Nest A n)) → all (shaped A n) xs ≡ true → all (shaped A n) (push (suc n) t xs) ≡ true
-  push-shaped n t = all-keep n t (keeps n t)
+  -- a test of every value is a test of all tokens
+  module _ (q : A → Bool) (p : T → Bool) (one : (ts : List T) → q (read ts) ≡ all p ts) where
+    pub every-nested : (n : ℕ) (ts : List T) → every q n (nested ends read n ts) ≡ all p ts
+    every-nested zero ts = one ts
+    every-nested (suc n) ts =
+        all-mapped (nested ends read n) (every q n) (cut (ends n) ts)
+        ∙ ap (λ (f : List T → Bool). all f (cut (ends n) ts)) (fun-ext (every-nested n))
+        ∙ all-cut (ends n) p ts

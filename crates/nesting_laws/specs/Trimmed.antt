@@ -19,7 +19,7 @@ module _ {A : Type 0} (t : A → Bool) where
     pub idle : all t gone ≡ true
     pub firm : endsFirmly left ≡ true
 
-  -- the same behind the first, which stays
+  -- the same after the first, which stays
   pub data Trimmed : List A → List A → Type 0 where
     nothing : Trimmed [] []
     behindFirst : (x : A) {whole left : List A} → Shortened whole left → Trimmed (x ∷ whole) (x ∷ left)

@@ -4,7 +4,7 @@ use mathlib.Core.Bool.{Bool}
 use mathlib.Core.List.{List, [], _∷_, _++_, map}
 use lib.ListN.{length, take, drop}
 use lib.Dec.{leb}
-use Rattle.lists.specs.Lists.{cut, gather, isEmpty}
+use Rattle.lists.specs.Lists.{if_then_else_, cut, gather, isEmpty}
 use Rattle.reading.specs.Trimming.{trimSegment}
 use Rattle.reading.specs.Spelling.{Bytes, SegmentList}
 
@@ -12,6 +12,10 @@ use Rattle.reading.specs.Spelling.{Bytes, SegmentList}
 pub record Item : Type 0 where
   pub kind : ℕ
   pub value : Bytes
+
+-- A kind says what a value begins, a separator's rank what it ends. The rank of the separator that stands before a value of this kind:
+unfoldable pub rankOf : ℕ → ℕ
+rankOf kind = if leb kind 0 then 0 else if leb kind 1 then 1 else 2
 
 -- ---- from segments to a value list
 
@@ -64,9 +68,9 @@ closed [] = []
 closed (l ∷ []) = record { kind = 0; value = l .value } ∷ []
 closed (l ∷ next ∷ ls) = record { kind = next .kind; value = l .value } ∷ closed (next ∷ ls)
 
--- a value with which what a separator of this kind ends has ended
+-- a value with which what a separator of this rank ends has ended
 unfoldable pub closes : ℕ → Item → Bool
-closes kind l = leb (l .kind) kind
+closes rank l = leb (rankOf (l .kind)) rank
 
 -- the elements of a segment, and the segments, of values with what ends them
 abbrev pub elementsListed : List Item → List (List Bytes)

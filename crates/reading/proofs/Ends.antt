@@ -1,4 +1,4 @@
--- What ends a piece of the tokens, over the kind of separator. Assumes nothing.
+-- What ends a piece of the tokens, over the rank of the separator. Assumes nothing.
 use Prim.Native.Nat.{ℕ, _≤_}
 use mathlib.Core.Path.{_≡_, refl, sym, ap, _∙_}
 use mathlib.Core.Bool.{true, false}
@@ -14,7 +14,7 @@ use Rattle.reading.specs.Values.{endedBy}
 pub ends-more : (low high : ℕ) → low ≤ high → (t : Token) → ends low t ≡ true → ends high t ≡ true
 unfolding ends
 ends-more low high h (byte b from place) e = e
-ends-more low high h (separator kind place) e = le-leb kind high (omega (arith, leb-true kind low e))
+ends-more low high h (separator rank place) e = le-leb rank high (omega (arith, leb-true rank low e))
 ends-more low high h (fault place) e = e
 
 -- so the first smaller piece is the same in the larger one
@@ -31,11 +31,11 @@ pieces-first low high h t ts =
     ∙ ap (λ (first : List Token). first ∷ rest) (through-ends low high h (t ∷ ts))
 
 -- a token that ends nothing leaves it to the tokens behind it
-pub ended-behind : (kind : ℕ) (t : Token) (ts : List Token) → ends kind t ≡ false → endedBy kind (t ∷ ts) ≡ endedBy kind ts
+pub ended-behind : (rank : ℕ) (t : Token) (ts : List Token) → ends rank t ≡ false → endedBy rank (t ∷ ts) ≡ endedBy rank ts
 unfolding endedBy lastOr
-ended-behind kind t [] h = h
-ended-behind kind t (u ∷ us) h = refl
+ended-behind rank t [] h = h
+ended-behind rank t (u ∷ us) h = refl
 
 -- where it does not end the last of them, those behind it do
-pub ended-next : (kind : ℕ) (t : Token) (ts : List Token) → ends kind t ≡ false → endedBy kind (t ∷ ts) ≡ true → endedBy kind ts ≡ true
-ended-next kind t ts e h = sym (ended-behind kind t ts e) ∙ h
+pub ended-next : (rank : ℕ) (t : Token) (ts : List Token) → ends rank t ≡ false → endedBy rank (t ∷ ts) ≡ true → endedBy rank ts ≡ true
+ended-next rank t ts e h = sym (ended-behind rank t ts e) ∙ h

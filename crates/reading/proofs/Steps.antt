@@ -14,14 +14,14 @@ use Rattle.characters.specs.declared.Role.the-variants.{Separator, Release, Pla
 use Rattle.characters.specs.Characters.{role}
 use Rattle.reading.specs.Tokens.{byte, separator, fault, unreleased, releasing, taken, tokensFrom, tokens, tokensAt, ends}
 
--- a separator ends what those of its own kind and of higher kinds end
-pub ends-yes : (kind place : ℕ) {k : ℕ} → k ≤ kind → ends kind (separator k place) ≡ true
+-- a separator ends what those of its own rank and of every greater one end
+pub ends-yes : (rank place : ℕ) {k : ℕ} → k ≤ rank → ends rank (separator k place) ≡ true
 unfolding ends
-ends-yes kind place {k} h = le-leb k kind h
+ends-yes rank place {k} h = le-leb k rank h
 
-pub ends-no : (kind place : ℕ) {k : ℕ} → kind < k → ends kind (separator k place) ≡ false
+pub ends-no : (rank place : ℕ) {k : ℕ} → rank < k → ends rank (separator k place) ≡ false
 unfolding ends
-ends-no kind place {k} h = lt-leb k kind h
+ends-no rank place {k} h = lt-leb k rank h
 
 -- the tokens from an unreleased byte on, by the part that it plays
 pub tokens-role : (c : Characters) (place b : ℕ) (more : List ℕ) (o : Role) → role c b ≡ o
@@ -47,10 +47,10 @@ module _ (c : Characters) (s : List ℕ) where
   unfolding tokensAt tokens unreleased releasing
   at-plain at h r = at-role at Plain h r
 
-  pub at-separator : (at kind : ℕ) → at < length s → role c (getD s at 0) ≡ Separator kind
-      → tokensAt c s at ≡ separator kind at ∷ tokensAt c s (at + 1)
+  pub at-separator : (at rank : ℕ) → at < length s → role c (getD s at 0) ≡ Separator rank
+      → tokensAt c s at ≡ separator rank at ∷ tokensAt c s (at + 1)
   unfolding tokensAt tokens unreleased releasing
-  at-separator at kind h r = at-role at (Separator kind) h r
+  at-separator at rank h r = at-role at (Separator rank) h r
 
   -- a release character leaves what follows to the byte behind it
   releases : (at : ℕ) → at < length s → role c (getD s at 0) ≡ Release
@@ -82,9 +82,9 @@ module _ (c : Characters) (s : List ℕ) where
   at-released-release at h r q =
       released at h r ∙ ap (λ (o : Role). taken o (getD s (at + 1) 0) at (at + 1) (tokensAt c s (at + 1 + 1))) q
 
-  pub at-released-separator : (at kind : ℕ) → at + 1 < length s → role c (getD s at 0) ≡ Release
-      → role c (getD s (at + 1) 0) ≡ Separator kind
+  pub at-released-separator : (at rank : ℕ) → at + 1 < length s → role c (getD s at 0) ≡ Release
+      → role c (getD s (at + 1) 0) ≡ Separator rank
       → tokensAt c s at ≡ byte (getD s (at + 1) 0) at (at + 1) ∷ tokensAt c s (at + 1 + 1)
   unfolding taken
-  at-released-separator at kind h r q =
+  at-released-separator at rank h r q =
       released at h r ∙ ap (λ (o : Role). taken o (getD s (at + 1) 0) at (at + 1) (tokensAt c s (at + 1 + 1))) q

@@ -1,11 +1,13 @@
 -- Paper 01, "Trimming (clauses 6 and 7)". Assumes nothing.
 use Prim.Native.Nat.{ℕ}
-use mathlib.Core.Bool.{Bool, true, false}
-use mathlib.Core.List.{List, [], _∷_, map}
-use mathlib.Core.Option.{Option, none, some}
+use mathlib.Core.Bool.{Bool}
+use mathlib.Core.List.{List, map}
+use mathlib.Core.Option.{Option, none}
 use Rattle.lists.specs.Lists.{isEmpty, trimEnd, at, maybe}
 use Rattle.reading.specs.Tokens.{Segment}
 use Rattle.reading.specs.Values.{Value, elementsOf}
+-- "a single empty value": one alone, which is empty
+unfoldable pub use Rattle.nesting.specs.Nesting.{isIdle}
 
 -- over any values of which it is known which are empty
 module _ {A : Type 0} (isBlank : A → Bool) where
@@ -13,15 +15,9 @@ module _ {A : Type 0} (isBlank : A → Bool) where
   unfoldable pub trimElement : List A → List A
   trimElement element = trimEnd isBlank element
 
-  -- "a single empty value"
-  unfoldable pub isIdle : List A → Bool
-  isIdle [] = false
-  isIdle (v ∷ []) = isBlank v
-  isIdle (v ∷ w ∷ vs) = false
-
   -- "then elements at a segment's end that are a single empty value go, but never the tag"
   unfoldable pub trimSegment : List (List A) → List (List A)
-  trimSegment segment = trimEnd isIdle (map trimElement segment)
+  trimSegment segment = trimEnd (isIdle isBlank) (map trimElement segment)
 
 -- a value that was read is empty
 abbrev pub isBlank : Value → Bool

@@ -13,7 +13,7 @@ pub record Value : Type 0 where
 
 unfoldable pub byteOf : Token → List ℕ
 byteOf (byte b from place) = b ∷ []
-byteOf (separator kind place) = []
+byteOf (separator rank place) = []
 byteOf (fault place) = []
 
 unfoldable pub bytesOf : List Token → List ℕ
@@ -28,7 +28,7 @@ endPlace (t ∷ ts) = placeOf (lastOr t ts)
 unfoldable pub valueOf : List Token → Value
 valueOf ts = record { bytes = bytesOf ts; offset = start ts; spelled = endPlace ts - start ts }
 
--- "A segment is one or more elements, an element one or more values": cut behind element separators, then behind component separators
+-- "A segment is one or more elements, an element one or more values": cut after element separators, then after component separators
 unfoldable pub valuesOf : List Token → List Value
 valuesOf element = map valueOf (cut (ends 2) element)
 
@@ -39,13 +39,13 @@ elementsOf segment = map valuesOf (cut (ends 1) segment)
 
 unfoldable pub isFault : Token → Bool
 isFault (byte b from place) = false
-isFault (separator kind place) = false
+isFault (separator rank place) = false
 isFault (fault place) = true
 
--- what a separator of this kind ends has ended here
+-- what a separator of this rank ends has ended here
 unfoldable pub endedBy : ℕ → List Token → Bool
-endedBy kind [] = false
-endedBy kind (t ∷ ts) = ends kind (lastOr t ts)
+endedBy rank [] = false
+endedBy rank (t ∷ ts) = ends rank (lastOr t ts)
 
 -- the tokens end inside a segment
 unfoldable pub endsInside : List Token → Bool

@@ -1,54 +1,95 @@
 -- The laws of reading and spelling under usable service characters (paper 01, "From bytes to values"). Assumes nothing.
 use Prim.Native.Nat.{ℕ, _+_}
 use mathlib.Core.Path.{_≡_, refl, sym, ap, _∙_, subst}
-use mathlib.Core.Bool.{true}
-use mathlib.Core.List.{[], _++_, append-nil}
+use mathlib.Core.Bool.{Bool, true, false, not, _||_, true≢false}
+use mathlib.Core.List.{List, _++_, map}
 use mathlib.Core.Logic.{_↔_}
 use lib.ListN.{length}
+use Rattle.lists.specs.Lists.{all, gather}
+use Rattle.nesting.specs.Nesting.{every}
+use Rattle.nesting_laws.proofs.Shape.{every-true}
 use Rattle.characters.specs.declared.Characters.{Characters}
-use Rattle.characters.specs.Characters.{usable}
-use Rattle.reading.specs.Tokens.{segments, tokens}
+use Rattle.characters.specs.Characters.{released, isService, usable}
+use Rattle.reading.specs.Tokens.{Token, tokens}
+use Rattle.reading.specs.Values.{endsInside}
 use Rattle.reading.specs.Spelling.{Bytes, SegmentList, spell}
-use Rattle.lists.specs.Lists.{cut}
-use Rattle.spelling.specs.Bodies.{listed, readList, Passes, Shaped, Releasable, Spelled}
-pub use Rattle.spelling.proofs.Listing.{read-anywhere}
-use Rattle.spelling.proofs.Grammar.{Spells, spells-spell, spells-shaped, spells-releasable, spells-list}
-use Rattle.spelling.proofs.Parsing.{spells-reads, passes-spells}
+use Rattle.spelling.specs.Bodies.{listed, readList, Sound, Passes, Shaped, Releasable, Spelled}
+use Rattle.spelling.proofs.Tokens.{placeless, spellable, spellToken, sayable, Lexed, lexed-tokens, lexed-spelled, lexed-said, lexed-alone, spelled-placeless, said-placeless, said-faultless, spelled-lexed, read-lexed}
+use Rattle.spelling.proofs.Listing.{listed-shaped, listed-placeless, tokensOf, listed-tokens, tokens-ended, all-tokens, spelled-tokens, inside-placeless, tokens-listed}
+
+-- a list can be spelled exactly where each of its bytes can stand in a value
+releasable-exactly : (c : Characters) (list : SegmentList) → Releasable c list ↔ (every (all (spellable c)) 3 list ≡ true)
+unfolding Releasable
+releasable-exactly c list = step (released c) refl
+  where
+    step : (r : Bool) → released c ≡ r
+        → (r ≡ false → every (all (λ b. not (isService c b))) 3 list ≡ true) ↔ (every (all (λ b. r || not (isService c b))) 3 list ≡ true)
+    step true e = (λ h. every-true (λ b. true || not (isService c b)) (λ b. refl) 4 list, λ h k. absurd (true≢false k))
+    step false e = (λ h. h refl, λ h k. h)
 
 module _ (c : Characters) (u : usable c ≡ true) where
-  -- a body of the grammar passes and is read as its list
-  spells-passes : (place : ℕ) {body : Bytes} {list : SegmentList} → Spells c body list → Passes c place body
-  unfolding Passes
-  spells-passes place h = spells-reads c u h place .holds .sound
-
-  spells-read : (place : ℕ) {body : Bytes} {list : SegmentList} → Spells c body list → readList c place body ≡ list
-  unfolding readList listed segments cut
-  spells-read place {body} {list} h =
-      ap listed (sym (append-nil (tokens c place body))) ∙ spells-reads c u h place .holds .hold [] ∙ append-nil list
-
   -- ---- reading what was spelled
 
-  pub spelling-passes : (place : ℕ) (list : SegmentList) → Shaped list → Releasable c list → Passes c place (spell c list)
-  spelling-passes place list s r = spells-passes place (spells-list c list s r)
+  module _ (place : ℕ) (list : SegmentList) (s : Shaped list) (r : Releasable c list) where
+    -- the tokens of the spelling are those of the list, with their places
+    spelling-lexed : (ts : List Token) × Lexed c place (spell c list) ts × (map placeless ts ≡ map placeless (tokensOf list))
+    spelling-lexed =
+        rw (← spelled-tokens c list s)
+        (spelled-lexed c u place (tokensOf list) (all-tokens c list ∙ releasable-exactly c list .0 r))
 
-  pub read-spelling : (place : ℕ) (list : SegmentList) → Shaped list → Releasable c list → readList c place (spell c list) ≡ list
-  read-spelling place list s r = spells-read place (spells-list c list s r)
+    pub spelling-passes : Passes c place (spell c list)
+    unfolding Passes Sound
+    spelling-passes =
+        let l = spelling-lexed in
+        rw (lexed-alone c (l .1)) (
+          said-faultless c (l .0) (lexed-said c (l .1)),
+          sym (inside-placeless (l .0)) ∙ ap endsInside (l .2) ∙ inside-placeless (tokensOf list) ∙ tokens-ended list s,
+        )
+
+    pub read-spelling : readList c place (spell c list) ≡ list
+    unfolding readList
+    read-spelling =
+        let l = spelling-lexed in
+        ap listed (lexed-alone c (l .1))
+        ∙ sym (listed-placeless (l .0))
+        ∙ ap listed (l .2)
+        ∙ listed-placeless (tokensOf list)
+        ∙ listed-tokens list s
 
   -- ---- spelling what was read
 
-  -- a body that passes is one of the grammar, with the list that it is read as
-  passes-reads : (place : ℕ) (body : Bytes) → Passes c place body → Spells c body (readList c place body)
-  passes-reads place body h =
-      let p = passes-spells c place body h in subst (Spells c body) (sym (spells-read place (p .1))) (p .1)
+  module _ (place : ℕ) (body : Bytes) (h : Passes c place body) where
+    pub read-tokens : Lexed c place body (tokens c place body)
+    unfolding Passes Sound
+    read-tokens = read-lexed c u place body (h .0)
 
-  pub spell-read : (place : ℕ) (body : Bytes) → Passes c place body → spell c (readList c place body) ≡ body
-  spell-read place body h = spells-spell c (passes-reads place body h)
+    -- its tokens are those of the list that it is read as
+    read-listed : tokensOf (readList c place body) ≡ map placeless (tokens c place body)
+    unfolding Passes Sound readList
+    read-listed = tokens-listed c (tokens c place body) (lexed-said c read-tokens) (h .1)
 
-  pub read-shaped : (place : ℕ) (body : Bytes) → Passes c place body → Shaped (readList c place body)
-  read-shaped place body h = spells-shaped c (passes-reads place body h)
+    pub read-shaped : Shaped (readList c place body)
+    unfolding readList
+    read-shaped = listed-shaped (tokens c place body)
 
-  pub read-releasable : (place : ℕ) (body : Bytes) → Passes c place body → Releasable c (readList c place body)
-  read-releasable place body h = spells-releasable c (passes-reads place body h)
+    pub spell-read : spell c (readList c place body) ≡ body
+    spell-read =
+        sym (spelled-tokens c (readList c place body) read-shaped)
+        ∙ ap (gather (spellToken c)) read-listed
+        ∙ spelled-placeless c (tokens c place body)
+        ∙ lexed-spelled c read-tokens
+
+    pub read-releasable : Releasable c (readList c place body)
+    read-releasable =
+        releasable-exactly c (readList c place body) .1
+        (sym (all-tokens c (readList c place body))
+        ∙ ap (all (sayable c)) read-listed
+        ∙ said-placeless c (tokens c place body)
+        ∙ lexed-said c read-tokens)
+
+    -- the end of one body and the beginning of the next
+    pub tokens-append : (more : Bytes) → tokens c place (body ++ more) ≡ tokens c place body ++ tokens c (place + length body) more
+    tokens-append more = lexed-tokens c read-tokens more
 
   -- ---- "The body passes refusals 4 and 5 exactly when some list of segments is spelled by it .. there is then only one such list."
 
@@ -76,21 +117,3 @@ module _ (c : Characters) (u : usable c ≡ true) where
       only-one (spell c b)
       (record { list = a; shaped = s; releasable = r; spelled = e })
       (record { list = b; shaped = s′; releasable = r′; spelled = refl })
-
-  -- ---- where a body stands does not matter: whether it passes, and (`read-anywhere`, of any body) what it is read as
-
-  pub passes-anywhere : (p q : ℕ) (body : Bytes) → Passes c p body → Passes c q body
-  passes-anywhere p q body h = spells-passes q (passes-reads p body h)
-
-  -- ---- the end of one body and the beginning of the next
-
-  pub tokens-append : (place : ℕ) (body more : Bytes) → Passes c place body
-      → tokens c place (body ++ more) ≡ tokens c place body ++ tokens c (place + length body) more
-  tokens-append place body more h = spells-reads c u (passes-reads place body h) place .alone more
-
-  pub read-append : (place : ℕ) (body more : Bytes) → Passes c place body
-      → readList c place (body ++ more) ≡ readList c place body ++ readList c (place + length body) more
-  unfolding readList
-  read-append place body more h =
-      let r = spells-reads c u (passes-reads place body h) place in
-      ap listed (r .alone more) ∙ r .holds .hold (tokens c (place + length body) more)

@@ -1,5 +1,4 @@
 pub mod Service
+pub mod Tokens
 pub mod Listing
-pub mod Grammar
-pub mod Parsing
 pub mod Laws

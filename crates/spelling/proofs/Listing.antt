@@ -1,114 +1,176 @@
--- The list of segments that tokens hold: what one token more in front adds to it, and that places do not matter. Assumes nothing.
-use Prim.Native.Nat.{ℕ, _+_}
-use mathlib.Core.Path.{_≡_, refl, sym, ap, _∙_}
-use mathlib.Core.Bool.{Bool, true, false}
-use mathlib.Core.List.{List, [], _∷_, _++_, map, map-map}
-use mathlib.Core.Option.{Option, none, some}
-use Rattle.lists.specs.Lists.{onto, cut, gather}
+-- The list of segments that tokens hold, and the tokens of such a list: each from the other, by the laws of any depth. Assumes nothing.
+use Prim.Native.Nat.{ℕ, suc, _-_, _≤_}
+use mathlib.Core.Path.{_≡_, refl, sym, ap, fun-ext, _∙_}
+use mathlib.Core.Bool.{Bool, true, false, not, _&&_, false≢true}
+use mathlib.Core.List.{List, [], _∷_, _++_, map}
+use native.Mathlib.Omega.{arith}
+use lib.Dec.{leb}
+use borrow.Author.Tests.{le-leb, leb-true, not-false}
+use Rattle.lists.specs.Lists.{isEmpty, all, lastOr, cut, gather}
+use Rattle.lists.proofs.Texts.{and-left, and-right}
+use Rattle.lists.proofs.Pieces.{None}
+use Rattle.nesting.specs.Nesting.{every, nested, written}
+use Rattle.nesting_laws.proofs.Ranks.{depth-less, depth-exact}
+use Rattle.nesting_laws.proofs.Reading.{push, nested-mapped, nested-next, nested-all}
+use Rattle.nesting_laws.proofs.Writing.{withEnd, Writes, inFront, atLast, Row, nothing, ending, next, written-ended, all-written, read-written, written-nested, spelled-written}
 use Rattle.characters.specs.declared.Characters.{Characters}
-use Rattle.characters.specs.declared.Role.{Role}
-use Rattle.characters.specs.declared.Role.the-variants.{Separator, Release, Plain}
-use Rattle.characters.specs.Characters.{role}
-use Rattle.reading.specs.Tokens.{Token, byte, separator, fault, ends, segments, unreleased, releasing, taken, tokensFrom, tokens}
-use Rattle.reading.specs.Values.{byteOf, bytesOf, valueOf, valuesOf, elementsOf}
-use Rattle.reading.specs.Spelling.{Bytes, SegmentList}
-use Rattle.spelling.specs.Bodies.{wordsOf, listed, readList}
+use Rattle.reading.specs.Tokens.{Token, byte, separator, fault, ends, Segment, segments}
+use Rattle.reading.specs.Values.{byteOf, bytesOf, valueOf, valuesOf, elementsOf, endedBy, endsInside}
+use Rattle.reading.specs.Spelling.{Bytes, SegmentList, spellValue, spellElement, spellSegment, spellByte, spell}
+use Rattle.reading.proofs.Ends.{ends-more}
+use Rattle.spelling.specs.Bodies.{endsPart, separatorOf, wordsOf, listed, shapedSegment, Shaped}
+use Rattle.spelling.proofs.Tokens.{placeless, spellable, spellToken, sayable}
 
--- ---- one token more
+-- ---- the list that tokens hold
 
--- f done to the first, or to an empty one put in front: where what is added ends its piece, or where there is none
-abbrev pub pushed : {B : Type 0} → Bool → (List B → List B) → List (List B) → List (List B)
-pushed true f xs = f [] ∷ xs
-pushed false f [] = f [] ∷ []
-pushed false f (x ∷ xs) = f x ∷ xs
+pub listed-nested : (ts : List Token) → listed ts ≡ nested endsPart bytesOf 3 ts
+unfolding listed segments wordsOf elementsOf valuesOf valueOf
+listed-nested ts =
+    ap (λ (f : Segment → List (List Bytes)). map f (cut (ends 0) ts)) (fun-ext (nested-mapped endsPart valueOf (λ v. v .bytes) 2))
 
-module _ {A B : Type 0} (t : A → Bool) (f : List B → List B) (x : A) (xs : List A) where
-  -- the pieces as g makes them, where one more in front of a piece is f done to what g makes of it
-  pub cut-pushed : (g : List A → List B) → g [] ≡ [] → ((piece : List A) → g (x ∷ piece) ≡ f (g piece))
-      → map g (cut t (x ∷ xs)) ≡ pushed (t x) f (map g (cut t xs))
-  unfolding cut onto
-  cut-pushed g e h = step (t x) (cut t xs)
-    where
-      alone : g (x ∷ []) ≡ f []
-      alone = h [] ∙ ap f e
+-- it has the shape of one
+pub listed-shaped : (ts : List Token) → Shaped (listed ts)
+unfolding Shaped shapedSegment
+listed-shaped ts = rw (listed-nested ts) (nested-all endsPart bytesOf 2 ts)
 
-      step : (b : Bool) (pieces : List (List A)) → map g (onto b x pieces) ≡ pushed b f (map g pieces)
-      step true pieces = ap (λ (y : List B). y ∷ map g pieces) alone
-      step false [] = ap (λ (y : List B). y ∷ []) alone
-      step false (piece ∷ pieces) = ap (λ (y : List B). y ∷ map g pieces) (h piece)
+-- what a token adds to the list that goes on after it
+abbrev pub pushToken : Token → SegmentList → SegmentList
+pushToken t list = push endsPart [] (λ t value. byteOf t ++ value) 3 t list
 
-  -- the same where two maps make them
-  cut-pushed-twice : {C : Type 0} (k : C → List B) (g : List A → C) → k (g []) ≡ []
-      → ((piece : List A) → k (g (x ∷ piece)) ≡ f (k (g piece)))
-      → map k (map g (cut t (x ∷ xs))) ≡ pushed (t x) f (map k (map g (cut t xs)))
-  cut-pushed-twice k g e h =
-      map-map k g (cut t (x ∷ xs))
-      ∙ cut-pushed (λ piece. k (g piece)) e h
-      ∙ ap (pushed (t x) f) (sym (map-map k g (cut t xs)))
+pub listed-next : (t : Token) (ts : List Token) → listed (t ∷ ts) ≡ pushToken t (listed ts)
+unfolding bytesOf gather
+listed-next t ts =
+    listed-nested (t ∷ ts)
+    ∙ nested-next endsPart [] (λ t value. byteOf t ++ value) bytesOf refl (λ t ts. refl) 3 t ts
+    ∙ ap (pushToken t) (sym (listed-nested ts))
 
-module _ (t : Token) where
-  -- what a token adds to the value, the element, the segment and the list that go on behind it
-  abbrev toValue : Bytes → Bytes
-  toValue value = byteOf t ++ value
+-- places do not matter
+pub listed-placeless : (ts : List Token) → listed (map placeless ts) ≡ listed ts
+unfolding placeless ends byteOf
+listed-placeless [] = refl
+listed-placeless (t ∷ ts) =
+    listed-next (placeless t) (map placeless ts) ∙ alike t (listed (map placeless ts)) ∙ ap (pushToken t) (listed-placeless ts)
+    ∙ sym (listed-next t ts)
+  where
+    alike : (t : Token) (list : SegmentList) → pushToken (placeless t) list ≡ pushToken t list
+    alike (byte b from place) list = refl
+    alike (separator rank place) list = refl
+    alike (fault place) list = refl
 
-  abbrev toElement : List Bytes → List Bytes
-  toElement element = pushed (ends 2 t) toValue element
+-- ---- the tokens of a list
 
-  abbrev toSegment : List (List Bytes) → List (List Bytes)
-  toSegment segment = pushed (ends 1 t) toElement segment
+-- a value's byte, and what ends a part of a depth
+abbrev frontOf : Bytes → List Token
+frontOf value = map (λ b. byte b 0 0) value
 
-  unfoldable pub push : SegmentList → SegmentList
-  push list = pushed (ends 0 t) toSegment list
+abbrev endOf : ℕ → Bytes → Token
+endOf depth value = separator (2 - depth) 0
 
-  -- one token more in front, in an element, in a segment and in all
-  values-next : (ts : List Token) → map (λ v. v .bytes) (valuesOf (t ∷ ts)) ≡ toElement (map (λ v. v .bytes) (valuesOf ts))
-  unfolding valuesOf valueOf bytesOf gather
-  values-next ts = cut-pushed-twice (ends 2) toValue t ts (λ v. v .bytes) valueOf refl (λ piece. refl)
+abbrev pub tokensOf : SegmentList → List Token
+tokensOf list = written (withEnd frontOf endOf) 3 2 list
 
-  words-next : (ts : List Token) → wordsOf (t ∷ ts) ≡ toSegment (wordsOf ts)
-  unfolding wordsOf elementsOf valuesOf cut
-  words-next ts = cut-pushed-twice (ends 1) toElement t ts (map (λ v. v .bytes)) valuesOf refl values-next
+less : (n : ℕ) (t : Token) → endsPart (suc n) t ≡ true → endsPart n t ≡ true
+less = depth-less 2 ends ends-more
 
-  pub listed-next : (ts : List Token) → listed (t ∷ ts) ≡ push (listed ts)
-  unfolding listed segments push wordsOf elementsOf cut
-  listed-next ts = cut-pushed (ends 0) toSegment t ts wordsOf refl words-next
+quiet : (value : Bytes) → None (endsPart 0) (frontOf value)
+unfolding all ends
+quiet [] = refl
+quiet (b ∷ bs) = quiet bs
 
--- ---- places do not matter
+exact : (n end : ℕ) (value : Bytes) → end ≤ 2 → endsPart n (endOf end value) ≡ leb n end
+unfolding ends
+exact n end value k = depth-exact 2 ends end k (endOf end value) (λ rank. refl) n
 
--- a release character may stand directly before, at a place
-abbrev held : Bool → ℕ → Option ℕ
-held true from = some from
-held false from = none
+-- they hold the list
+pub listed-tokens : (list : SegmentList) → Shaped list → listed (tokensOf list) ≡ list
+unfolding Shaped shapedSegment bytesOf byteOf gather
+listed-tokens list s = listed-nested (tokensOf list) ∙ read-written endsPart frontOf endOf 2 less quiet exact bytesOf back list s
+  where
+    back : (end : ℕ) (value : Bytes) → bytesOf (withEnd frontOf endOf end value) ≡ value
+    back end [] = refl
+    back end (b ∷ bs) = ap (λ (v : Bytes). b ∷ v) (back end bs)
 
--- two tokens that add the same, in front of tokens that hold the same
-same-next : (t u : Token) (ts us : List Token) → ((list : SegmentList) → push t list ≡ push u list) → listed ts ≡ listed us
-    → listed (t ∷ ts) ≡ listed (u ∷ us)
-same-next t u ts us h e = listed-next t ts ∙ ap (push t) e ∙ h (listed us) ∙ sym (listed-next u us)
+-- they end no segment too few
+pub tokens-ended : (list : SegmentList) → Shaped list → endsInside (tokensOf list) ≡ false
+unfolding Shaped shapedSegment isEmpty endsInside endedBy ends lastOr
+tokens-ended [] s = refl
+tokens-ended (g ∷ list) s =
+    let e = written-ended endsPart frontOf endOf 2 less quiet exact 3 2 (omega arith) (g ∷ list) s in
+    ap endsInside (e .parts) ∙ last (e .before)
+  where
+    behind : (t : Token) (ts : List Token) → lastOr t (ts ++ separator 0 0 ∷ []) ≡ separator 0 0
+    behind t [] = refl
+    behind t (u ∷ us) = behind u us
+
+    last : (ts : List Token) → endsInside (ts ++ separator 0 0 ∷ []) ≡ false
+    last [] = refl
+    last (t ∷ ts) = ap (λ (u : Token). not (ends 0 u)) (behind t ts)
+
+-- every byte of theirs is one of the list
+pub all-tokens : (c : Characters) (list : SegmentList) → all (sayable c) (tokensOf list) ≡ every (all (spellable c)) 3 list
+unfolding all sayable
+all-tokens c list = all-written endsPart frontOf endOf 2 less quiet exact (sayable c) (all (spellable c)) one 3 2 list
+  where
+    one : (end : ℕ) (value : Bytes) → all (sayable c) (withEnd frontOf endOf end value) ≡ all (spellable c) value
+    one end [] = ap (λ (t : Bool). t && true) (le-leb (2 - end) 2 (omega arith))
+    one end (b ∷ bs) = ap (λ (t : Bool). spellable c b && t) (one end bs)
+
+-- spelled one by one, they spell the list
+pub spelled-tokens : (c : Characters) (list : SegmentList) → Shaped list → gather (spellToken c) (tokensOf list) ≡ spell c list
+unfolding Shaped shapedSegment spell spellSegment spellElement spellValue spellToken gather
+spelled-tokens c list s =
+    spelled-written endsPart frontOf endOf 2 less quiet exact (spellToken c) (separatorOf c) (spellValue c) fronts marks list s
+  where
+    fronts : (value : Bytes) → gather (spellToken c) (frontOf value) ≡ spellValue c value
+    fronts [] = refl
+    fronts (b ∷ bs) = ap (λ (v : Bytes). spellByte c b ++ v) (fronts bs)
+
+    marks : (end : ℕ) (value : Bytes) → end ≤ 2 → spellToken c (endOf end value) ≡ separatorOf c end ∷ []
+    marks end value k = let same : 2 - (2 - end) ≡ end = omega arith in ap (λ (depth : ℕ). separatorOf c depth ∷ []) same
+
+-- ---- the tokens of the list that tokens hold
+
+-- without its place a token ends what it ended
+ends-placeless : (rank : ℕ) (t : Token) → ends rank (placeless t) ≡ ends rank t
+unfolding placeless ends
+ends-placeless rank (byte b from place) = refl
+ends-placeless rank (separator r place) = refl
+ends-placeless rank (fault place) = refl
+
+-- tokens that end inside no segment
+pub inside-placeless : (ts : List Token) → endsInside (map placeless ts) ≡ endsInside ts
+unfolding endsInside endedBy isEmpty lastOr
+inside-placeless [] = refl
+inside-placeless (t ∷ ts) = ap not (last t ts ∙ ends-placeless 0 (lastOr t ts))
+  where
+    last : (t : Token) (ts : List Token) → ends 0 (lastOr (placeless t) (map placeless ts)) ≡ ends 0 (placeless (lastOr t ts))
+    last t [] = refl
+    last t (u ∷ us) = last u us
 
 module _ (c : Characters) where
-  -- wherever the bytes and the release character before them stand, their tokens hold the same
-  listed-anywhere : (h : Bool) (from from′ p q : ℕ) (body : Bytes)
-      → listed (tokensFrom c (held h from) p body) ≡ listed (tokensFrom c (held h from′) q body)
-  unfolding tokensFrom unreleased releasing taken push ends byteOf
-  listed-anywhere true from from′ p q [] = same-next (fault from) (fault from′) [] [] (λ list. refl) refl
-  listed-anywhere false from from′ p q [] = refl
-  listed-anywhere true from from′ p q (b ∷ bs) = step (role c b) (listed-anywhere false from from′ (p + 1) (q + 1) bs)
-    where
-      step : (o : Role) → listed (tokensFrom c none (p + 1) bs) ≡ listed (tokensFrom c none (q + 1) bs)
-          → listed (taken o b from p (tokensFrom c none (p + 1) bs)) ≡ listed (taken o b from′ q (tokensFrom c none (q + 1) bs))
-      step (Separator kind) ih = same-next (byte b from p) (byte b from′ q) _ _ (λ list. refl) ih
-      step Release ih = same-next (byte b from p) (byte b from′ q) _ _ (λ list. refl) ih
-      step Plain ih = same-next (fault from) (fault from′) _ _ (λ list. refl) ih
-  listed-anywhere false from from′ p q (b ∷ bs) = step (role c b) (λ h. listed-anywhere h p q (p + 1) (q + 1) bs)
-    where
-      step : (o : Role)
-          → ((h : Bool) → listed (tokensFrom c (held h p) (p + 1) bs) ≡ listed (tokensFrom c (held h q) (q + 1) bs))
-          → listed (unreleased o b p (tokensFrom c (releasing o p) (p + 1) bs))
-          ≡ listed (unreleased o b q (tokensFrom c (releasing o q) (q + 1) bs))
-      step (Separator kind) ih = same-next (separator kind p) (separator kind q) _ _ (λ list. refl) (ih false)
-      step Release ih = ih true
-      step Plain ih = same-next (byte b p p) (byte b q q) _ _ (λ list. refl) (ih false)
+  abbrev add : Token → Bytes → Bytes
+  add t value = byteOf t ++ value
 
-  pub read-anywhere : (p q : ℕ) (body : Bytes) → readList c p body ≡ readList c q body
-  unfolding readList tokens
-  read-anywhere p q body = listed-anywhere false 0 0 p q body
+  writes : (t : Token) → sayable c t ≡ true → Writes endsPart frontOf endOf 2 less quiet exact [] add (placeless t)
+  unfolding sayable placeless ends byteOf
+  writes (byte b from place) h = inFront refl (λ v. refl) (λ end v. refl)
+  writes (separator rank place) h =
+      let low : rank ≤ 2 = leb-true rank 2 h in
+      let same : 2 - (2 - rank) ≡ rank = omega arith in
+      atLast (2 - rank) (omega arith) refl (ap (λ (r : ℕ). separator r 0) same)
+  writes (fault place) h = absurd (false≢true h)
+
+  row : (ts : List Token) → all (sayable c) ts ≡ true → endsInside ts ≡ false
+      → Row endsPart frontOf endOf 2 less quiet exact [] add (map placeless ts)
+  unfolding all endsInside endedBy lastOr isEmpty
+  row [] h e = nothing
+  row (t ∷ []) h e = ending (writes t (and-left (sayable c t) true h)) (ends-placeless 0 t ∙ not-false (ends 0 t) e)
+  row (t ∷ u ∷ us) h e =
+      next (writes t (and-left (sayable c t) (all (sayable c) (u ∷ us)) h)) (row (u ∷ us) (and-right (sayable c t) (all (sayable c) (u ∷ us)) h) e)
+
+  -- tokens that are spelled and end inside no segment are those of the list that they hold
+  pub tokens-listed : (ts : List Token) → all (sayable c) ts ≡ true → endsInside ts ≡ false → tokensOf (listed ts) ≡ map placeless ts
+  unfolding bytesOf gather
+  tokens-listed ts h e =
+      ap tokensOf (sym (listed-placeless ts) ∙ listed-nested (map placeless ts))
+      ∙ written-nested endsPart frontOf endOf 2 less quiet exact [] add bytesOf refl (λ t ts. refl) (row ts h e)

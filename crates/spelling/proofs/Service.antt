@@ -1,28 +1,28 @@
 -- What usable service characters are to one another, and which byte plays which part. Assumes nothing.
-use Prim.Native.Nat.{ℕ}
+use Prim.Native.Nat.{ℕ, zero, suc, _-_, _≤_}
 use mathlib.Core.Path.{_≡_, refl, sym, ap, _∙_}
 use mathlib.Core.Bool.{Bool, true, false, not, _&&_, _||_}
 use mathlib.Core.List.{List, [], _∷_, _++_}
 use lib.Dec.{eqb}
+use native.Mathlib.Omega.{arith}
 use borrow.Author.Tests.{eqb-true, eqb-false, eq-eqb, ne-eqb, not-true}
 use Rattle.lists.specs.Lists.{if_then_else_, text, member, allDiffer, all}
 use Rattle.lists.proofs.Texts.{and-left, and-right, or-none-left, or-none-right}
 use Rattle.characters.specs.declared.Characters.{Characters}
 use Rattle.characters.specs.declared.Role.{Role}
 use Rattle.characters.specs.declared.Role.the-variants.{Separator, Release, Plain}
-use Rattle.characters.specs.Characters.{space, separates, released, serviceCharacters, isService, usable, role}
+use Rattle.characters.specs.Characters.{space, separates as parts, released, serviceCharacters, isService, usable, role}
+use Rattle.spelling.specs.Bodies.{separatorOf}
 
 -- a byte that plays this part is a service character
 abbrev pub serves : Role → Bool
-serves (Separator kind) = true
+serves (Separator rank) = true
 serves Release = true
 serves Plain = false
 
 -- which byte plays a part
 pub data Part (c : Characters) (b : ℕ) : Role → Type 0 where
-  terminates : b ≡ c .terminator → Part c b (Separator 0)
-  endsElement : b ≡ c .element → Part c b (Separator 1)
-  endsComponent : b ≡ c .component → Part c b (Separator 2)
+  separates : (rank : ℕ) → rank ≤ 2 → b ≡ separatorOf c (2 - rank) → Part c b (Separator rank)
   releases : b ≡ c .release → released c ≡ true → Part c b Release
   plain : Part c b Plain
 
@@ -37,9 +37,9 @@ module _ (c : Characters) (b : ℕ) where
       step : (t : Bool) → eqb b (c .terminator) ≡ t → (e : Bool) → eqb b (c .element) ≡ e → (k : Bool) → eqb b (c .component) ≡ k
           → (r : Bool) → released c ≡ r → (f : Bool) → eqb b (c .release) ≡ f
           → Part c b (if t then Separator 0 else if e then Separator 1 else if k then Separator 2 else if r && f then Release else Plain)
-      step true h e he k hk r hr f hf = terminates (eqb-true b (c .terminator) h)
-      step false h true he k hk r hr f hf = endsElement (eqb-true b (c .element) he)
-      step false h false he true hk r hr f hf = endsComponent (eqb-true b (c .component) hk)
+      step true h e he k hk r hr f hf = separates 0 (omega arith) (eqb-true b (c .terminator) h)
+      step false h true he k hk r hr f hf = separates 1 (omega arith) (eqb-true b (c .element) he)
+      step false h false he true hk r hr f hf = separates 2 (omega arith) (eqb-true b (c .component) hk)
       step false h false he false hk true hr true hf = releases (eqb-true b (c .release) hf) hr
       step false h false he false hk true hr false hf = plain
       step false h false he false hk false hr f hf = plain
@@ -89,18 +89,18 @@ module _ (c : Characters) (u : usable c ≡ true) where
   differing r e =
       ap (λ (t : Bool). allDiffer (c .mark ∷ c .component ∷ c .element ∷ c .terminator ∷ (if t then c .release ∷ [] else []))) (sym e)
       ∙ and-right
-      (eqb (c .reserved) space && member (c .mark) (text ".,") && all separates (serviceCharacters c))
+      (eqb (c .reserved) space && member (c .mark) (text ".,") && all parts (serviceCharacters c))
       (allDiffer (c .mark ∷ serviceCharacters c))
       u
 
   abbrev optional : List ℕ
   optional = if released c then c .release ∷ [] else []
 
-  pub role-terminator : role c (c .terminator) ≡ Separator 0
+  role-terminator : role c (c .terminator) ≡ Separator 0
   unfolding role
   role-terminator = rw (eq-eqb (c .terminator) (c .terminator) refl)
 
-  pub role-element : role c (c .element) ≡ Separator 1
+  role-element : role c (c .element) ≡ Separator 1
   unfolding role
   role-element =
       rw (
@@ -109,7 +109,7 @@ module _ (c : Characters) (u : usable c ≡ true) where
         eq-eqb (c .element) (c .element) refl,
       )
 
-  pub role-component : role c (c .component) ≡ Separator 2
+  role-component : role c (c .component) ≡ Separator 2
   unfolding role
   role-component =
       rw (
@@ -119,6 +119,13 @@ module _ (c : Characters) (u : usable c ≡ true) where
             (apart (c .mark ∷ []) (c .component) [] (c .element) (c .terminator ∷ optional) (differing (released c) refl)),
         eq-eqb (c .component) (c .component) refl,
       )
+
+  -- the separator of a rank plays its part
+  pub role-separator : (rank : ℕ) → rank ≤ 2 → role c (separatorOf c (2 - rank)) ≡ Separator rank
+  role-separator zero h = role-terminator
+  role-separator (suc zero) h = role-element
+  role-separator (suc (suc zero)) h = role-component
+  role-separator (suc (suc (suc rank))) h = absurd (omega arith)
 
   pub role-release : released c ≡ true → role c (c .release) ≡ Release
   unfolding role

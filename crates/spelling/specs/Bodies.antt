@@ -1,15 +1,30 @@
 -- Paper 01, "From bytes to values": what a body reads as, when it passes refusals 4 and 5, and which lists can be spelled.
 -- Assumes nothing.
-use Prim.Native.Nat.{ℕ}
+use Prim.Native.Nat.{ℕ, zero, suc}
 use mathlib.Core.Path.{_≡_}
-use mathlib.Core.Bool.{Bool, true, false, not, _&&_}
+use mathlib.Core.Bool.{Bool, true, false, not}
 use mathlib.Core.List.{List, map}
-use Rattle.lists.specs.Lists.{isEmpty, all}
+use Rattle.lists.specs.Lists.{all}
+use Rattle.nesting.specs.Nesting.{shaped, every, byDepth}
 use Rattle.characters.specs.declared.Characters.{Characters}
 use Rattle.characters.specs.Characters.{released, isService}
-use Rattle.reading.specs.Tokens.{Token, Segment, segments, tokens}
+use Rattle.reading.specs.Tokens.{Token, Segment, ends, segments, tokens}
 use Rattle.reading.specs.Values.{elementsOf, isFault, endsInside}
 use Rattle.reading.specs.Spelling.{Bytes, SegmentList, spell}
+
+-- ---- by depth: a value is of depth 0, an element of depth 1, a segment of depth 2
+
+-- the token ends a part of this depth
+abbrev pub endsPart : ℕ → Token → Bool
+endsPart depth t = byDepth 2 ends depth t
+
+-- the character that ends a part of this depth
+abbrev pub separatorOf : Characters → ℕ → ℕ
+separatorOf c zero = c .component
+separatorOf c (suc zero) = c .element
+separatorOf c (suc (suc depth)) = c .terminator
+
+-- ---- lists of segments
 
 -- the values of a segment as they stand, untrimmed and without places
 unfoldable pub wordsOf : Segment → List (List Bytes)
@@ -33,14 +48,14 @@ Passes c place body = Sound (tokens c place body)
 
 -- "A segment is one or more elements, an element one or more values"
 unfoldable pub shapedSegment : List (List Bytes) → Bool
-shapedSegment segment = not (isEmpty segment) && all (λ element. not (isEmpty element)) segment
+shapedSegment segment = shaped Bytes 2 segment
 
 unfoldable pub Shaped : SegmentList → Type 0
 Shaped list = all shapedSegment list ≡ true
 
 -- where there is no release character, no value of the list holds a service character
 unfoldable pub Releasable : Characters → SegmentList → Type 0
-Releasable c list = released c ≡ false → all (all (all (all (λ b. not (isService c b))))) list ≡ true
+Releasable c list = released c ≡ false → every (all (λ b. not (isService c b))) 3 list ≡ true
 
 -- "some list of segments is spelled by it, each service character inside a value being released and nothing else"
 pub record Spelled (c : Characters) (body : Bytes) : Type 0 where

@@ -4,6 +4,5 @@ pub mod Numbers
 pub mod Positions
 pub mod Places
 pub mod Respelled
-pub mod Splits
 pub mod Placed
 pub mod Theorems

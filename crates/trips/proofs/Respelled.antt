@@ -1,31 +1,33 @@
 -- The contents of an accepted input, spelled with other usable service characters, are accepted: what is read is the list that the
 -- normal form is read as, and the stages from 3 on ask only of that. Assumes nothing.
-use Prim.Native.Nat.{ℕ, _≤_}
+use Prim.Native.Nat.{ℕ, zero, suc, _-_, _≤_}
 use mathlib.Core.Path.{_≡_, refl, sym, ap, ap₂, subst, _∙_}
 use mathlib.Core.Bool.{Bool, true, false, not, _&&_, _||_, false≢true, true≢false}
-use mathlib.Core.List.{List, [], _∷_, _++_, append-assoc}
+use mathlib.Core.List.{List, [], _∷_, _++_}
 use mathlib.Core.Option.{none}
 use lib.ListN.{length}
 use lib.Dec.{eqb, ltb}
 use borrow.Author.Tests.{le-ltb, eqb-true, eq-eqb, ne-eqb, not-true}
-use Rattle.lists.specs.Lists.{if_then_else_, text, begins, member, all, allDiffer, at, gather, joined, behind}
+use Rattle.lists.specs.Lists.{if_then_else_, text, begins, member, all, allDiffer, at, gather}
 use Rattle.lists.proofs.Texts.{and-left, and-right, and-both, if-false}
 use Rattle.characters.specs.declared.Characters.{Characters}
 use Rattle.characters.specs.Characters.{between, upper, lower, digit, space, separates, released, serviceCharacters, isService, usable, sixBytes, adviceOf, spelledOut, bodyStart, badAdvice, opens}
+use Rattle.reading.specs.Tokens.{Token, byte, separator, fault}
 use Rattle.reading.specs.Spelling.{Bytes, SegmentList, spellByte, spellValue, spellElement, spellSegment, spell}
 use Rattle.control.specs.Control.{referenceDiffers, countWrong}
 use Rattle.verdict.specs.Contents.{bodyTokens, segmentsOf, contents, normalCharacters, interchange, normalForm}
 use Rattle.verdict.specs.Places.{isOver, tooLong, unusableAdvice, noOpening, brokenTags, level, badControls, differingReferences, wrongCounts, normalTooLong, badControl}
 use Rattle.verdict.specs.Stages.{refusalOf}
 use Rattle.operations.specs.ValueList.{trimList}
-use Rattle.spelling.specs.Bodies.{listed, readList, Passes, Releasable}
-use Rattle.spelling.proofs.Grammar.{Spells, nothing, segmentEnd, elementEnd, componentEnd, valueByte, spells-list}
+use Rattle.spelling.specs.Bodies.{separatorOf, listed, readList, Passes, Releasable}
+use Rattle.spelling.proofs.Tokens.{spellToken}
+use Rattle.spelling.proofs.Listing.{tokensOf, spelled-tokens}
 use Rattle.forms.specs.Forms.{markOf, formCharacters, BodyPasses, listOf}
 use Rattle.refusals.proofs.Stages.{place-none, place-none-not}
 use Rattle.forms.proofs.Trimmed.{contents-read, contents-trimmed}
 use Rattle.forms.proofs.Openings.{advice-characters, advice-body, advice-good, interchange-passes, interchange-read, interchange-contents}
 use Rattle.forms.proofs.Accepted.{Accepted, accepted-exactly, passes-accepted}
-use Rattle.forms.proofs.Normal.{contents-shaped, normal-releasable, normal-read, normal-passes}
+use Rattle.forms.proofs.Normal.{contents-shaped, normal-read, normal-passes}
 use Rattle.forms.proofs.Tags.{tags-words, all-finished}
 use Rattle.forms.proofs.Alike.{Alike, controls-by-contents, references-by-contents, counts-by-contents}
 use Rattle.forms.proofs.LevelBytes.{level-bytes}
@@ -63,12 +65,6 @@ module _ (mark : ℕ) (c : Characters) (u : usable c ≡ true) where
   unfolding all
   plain x w k = not-true (separates x) (and-left (not (separates x)) (all (λ x. not (separates x)) w) k)
 
-  -- a value's byte in front of what spells the rest of its value
-  spell-byte : (b : ℕ) (v : Bytes) (e : List Bytes) (s : List (List Bytes)) (list : SegmentList)
-      → spell c ((((b ∷ v) ∷ e) ∷ s) ∷ list) ≡ spellByte c b ++ spell c (((v ∷ e) ∷ s) ∷ list)
-  unfolding spell spellSegment spellElement spellValue gather joined behind
-  spell-byte b v e s list = simp append-assoc
-
   -- what begins with a byte that does not release begins with a value's byte that is no service character
   first-byte : (x b : ℕ) (w rest : Bytes) → eqb x 63 ≡ false → begins (x ∷ w) (spellByte (normalCharacters mark) b ++ rest) ≡ true
       → (isService (normalCharacters mark) b ≡ false) × (x ≡ b) × (begins w rest ≡ true)
@@ -80,30 +76,46 @@ module _ (mark : ℕ) (c : Characters) (u : usable c ≡ true) where
       step true e h = absurd (begins-not x 63 w (b ∷ rest) n h)
       step false e h = (e, eqb-true x b (and-left (eqb x b) (begins w rest) h), and-right (eqb x b) (begins w rest) h)
 
-  -- what begins a normal form's body, a word that separates nothing and the element separator, begins every spelling of the list
-  same-opening : (w : Bytes) → all (λ x. not (separates x)) w ≡ true → {text : Bytes} {list : SegmentList}
-      → Spells (normalCharacters mark) text list → begins (w ++ 43 ∷ []) text ≡ true → begins (w ++ c .element ∷ []) (spell c list) ≡ true
-  unfolding all begins normalCharacters sixBytes spell spellSegment spellElement spellValue spellByte gather joined behind isService serviceCharacters member separates between upper lower digit
-  same-opening [] k nothing h = absurd (false≢true h)
-  same-opening [] k (segmentEnd i) h = absurd (false≢true h)
-  same-opening [] k (elementEnd i) h = and-both (eqb (c .element) (c .element)) true (eq-eqb (c .element) (c .element) refl) refl
-  same-opening [] k (componentEnd i) h = absurd (false≢true h)
-  same-opening [] k (valueByte {b} {rest} q i) h =
-      let f = first-byte 43 b [] rest refl h in absurd (true≢false (ap (isService (normalCharacters mark)) (f .1) ∙ f .0))
-  same-opening (x ∷ w) k nothing h = absurd (false≢true h)
-  same-opening (x ∷ w) k (segmentEnd {rest} i) h = absurd (begins-not x 39 (w ++ 43 ∷ []) rest (apart x 39 (plain x w k) refl) h)
-  same-opening (x ∷ w) k (elementEnd {rest} i) h = absurd (begins-not x 43 (w ++ 43 ∷ []) rest (apart x 43 (plain x w k) refl) h)
-  same-opening (x ∷ w) k (componentEnd {rest} i) h = absurd (begins-not x 58 (w ++ 43 ∷ []) rest (apart x 58 (plain x w k) refl) h)
-  same-opening (x ∷ w) k (valueByte {b} {rest} {v} {e} {s} {list} q i) h =
-      let f = first-byte x b (w ++ 43 ∷ []) rest (apart x 63 (plain x w k) refl) h in
-      let more : SegmentList = ((v ∷ e) ∷ s) ∷ list in
+  abbrev normal : Characters
+  normal = normalCharacters mark
+
+  -- the normal form's separators separate, and its element separator stands where c's does
+  normal-separates : (depth : ℕ) → separates (separatorOf normal depth) ≡ true
+  unfolding normalCharacters sixBytes separates between upper lower digit
+  normal-separates zero = refl
+  normal-separates (suc zero) = refl
+  normal-separates (suc (suc depth)) = refl
+
+  same-element : (depth : ℕ) → eqb 43 (separatorOf normal depth) ≡ true → separatorOf c depth ≡ c .element
+  unfolding normalCharacters sixBytes
+  same-element zero h = absurd (false≢true h)
+  same-element (suc zero) h = refl
+  same-element (suc (suc depth)) h = absurd (false≢true h)
+
+  -- what begins a normal form's body, a word that separates nothing and the element separator, begins every spelling of its tokens
+  same-opening : (w : Bytes) → all (λ x. not (separates x)) w ≡ true → (ts : List Token)
+      → begins (w ++ 43 ∷ []) (gather (spellToken normal) ts) ≡ true → begins (w ++ c .element ∷ []) (gather (spellToken c) ts) ≡ true
+  unfolding all begins gather spellToken spellByte normalCharacters sixBytes isService serviceCharacters member separates between upper lower digit
+  same-opening [] k [] h = absurd (false≢true h)
+  same-opening (x ∷ w) k [] h = absurd (false≢true h)
+  same-opening w k (fault place ∷ ts) h = same-opening w k ts h
+  same-opening [] k (separator rank place ∷ ts) h =
+      let e = same-element (2 - rank) (and-left (eqb 43 (separatorOf normal (2 - rank))) true h) in
+      and-both (eqb (c .element) (separatorOf c (2 - rank))) true (eq-eqb (c .element) (separatorOf c (2 - rank)) (sym e)) refl
+  same-opening [] k (byte b from place ∷ ts) h =
+      let f = first-byte 43 b [] (gather (spellToken normal) ts) refl h in absurd (true≢false (ap (isService normal) (f .1) ∙ f .0))
+  same-opening (x ∷ w) k (separator rank place ∷ ts) h =
+      let d : ℕ = separatorOf normal (2 - rank) in
+      absurd (begins-not x d (w ++ 43 ∷ []) (gather (spellToken normal) ts) (apart x d (plain x w k) (normal-separates (2 - rank))) h)
+  same-opening (x ∷ w) k (byte b from place ∷ ts) h =
+      let more : Bytes = gather (spellToken c) ts in
+      let f = first-byte x b (w ++ 43 ∷ []) (gather (spellToken normal) ts) (apart x 63 (plain x w k) refl) h in
       let bare : spellByte c b ≡ b ∷ [] =
       if-false (isService c b) (c .release ∷ b ∷ []) (b ∷ [])
       (no-service c u b (ap separates (sym (f .1)) ∙ plain x w k)) in
-      subst (λ (bs : Bytes). begins (x ∷ (w ++ c .element ∷ [])) bs ≡ true)
-      (sym (spell-byte b v e s list ∙ ap (λ (first : Bytes). first ++ spell c more) bare))
-      (and-both (eqb x b) (begins (w ++ c .element ∷ []) (spell c more)) (eq-eqb x b (f .1))
-      (same-opening w (and-right (not (separates x)) (all (λ x. not (separates x)) w) k) i (f .2)))
+      subst (λ (first : Bytes). begins (x ∷ (w ++ c .element ∷ [])) (first ++ more) ≡ true) (sym bare)
+      (and-both (eqb x b) (begins (w ++ c .element ∷ []) more) (eq-eqb x b (f .1))
+      (same-opening w (and-right (not (separates x)) (all (λ x. not (separates x)) w) k) ts (f .2)))
 
 -- ---- inputs that are read as the same list
 
@@ -156,10 +168,10 @@ module _ (s : List ℕ) (accepted : refusalOf s ≡ none) (c : Characters) (u : 
       let list : SegmentList = contents s in
       let form : Characters = formCharacters s in
       let opened : opens n ≡ true = place-none-not (opens n) (bodyStart n) .0 (nowhere .opening) in
-      rw (advice-characters c (spell c list), advice-body c (spell c list))
-      (same-opening (markOf s) c u (text "UNB") refl
-      (spells-list form list (contents-shaped s accepted) (normal-releasable (markOf s) list))
-      (rw (advice-characters form (spell form list), advice-body form (spell form list)) at opened))
+      let shaped = contents-shaped s accepted in
+      rw (advice-characters c (spell c list), advice-body c (spell c list), ← spelled-tokens c list shaped)
+      (same-opening (markOf s) c u (text "UNB") refl (tokensOf list)
+      (rw (advice-characters form (spell form list), advice-body form (spell form list), ← spelled-tokens form list shaped) at opened))
 
   -- its normal form is as long as that of s: the mark is one byte, and no spelling goes by it
   respelled-normal : length (normalForm t) ≡ length n

@@ -1,6 +1,6 @@
 -- The theorems of this crate. Assumes nothing.
 use Prim.Native.Nat.{ℕ, _≤_}
-use mathlib.Core.Path.{_≡_, refl, sym, ap, _∙_}
+use mathlib.Core.Path.{_≡_, refl, sym, ap, subst, _∙_}
 use mathlib.Core.Bool.{true, true≢false}
 use mathlib.Core.List.{List, [], _∷_, map, map-map}
 use mathlib.Core.Option.{Option, none, some, Option·map, map-eq-none-iff}
@@ -22,14 +22,13 @@ use Rattle.operations.specs.Write.{writtenText, writeRefusal, write}
 use Rattle.operations.proofs.Answered.{judge-by, read-given, read-passes}
 use Rattle.spelling.specs.Bodies.{Releasable}
 use Rattle.trimming.proofs.Nesting.{listOf-listed}
-use Rattle.spelling.proofs.Parsing.{passes-spells}
 use Rattle.forms.proofs.Normal.{accepted-usable, accepted-passes}
 use Rattle.forms.proofs.Theorems.{same-exactly}
 use Rattle.trips.specs.Trips.{listGiven, standingAt, WrittenBack, Rewritable, ReadBack, Named, Placed}
 use Rattle.trips.proofs.Values.{kinds-sound}
 use Rattle.trips.proofs.Written.{write-passed, text-accepted, text-contents, text-characters, text-stored, list-read, list-sound, list-releasable, list-text, six-usable, short-enough, later-none, read-accepted, bytes-stand, table-stands}
-use Rattle.trips.proofs.Positions.{standing-map, every-standing}
-use Rattle.trips.proofs.Places.{named-body}
+use Rattle.trips.proofs.Positions.{standing-map, spotAt, standing-piece}
+use Rattle.trips.proofs.Places.{named-piece}
 use Rattle.trips.proofs.Placed.{standing-placed}
 use Rattle.trips.proofs.Respelled.{respelled-accepted}
 use Rattle.trips.proofs.Numbers.{unrefused}
@@ -189,14 +188,8 @@ module _ (s : List ℕ) (segment element component : ℕ) where
     located-named v e =
         let c : Characters = charactersOf s in
         let u = accepted-usable s h in
-        let read = passes-spells c (bodyStart s) (body s) (accepted-passes s h) in
-        every-standing (Named c s) (map trimmed (segmentsOf s))
-        (named-body c u s (read .0) (read .1) (bodyStart s) refl)
-        segment
-        element
-        component
-        v
-        e
+        let q = standing-piece segment element component (bodyTokens s) v e in
+        subst (Named c s) (q .2) (named-piece c u s (bodyStart s) (body s) (accepted-passes s h) refl (spotAt segment element component) (q .0) (q .1))
 
     -- So Locate's companion hands back the spelling of what Read gives there, and zero bytes where there is nothing.
     pub part-spelled : part s segment element component

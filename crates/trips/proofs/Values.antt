@@ -1,59 +1,38 @@
 -- Value lists: what refusals 15 and 16 ask of a table is what the shape and the service characters ask of the list of segments.
 -- Assumes nothing.
 use Prim.Native.Nat.{ℕ, suc, _+_, _%_, _≤_}
-use mathlib.Core.Path.{_≡_, refl, sym, ap, ap₂, fun-ext, _∙_}
+use mathlib.Core.Path.{_≡_, refl, sym, ap, fun-ext, _∙_}
 use mathlib.Core.Bool.{Bool, true, false, not, _&&_, _||_}
-use mathlib.Core.List.{List, [], _∷_, append-eq-nil-iff}
+use mathlib.Core.List.{List, [], _∷_, _++_, append-eq-nil-iff}
 use mathlib.Core.Logic.{_↔_, ⊎-elim}
 use native.Mathlib.Omega.{arith}
 use lib.ListN.{length, length-append}
 use lib.Dec.{eqb, ltb, leb}
 use borrow.Author.Tests.{ltb-false, le-leb, not-true}
 use Rattle.lists.specs.Lists.{all, any, gather, at, maybe}
-use Rattle.lists.proofs.Texts.{and-both, or-none-left, or-none-right, decided, all-append, all-mapped, all-map}
+use Rattle.lists.proofs.Texts.{and-left, and-right, and-both, or-none-left, or-none-right, decided, all-mapped, all-map}
 use Rattle.characters.specs.declared.Characters.{Characters}
 use Rattle.characters.specs.Characters.{sixBytes, released, isService}
 use Rattle.refusals.specs.Refusals.{placeIf}
 use Rattle.refusals.proofs.Stages.{place-none}
-use Rattle.reading.specs.Spelling.{Bytes, SegmentList, spellByte}
-use Rattle.operations.specs.ValueList.{Item, listElement, listSegment, listOf, Entry, entries, valueIn, listedIn, segmentsListed}
+use Rattle.nesting.specs.Nesting.{every, spelled}
+use Rattle.nesting_laws.proofs.Flat.{all-flat, flat-bound}
+use Rattle.reading.specs.Spelling.{Bytes, SegmentList, spellValue, spellElement, spellSegment, spell}
+use Rattle.operations.specs.ValueList.{Item, listSegment, listOf, Entry, entries, valueIn, listedIn, segmentsListed}
 use Rattle.operations.specs.Write.{numbersWhere, badTable, badEntry, badList, lacksRelease, needsRelease}
-use Rattle.spelling.specs.Bodies.{Releasable}
-use Rattle.spelling.proofs.Grammar.{Spells, nothing, segmentEnd, elementEnd, componentEnd, valueByte}
+use Rattle.spelling.specs.Bodies.{separatorOf, shapedSegment, Shaped, Releasable}
 use Rattle.trimming.specs.Kinds.{firstKind, kindsUpTo2, Kinds}
-use Rattle.trimming.proofs.Nesting.{listOf-listed}
+use Rattle.trimming.proofs.Nesting.{item, kindOf, listOf-flat, segment-flat, listOf-listed}
 use Rattle.trimming.proofs.Tables.{first-listed}
 use Rattle.forms.proofs.Tests.{none-both}
 
 -- ---- what holds of every value
 
--- a test of all that is gathered is a test of all
-all-gathered : {A B : Type 0} (f : A → List B) (t : B → Bool) (q : A → Bool) → ((x : A) → all t (f x) ≡ q x) → (xs : List A)
-    → all t (gather f xs) ≡ all q xs
-unfolding all gather
-all-gathered f t q h [] = refl
-all-gathered f t q h (x ∷ xs) = all-append t (f x) (gather f xs) ∙ ap₂ _&&_ (h x) (all-gathered f t q h xs)
-
 -- every value of a list of segments passes the test exactly where every value of its value list does
-module _ (p : Bytes → Bool) where
-  abbrev passes : Item → Bool
-  passes l = p (l .value)
-
-  all-element : (kind : ℕ) (element : List Bytes) → all passes (listElement kind element) ≡ all p element
-  unfolding all listElement
-  all-element kind [] = refl
-  all-element kind (v ∷ vs) = ap (λ (b : Bool). p v && b) (all-mapped (λ w. record { kind = 2; value = w }) passes vs)
-
-  all-segment : (segment : List (List Bytes)) → all passes (listSegment segment) ≡ all (all p) segment
-  unfolding all listSegment
-  all-segment [] = refl
-  all-segment (tag ∷ elements) =
-      all-append passes (listElement 0 tag) (gather (listElement 1) elements)
-      ∙ ap₂ _&&_ (all-element 0 tag) (all-gathered (listElement 1) passes (all p) (all-element 1) elements)
-
-  pub all-listOf : (list : SegmentList) → all passes (listOf list) ≡ all (all (all p)) list
-  unfolding listOf
-  all-listOf list = all-gathered listSegment passes (all (all p)) all-segment list
+pub all-listOf : (p : Bytes → Bool) (list : SegmentList) → all (λ l. p (l .value)) (listOf list) ≡ every p 3 list
+all-listOf p list =
+    ap (all (λ l. p (l .value))) (listOf-flat list)
+    ∙ all-flat kindOf item (λ kind. Unit {0}) (λ l. p (l .value)) p (λ kind v h. refl) (λ depth. tt) 3 0 tt list
 
 -- ---- records that fail a test
 
@@ -159,11 +138,18 @@ module _ (service bytes table : List ℕ) where
 
 -- ---- how many values there are
 
--- a body that spells a list has a separator for each of its values
-pub values-bound : (c : Characters) {body : Bytes} {list : SegmentList} → Spells c body list → length (listOf list) ≤ length body
-unfolding listOf listSegment listElement gather
-values-bound c nothing = omega arith
-values-bound c (segmentEnd h) = omega (arith, values-bound c h)
-values-bound c (elementEnd h) = omega (arith, values-bound c h)
-values-bound c (componentEnd h) = omega (arith, values-bound c h)
-values-bound c (valueByte {b} {rest} k h) = omega (arith, values-bound c h, length-append (spellByte c b) rest)
+-- the spelling of a list has a separator for each of its values
+pub values-bound : (c : Characters) (list : SegmentList) → Shaped list → length (listOf list) ≤ length (spell c list)
+unfolding listOf gather spell spellSegment spellElement Shaped shapedSegment all
+values-bound c [] s = omega arith
+values-bound c (g ∷ list) s =
+    let text : Bytes = spelled (separatorOf c) (spellValue c) 2 g in
+    omega (
+      arith,
+      length-append (listSegment g) (listOf list),
+      ap length (segment-flat g),
+      flat-bound kindOf item (separatorOf c) (spellValue c) 2 0 g (and-left (shapedSegment g) (all shapedSegment list) s),
+      length-append text (c .terminator ∷ []),
+      length-append (text ++ c .terminator ∷ []) (spell c list),
+      values-bound c list (and-right (shapedSegment g) (all shapedSegment list) s),
+    )

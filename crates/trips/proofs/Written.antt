@@ -31,16 +31,15 @@ use Rattle.operations.specs.ValueList.{Item, listOf, listBytes, listTable, list
 use Rattle.operations.specs.Write.{badList, unusableBytes, needsRelease, writtenText, writeRefusal, write, writeOutput}
 use Rattle.operations.proofs.Answered.{read-given}
 use Rattle.spelling.specs.Bodies.{Shaped, Releasable}
-use Rattle.spelling.proofs.Grammar.{spells-list}
 use Rattle.trimming.specs.Kinds.{Kinds}
 use Rattle.trimming.proofs.Nesting.{shaped-listed, kinds-listOf}
-use Rattle.trimming.proofs.Again.{trimList-again, trimList-shaped}
+use Rattle.trimming.proofs.Trimmed.{trimList-again, trimList-shaped}
 use Rattle.trimming.proofs.Tables.{listed-table, segments-table, listOf-sound}
 use Rattle.forms.specs.Forms.{markOf}
 use Rattle.forms.proofs.Trimmed.{contents-trimmed, trim-releasable}
 use Rattle.forms.proofs.Openings.{advice-characters, advice-good, interchange-contents}
 use Rattle.forms.proofs.Accepted.{accepted-exactly}
-use Rattle.forms.proofs.Normal.{contents-shaped, normal-releasable}
+use Rattle.forms.proofs.Normal.{contents-shaped}
 use Rattle.trips.specs.Trips.{listGiven}
 use Rattle.trips.proofs.Values.{kinds-sound, release-exactly, values-bound}
 
@@ -232,7 +231,7 @@ module _ (s : List ℕ) (accepted : refusalOf s ≡ none) where
         arith,
         within (normalForm s) (length (normalForm s)) .0 (accepted-exactly s .0 accepted .normal),
         length-append (adviceOf c) (spell c list),
-        values-bound c (spells-list c list (contents-shaped s accepted) (normal-releasable (markOf s) list)),
+        values-bound c list (contents-shaped s accepted),
       )
 
   -- 15 does not refuse it

@@ -83,8 +83,8 @@ pub record Position : Type 0 where
   pub element : ℕ
   pub component : ℕ
 
--- Behind a terminator the next segment begins, behind an element separator the next element, behind a component separator the next
--- component. There is no separator of another kind.
+-- After a terminator the next segment begins, after an element separator the next element, after a component separator the next
+-- component. There is no separator of another rank.
 unfoldable pub passed : Position → Token → Position
 passed p (byte b from place) = p
 passed p (separator zero place) = record { segment = suc (p .segment); element = 0; component = 0 }
@@ -93,13 +93,13 @@ passed p (separator (suc (suc zero)) place) = record { segment = p .segment; ele
 passed p (separator (suc (suc (suc k))) place) = p
 passed p (fault place) = p
 
--- the position behind tokens, from left to right
+-- the position after tokens, from left to right
 unfoldable pub reached : Position → List Token → Position
 reached p [] = p
 reached p (t ∷ ts) = reached (passed p t) ts
 
 -- The value stands at the position: what stands before it reaches the position and is nothing or ends in a separator, so that no byte of
--- the value is in it; the value begins where the rest begins, and goes on to the next separator of any kind.
+-- the value is in it; the value begins where the rest begins, and goes on to the next separator of any rank.
 pub record Placed (ts : List Token) (p : Position) (v : Value) : Type 0 where
   pub before : List Token
   pub rest : List Token
