@@ -11,6 +11,7 @@ ghost use Rattle.operations.specs.Write.{write as writeOf, writeOutput};
 ghost use Rattle.surface.specs.Verdicts.{verdictOf};
 ghost use Rattle.surface.specs.Answered.{writtenOf, comparisonOf, locationOf, listingOf};
 ghost use Rattle.surface.specs.Parts.{keptOf, partOf};
+ghost use Rattle.surface.specs.Rules.{rules};
 use laying::comparison_of;
 use laying::listing_of;
 use laying::location_of;
@@ -89,6 +90,14 @@ pub struct Listing {
     pub place: usize,
     pub bytes: usize,
     pub numbers: usize,
+}
+
+// Which rules the answers follow: a caller holds it against the number of the header that it was built with.
+#[no_mangle]
+pub extern "C" fn hverolda_rules() -> u32
+    ensures { λ r. ⌜ r ≡ rules ⌝ }
+{
+    1
 }
 
 #[no_mangle]
