@@ -1,6 +1,11 @@
-// The inputs of a program: standard input, or a file that an argument names, read into a lent buffer.
-// It promises that what was read lies within the buffer. Where an input cannot be read, standard error
-// says why. What is done with the bytes is left to the programs.
+// The inputs of a program: standard input, or a file that an argument names, read into a lent buffer;
+// and the number that an argument spells. It promises that what was read lies within the buffer, and
+// which number a text is. Where an input cannot be read, standard error says why. What is done with the
+// bytes is left to the programs.
+mod number;
+
+pub use number::Number;
+pub use number::number_of;
 ghost use Rattle.inputs.specs.Input.{Fitting};
 use libc::STDIN_FILENO;
 

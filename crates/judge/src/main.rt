@@ -1,13 +1,14 @@
 // Judges interchanges: each file that an argument names, in order, or standard input where there is
 // no argument. It prints a line for each, `accepted SEGMENTS MESSAGES GROUPS LENGTH` with the length
-// of the normal form, or `refused NUMBER PLACE`. An input that cannot be read has no line: standard
-// error says why.
+// of the normal form, or `refused NUMBER PLACE`. The line of an input that cannot be read is
+// `unreadable`, and standard error says why. A program in Rattle ends with status 0 whatever it says.
 use answers::Interchange;
 use answers::Judged;
 use inputs::Input;
 use inputs::ROOM;
 use inputs::Source;
 use libc::STDOUT_FILENO;
+use printing::print_line;
 use printing::print_refused;
 use printing::print_value;
 
@@ -34,7 +35,7 @@ fn judge_input(source: Source) {
     let mut buf = [0u8; ROOM];
     match inputs::read(source, &mut buf) {
         Input::Bytes(n) => printing::report(print_judged(judging::judge(&buf[..n]))),
-        Input::Unreadable => {}
+        Input::Unreadable => printing::report(print_line(b"unreadable")),
     }
 }
 

@@ -1,6 +1,6 @@
 -- What Read and Write say they stored stands in the fronts of the buffers that they were lent, and so lies within them. Assumes nothing.
 use Prim.Native.Nat.{ℕ, _≤_}
-use mathlib.Core.Path.{_≡_, sym, ap, _∙_}
+use mathlib.Core.Path.{_≡_, sym, ap, subst, _∙_}
 use mathlib.Core.List.{List, [], _∷_}
 use mathlib.Core.Option.{Option, none}
 use native.Mathlib.Omega.{arith}
@@ -15,6 +15,9 @@ use Rattle.operations.specs.Judge.{storedIn, unlessRefused}
 use Rattle.operations.specs.Read.{valueBytes, valueTable, readRefusal, read, readBytes, readTable}
 use Rattle.operations.specs.Write.{writtenText, writeRefusal, write, writeOutput}
 use Rattle.promises.proofs.Told.{given-is}
+use Rattle.respell.specs.declared.Respelled.{Respelled}
+use Rattle.respell.specs.declared.Respelled.the-variants.{Text}
+use Rattle.respell.specs.Respelled.{Fitting}
 
 -- what is stored where nothing is refused is no longer than the buffer then is
 fits : (new buffer other : List ℕ) {after : List ℕ} {o : Option Refusal} {n : ℕ} → after ≡ unlessRefused o (storedIn buffer new) other → o ≡ none
@@ -50,3 +53,7 @@ module _ (service bytes table output : List ℕ) {r : Stored} {n : ℕ} (says : 
       let found = given-is (length text ∷ []) (n ∷ []) (writeRefusal service bytes table output) (sym (ap toldStored is) ∙ says) in
       let same = found .1 in
       fits text output (replicate (length output) 0) e (found .0) (cc)
+
+-- the text of a respelling lies within the buffer: for whoever lends it on
+pub respelled-within : (r : Respelled) (buffer : List ℕ) (n : ℕ) → r ≡ Text n → Fitting r buffer → n ≤ length buffer
+respelled-within r buffer n is fitting = subst (λ (x : Respelled). Fitting x buffer) is fitting

@@ -1,8 +1,11 @@
 // Respells interchanges: `respell SERVICE [FILE ..]` reads the values of each file, or of standard input
 // where none is named, and writes them under the six bytes SERVICE, as an advice has them: `;*.! ~`.
 // It prints the text written, and on the next line what Compare says of the input and that text: `same`,
-// or `different` where the marks differ. What Read or Write refuses is `refused NUMBER PLACE`. An input
-// that cannot be read has no line: standard error says why.
+// or `different` where the marks differ. What Read refuses is `refused input NUMBER PLACE`, what Write
+// refuses `refused text NUMBER PLACE`. The line of an input that cannot be read is `unreadable`, and
+// standard error says why. It also says how the program is used where SERVICE is no six usable bytes,
+// before anything is read. A program in Rattle ends with status 0 whatever it says.
+ghost use Rattle.respell.specs.Respelled.{Fitting};
 use answers::Listed;
 use answers::Stored;
 use inputs::Input;
@@ -11,35 +14,55 @@ use inputs::Source;
 use libc::STDERR_FILENO;
 use libc::STDOUT_FILENO;
 use printing::print_compared;
+use printing::print_line;
 use printing::print_refused;
+use refusals::Refusal;
+
+// How long the text is that was written, or what refused the input or the text.
+pub enum Respelled {
+    Text(usize),
+    InputRefused(Refusal),
+    TextRefused(Refusal),
+}
 
 // The text, and how it compares with the input that it was written from.
 fn print_text(text: &[u8], input: &[u8]) -> bool {
-    io::write_all(STDOUT_FILENO, text)
-        && io::write_all(STDOUT_FILENO, b"\n")
-        && print_compared(comparing::compare(input, text))
+    print_line(text) && print_compared(comparing::compare(input, text))
 }
 
-// No text is longer than 32,000 bytes, so that Write never finds this buffer too short.
-fn write_values(service: &[u8], bytes: &[u8], table: &[u32], input: &[u8]) -> bool {
-    let mut output = [0u8; 32000];
-    match writing::write(service, bytes, table, &mut output) {
-        Stored::Length(n) => print_text(&output[..n], input),
-        Stored::Refused(refusal) => print_refused(b"refused", refusal),
+fn write_values(service: &[u8], bytes: &[u8], table: &[u32], output: &mut [u8]) -> Respelled
+    ensures { λ r. ⌜ Fitting r (now (output .exit)) ⌝ }
+{
+    match writing::write(service, bytes, table, output) {
+        Stored::Length(n) => Respelled::Text(n),
+        Stored::Refused(refusal) => Respelled::TextRefused(refusal),
     }
 }
 
 // An interchange of 32,000 bytes has at most so many bytes in values, and as many values, each of which
-// some byte ends: Read never finds these buffers too short.
-fn respell(service: &[u8], input: &[u8]) -> bool {
+// some byte ends: Read never finds these buffers too short. They leave the stack before the text is
+// compared, which needs a good part of it.
+fn respell_into(service: &[u8], input: &[u8], output: &mut [u8]) -> Respelled
+    ensures { λ r. ⌜ Fitting r (now (output .exit)) ⌝ }
+{
     let mut bytes = [0u8; 32000];
     let mut table = [0u32; 96000];
     match reading_out::read(&mut bytes, &mut table, input) {
         Listed::Values {
             bytes: n,
             numbers: m,
-        } => write_values(service, &bytes[..n], &table[..m], input),
-        Listed::Refused(refusal) => print_refused(b"refused", refusal),
+        } => write_values(service, &bytes[..n], &table[..m], output),
+        Listed::Refused(refusal) => Respelled::InputRefused(refusal),
+    }
+}
+
+// No text is longer than 32,000 bytes, so that Write never finds this buffer too short.
+fn respell(service: &[u8], input: &[u8]) -> bool {
+    let mut output = [0u8; 32000];
+    match respell_into(service, input, &mut output) {
+        Respelled::Text(n) => print_text(&output[..n], input),
+        Respelled::InputRefused(refusal) => print_refused(b"refused input", refusal),
+        Respelled::TextRefused(refusal) => print_refused(b"refused text", refusal),
     }
 }
 
@@ -47,7 +70,7 @@ fn respell_input(service: &[u8], source: Source) {
     let mut buf = [0u8; ROOM];
     match inputs::read(source, &mut buf) {
         Input::Bytes(n) => printing::report(respell(service, &buf[..n])),
-        Input::Unreadable => {}
+        Input::Unreadable => printing::report(print_line(b"unreadable")),
     }
 }
 
@@ -59,15 +82,30 @@ fn respell_arguments(service: &[u8], count: usize) {
     }
 }
 
+// Write under these bytes, of no value at all, is refused for another reason than the bytes.
+fn are_usable(service: &[u8]) -> bool {
+    let mut output = [0u8; 9];
+    match writing::write(service, b"", &[], &mut output) {
+        Stored::Length(_) => true,
+        Stored::Refused(refusal) => {
+            let fault = refusal.fault;
+            reporting::number_of(fault) != 2
+        }
+    }
+}
+
 fn main() {
-    let count = os::arg_count();
-    if count < 2 {
-        io::write_all(STDERR_FILENO, b"usage: respell SERVICE [FILE ..]\n");
+    // An argument that is longer is cut to no byte, and is no service either.
+    let mut service = [0u8; 8];
+    let n = os::arg(1, &mut service);
+    if !are_usable(&service[..n]) {
+        io::write_all(
+            STDERR_FILENO,
+            b"usage: respell SERVICE [FILE ..], where SERVICE is six usable bytes as ';*.! ~'\n",
+        );
         return;
     }
-    // Where the argument is not six bytes, Write says so.
-    let mut service = io::buffer();
-    let n = os::arg(1, &mut service);
+    let count = os::arg_count();
     if count < 3 {
         respell_input(&service[..n], Source::StandardInput);
         return;

@@ -18,6 +18,15 @@ enum-known-n c = search needs
 enum-told : tie.Need-enum-told
 enum-told c = search needs
 
+slice-aggregate-print-line : tie.Need-slice-aggregate-print-line
+slice-aggregate-print-line c = search needs
+
+print-line-requires : tie.Need-print-line-requires
+print-line-requires c κs = search needs
+
+report-requires : tie.Need-report-requires
+report-requires c κs = search needs
+
 returns : tie.Need-returns
 returns c = search needs
 
@@ -33,29 +42,35 @@ enum-known-m c = search needs
 enum-told-2 : tie.Need-enum-told-2
 enum-told-2 c = search needs
 
+slice-aggregate-print-line-2 : tie.Need-slice-aggregate-print-line-2
+slice-aggregate-print-line-2 c = search needs
+
+print-line-requires-2 : tie.Need-print-line-requires-2
+print-line-requires-2 c κs = search needs
+
+report-requires-2 : tie.Need-report-requires-2
+report-requires-2 c κs = search needs
+
 returns-2 : tie.Need-returns-2
 returns-2 c = search needs
 
 array-share-prefix-a : tie.Need-array-share-prefix-a
 array-share-prefix-a c = within _ _ _ (c .before .before .before .before .before .before .before .n .given .1) (c .before .before .before .before .before .before .before .before .before .before .read .ensures)
 
-slice-aggregate-compare : tie.Need-slice-aggregate-compare
-slice-aggregate-compare c = sym (length-take-le _ _ (array-share-prefix-a (c .before)))
+slice-aggregate-print-pair : tie.Need-slice-aggregate-print-pair
+slice-aggregate-print-pair c = sym (length-take-le _ _ (array-share-prefix-a (c .before)))
 
 array-share-prefix-b : tie.Need-array-share-prefix-b
 array-share-prefix-b c = within _ _ _ (c .before .before .m .given .1) (c .before .before .before .before .before .read2 .ensures)
 
-slice-aggregate-compare-2 : tie.Need-slice-aggregate-compare-2
-slice-aggregate-compare-2 c = sym (length-take-le _ _ (array-share-prefix-b (c .before)))
+slice-aggregate-print-pair-2 : tie.Need-slice-aggregate-print-pair-2
+slice-aggregate-print-pair-2 c = sym (length-take-le _ _ (array-share-prefix-b (c .before)))
 
-compare-requires : tie.Need-compare-requires
-compare-requires c κs = search needs
+print-pair-requires : tie.Need-print-pair-requires
+print-pair-requires c κs = search needs
 
-print-compared-requires : tie.Need-print-compared-requires
-print-compared-requires c κs = search needs
-
-report-requires : tie.Need-report-requires
-report-requires c κs = search needs
+report-requires-3 : tie.Need-report-requires-3
+report-requires-3 c κs = search needs
 
 returns-3 : tie.Need-returns-3
 returns-3 c = search needs
@@ -68,17 +83,22 @@ compare-arguments-spec =
     read-requires
     enum-known-n
     enum-told
+    slice-aggregate-print-line
+    print-line-requires
+    report-requires
     returns
     slice-aggregate-read-2
     read-requires-2
     enum-known-m
     enum-told-2
+    slice-aggregate-print-line-2
+    print-line-requires-2
+    report-requires-2
     returns-2
     array-share-prefix-a
-    slice-aggregate-compare
+    slice-aggregate-print-pair
     array-share-prefix-b
-    slice-aggregate-compare-2
-    compare-requires
-    print-compared-requires
-    report-requires
+    slice-aggregate-print-pair-2
+    print-pair-requires
+    report-requires-3
     returns-3)

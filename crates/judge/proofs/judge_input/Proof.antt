@@ -16,8 +16,7 @@ enum-known-n : tie.Need-enum-known-n
 enum-known-n c = search needs
 
 array-share-prefix-buf : tie.Need-array-share-prefix-buf
-array-share-prefix-buf c =
-    within _ _ _ (c .before .n .given .1) (c .before .before .before .before .read .ensures)
+array-share-prefix-buf c = within _ _ _ (c .before .n .given .1) (c .before .before .before .before .read .ensures)
 
 slice-aggregate-judge : tie.Need-slice-aggregate-judge
 slice-aggregate-judge c = sym (length-take-le _ _ (array-share-prefix-buf (c .before)))
@@ -33,6 +32,15 @@ report-requires c κs = search needs
 
 enum-told : tie.Need-enum-told
 enum-told c = search needs
+
+slice-aggregate-print-line : tie.Need-slice-aggregate-print-line
+slice-aggregate-print-line c = search needs
+
+print-line-requires : tie.Need-print-line-requires
+print-line-requires c κs = search needs
+
+report-requires-2 : tie.Need-report-requires-2
+report-requires-2 c κs = search needs
 
 returns : tie.Need-returns
 returns c = search needs
@@ -53,5 +61,8 @@ judge-input-spec =
     print-judged-requires
     report-requires
     enum-told
+    slice-aggregate-print-line
+    print-line-requires
+    report-requires-2
     returns
     returns-2)

@@ -30,6 +30,15 @@ report-requires c κs = search needs
 enum-told : tie.Need-enum-told
 enum-told c = search needs
 
+slice-aggregate-print-line : tie.Need-slice-aggregate-print-line
+slice-aggregate-print-line c = search needs
+
+print-line-requires : tie.Need-print-line-requires
+print-line-requires c κs = search needs
+
+report-requires-2 : tie.Need-report-requires-2
+report-requires-2 c κs = search needs
+
 returns : tie.Need-returns
 returns c = search needs
 
@@ -48,5 +57,8 @@ respell-input-spec =
     respell-requires
     report-requires
     enum-told
+    slice-aggregate-print-line
+    print-line-requires
+    report-requires-2
     returns
     returns-2)

@@ -1,0 +1,64 @@
+-- `locate::locate_input` is safe and ends: the bytes that are searched are those that were read, and lie within the buffer. Assumes nothing.
+use mathlib.Core.Path.{sym}
+use lib.Seq.{length-take-le}
+use Rattle.inputs.proofs.Within.{within}
+use borrow.Author.Needs.{needs}
+use Rattle.locate.proofs.locate_input.Statement.{statement}
+use Rattle.locate.proofs.locate_input.Tie as tie
+
+slice-aggregate-read : tie.Need-slice-aggregate-read
+slice-aggregate-read c = search needs
+
+read-requires : tie.Need-read-requires
+read-requires c κs = search needs
+
+enum-known-n : tie.Need-enum-known-n
+enum-known-n c = search needs
+
+array-share-prefix-buf : tie.Need-array-share-prefix-buf
+array-share-prefix-buf c = within _ _ _ (c .before .n .given .1) (c .before .before .before .before .read .ensures)
+
+slice-aggregate-print-located : tie.Need-slice-aggregate-print-located
+slice-aggregate-print-located c = sym (length-take-le _ _ (array-share-prefix-buf (c .before)))
+
+print-located-requires : tie.Need-print-located-requires
+print-located-requires c κs = search needs
+
+report-requires : tie.Need-report-requires
+report-requires c κs = search needs
+
+enum-told : tie.Need-enum-told
+enum-told c = search needs
+
+slice-aggregate-print-line : tie.Need-slice-aggregate-print-line
+slice-aggregate-print-line c = search needs
+
+print-line-requires : tie.Need-print-line-requires
+print-line-requires c κs = search needs
+
+report-requires-2 : tie.Need-report-requires-2
+report-requires-2 c κs = search needs
+
+returns : tie.Need-returns
+returns c = search needs
+
+returns-2 : tie.Need-returns-2
+returns-2 c = search needs
+
+pub locate-input-spec : {M : Type 1} → statement M
+locate-input-spec =
+    tie.close
+    (tie.spec
+    slice-aggregate-read
+    read-requires
+    enum-known-n
+    array-share-prefix-buf
+    slice-aggregate-print-located
+    print-located-requires
+    report-requires
+    enum-told
+    slice-aggregate-print-line
+    print-line-requires
+    report-requires-2
+    returns
+    returns-2)
