@@ -5,7 +5,6 @@
 // arguments are not pairs. A program in Rattle ends with status 0 whatever it says.
 ghost use Prim.Native.Nat.{_*_, _<_, _^_};
 use answers::Compared;
-use inputs::Input;
 use inputs::ROOM;
 use inputs::Source;
 use libc::STDERR_FILENO;
@@ -34,14 +33,18 @@ fn print_pair<'a>(first: &'a [u8], second: &'a [u8]) -> bool {
 fn compare_arguments(first: usize, second: usize) {
     let mut a = [0u8; ROOM];
     let mut b = [0u8; ROOM];
-    let Input::Bytes(n) = inputs::read(Source::Argument(first), &mut a) else {
+    let one = inputs::read(Source::Argument(first), &mut a);
+    if !one.is_read {
         printing::report(print_line(b"unreadable 1"));
         return;
-    };
-    let Input::Bytes(m) = inputs::read(Source::Argument(second), &mut b) else {
+    }
+    let two = inputs::read(Source::Argument(second), &mut b);
+    if !two.is_read {
         printing::report(print_line(b"unreadable 2"));
         return;
-    };
+    }
+    let n = one.count;
+    let m = two.count;
     printing::report(print_pair(&a[..n], &b[..m]));
 }
 

@@ -4,7 +4,6 @@
 // `unreadable`, and standard error says why. A program in Rattle ends with status 0 whatever it says.
 use answers::Interchange;
 use answers::Judged;
-use inputs::Input;
 use inputs::ROOM;
 use inputs::Source;
 use libc::STDOUT_FILENO;
@@ -33,10 +32,13 @@ fn print_judged(judged: Judged) -> bool {
 
 fn judge_input(source: Source) {
     let mut buf = [0u8; ROOM];
-    match inputs::read(source, &mut buf) {
-        Input::Bytes(n) => printing::report(print_judged(judging::judge(&buf[..n]))),
-        Input::Unreadable => printing::report(print_line(b"unreadable")),
+    let input = inputs::read(source, &mut buf);
+    if !input.is_read {
+        printing::report(print_line(b"unreadable"));
+        return;
     }
+    let n = input.count;
+    printing::report(print_judged(judging::judge(&buf[..n])));
 }
 
 fn judge_arguments(count: usize) {

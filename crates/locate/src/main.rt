@@ -5,7 +5,6 @@
 // standard error says why. It also says how the program is used where the three are not numbers of up
 // to nine digits. A program in Rattle ends with status 0 whatever it says.
 use answers::Located;
-use inputs::Input;
 use inputs::Number;
 use inputs::ROOM;
 use inputs::Source;
@@ -45,10 +44,13 @@ fn print_located(input: &[u8], v: Numbers) -> bool {
 
 fn locate_input(v: Numbers, source: Source) {
     let mut buf = [0u8; ROOM];
-    match inputs::read(source, &mut buf) {
-        Input::Bytes(n) => printing::report(print_located(&buf[..n], v)),
-        Input::Unreadable => printing::report(print_line(b"unreadable")),
+    let input = inputs::read(source, &mut buf);
+    if !input.is_read {
+        printing::report(print_line(b"unreadable"));
+        return;
     }
+    let n = input.count;
+    printing::report(print_located(&buf[..n], v));
 }
 
 fn locate_arguments(v: Numbers, count: usize) {

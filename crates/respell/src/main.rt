@@ -8,7 +8,6 @@
 ghost use Rattle.respell.specs.Respelled.{Fitting};
 use answers::Listed;
 use answers::Stored;
-use inputs::Input;
 use inputs::ROOM;
 use inputs::Source;
 use libc::STDERR_FILENO;
@@ -68,10 +67,13 @@ fn respell(service: &[u8], input: &[u8]) -> bool {
 
 fn respell_input(service: &[u8], source: Source) {
     let mut buf = [0u8; ROOM];
-    match inputs::read(source, &mut buf) {
-        Input::Bytes(n) => printing::report(respell(service, &buf[..n])),
-        Input::Unreadable => printing::report(print_line(b"unreadable")),
+    let input = inputs::read(source, &mut buf);
+    if !input.is_read {
+        printing::report(print_line(b"unreadable"));
+        return;
     }
+    let n = input.count;
+    printing::report(respell(service, &buf[..n]));
 }
 
 fn respell_arguments(service: &[u8], count: usize) {

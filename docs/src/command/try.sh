@@ -34,6 +34,16 @@ lines() {
     [[ $count == "$1" ]] || complain "$count lines for $1"
 }
 
+# operands_of NAME: what stands before the last file
+operands_of() {
+    case $1 in
+        compare | keep) operands=("$x") ;;
+        locate) operands=(2 2 0) ;;
+        write | respell) operands=("$six") ;;
+        *) operands=() ;;
+    esac
+}
+
 closed() { "$@" >&-; }
 full() { "$@" >/dev/full; }
 deaf() { "$@" 2>&-; }
@@ -102,12 +112,7 @@ expect 0 'hverolda * rules 1' '' "$hverolda" --version
 for name in "${commands[@]}"; do
     expect 0 "Usage: hverolda $name *Exit status: *" '' "$hverolda" "$name" --help
     expect 2 '' "hverolda: '--frob' is no option"$'\n'"Try 'hverolda $name --help'." "$hverolda" "$name" --frob
-    operands=()
-    case $name in
-        compare | keep) operands=("$x") ;;
-        locate) operands=(2 2 0) ;;
-        write | respell) operands=("$six") ;;
-    esac
+    operands_of "$name"
     expect 2 '' "hverolda: $work/none: No such file*" "$hverolda" "$name" "${operands[@]}" "$work/none"
     expect 2 '' "hverolda: $work: Is a directory*" "$hverolda" "$name" "${operands[@]}" "$work"
     expect 2 '' 'hverolda: standard output: Bad file descriptor*' closed "$hverolda" "$name" "${operands[@]}" "$x"
@@ -170,7 +175,10 @@ expect 0 '' 'usage: locate *' "$programs/locate" 2 2 1234567890 "$x"
 expect 0 '' 'usage: compare *' "$programs/compare"
 expect 0 '' 'usage: compare *' "$programs/compare" "$x"
 expect 0 'refused text 16 16' '' "$programs/respell" '+*.  ~' "$x"
-expect 0 '' 'standard output: Bad file descriptor' closed "$programs/judge" "$x"
-expect 0 '' 'standard output: No space left on device' full "$programs/compare" "$x" "$x"
+for name in judge compare locate respell; do
+    operands_of "$name"
+    expect 0 '' 'standard output: Bad file descriptor' closed "$programs/$name" "${operands[@]}" "$x"
+    expect 0 '' 'standard output: No space left on device' full "$programs/$name" "${operands[@]}" "$x"
+done
 
 [[ $failures == 0 ]]
