@@ -1,0 +1,128 @@
+-- What the definitions say in the paper's letters: the tags by their bytes, and what is counted. Assumes nothing.
+use Prim.Native.Nat.{ℕ, _+_, _≤_}
+use mathlib.Core.Path.{_≡_, refl, sym, ap, _∙_}
+use mathlib.Core.Bool.{Bool, true, false, _&&_, _||_}
+use mathlib.Core.List.{List, [], _∷_, _++_, map, List·Memᴰ, List·Memᴰ·head, List·Memᴰ·tail}
+use mathlib.Core.Logic.{_⊎_, _↔_}
+use native.Mathlib.Omega.{arith}
+use lib.Dec.{eqb}
+use lib.ListN.{length, getD, length-append}
+use borrow.Author.Tests.{eqb-true, eq-eqb}
+use Rattle.lists.specs.Lists.{if_then_else_, text, same, all, those}
+use Rattle.lists.proofs.Texts.{if-false}
+use Rattle.lists.proofs.Tests.{Says, says-eq, says-both, says-either, says-same, says-as, says-all, fails, through-is}
+use Rattle.characters.specs.Characters.{upper, digit}
+use Rattle.characters.proofs.Words.{upper-says, digit-says}
+use Rattle.segments.specs.declared.Kind.{Kind}
+use Rattle.segments.specs.declared.Kind.the-variants.{Unb, Ung, Unh, Uns, Unt, Une, Unz, User}
+use Rattle.segments.specs.Kinds.{index, is, kindNamed}
+use Rattle.segments.specs.Tags.{isTag}
+use Rattle.segments.specs.Order.{segmentsIn, messagesIn, groupsIn, segmentsSinceHeader, messagesSinceGroup}
+
+-- ---- tags
+
+pub kinds-are : (kindNamed (85 ∷ 78 ∷ 66 ∷ []) ≡ Unb)
+    × (kindNamed (85 ∷ 78 ∷ 71 ∷ []) ≡ Ung)
+    × (kindNamed (85 ∷ 78 ∷ 72 ∷ []) ≡ Unh)
+    × (kindNamed (85 ∷ 78 ∷ 83 ∷ []) ≡ Uns)
+    × (kindNamed (85 ∷ 78 ∷ 84 ∷ []) ≡ Unt)
+    × (kindNamed (85 ∷ 78 ∷ 69 ∷ []) ≡ Une)
+    × (kindNamed (85 ∷ 78 ∷ 90 ∷ []) ≡ Unz)
+unfolding kindNamed same
+kinds-are = (refl, refl, refl, refl, refl, refl, refl)
+
+-- any other tag names a user segment
+pub user-kind : (tag : List ℕ)
+    → ((last : ℕ) → List·Memᴰ last (66 ∷ 71 ∷ 72 ∷ 83 ∷ 84 ∷ 69 ∷ 90 ∷ []) → tag ≡ 85 ∷ 78 ∷ last ∷ [] → ⊥) → kindNamed tag ≡ User
+unfolding kindNamed
+user-kind tag h =
+    rw (
+      none 66 (List·Memᴰ·head refl),
+      none 71 (List·Memᴰ·tail (List·Memᴰ·head refl)),
+      none 72 (List·Memᴰ·tail (List·Memᴰ·tail (List·Memᴰ·head refl))),
+      none 83 (List·Memᴰ·tail (List·Memᴰ·tail (List·Memᴰ·tail (List·Memᴰ·head refl)))),
+      none 84 (List·Memᴰ·tail (List·Memᴰ·tail (List·Memᴰ·tail (List·Memᴰ·tail (List·Memᴰ·head refl))))),
+      none 69 (List·Memᴰ·tail (List·Memᴰ·tail (List·Memᴰ·tail (List·Memᴰ·tail (List·Memᴰ·tail (List·Memᴰ·head refl)))))),
+      none 90 (List·Memᴰ·tail (List·Memᴰ·tail (List·Memᴰ·tail (List·Memᴰ·tail (List·Memᴰ·tail (List·Memᴰ·tail (List·Memᴰ·head refl))))))),
+    )
+  where
+    none : (last : ℕ) → List·Memᴰ last (66 ∷ 71 ∷ 72 ∷ 83 ∷ 84 ∷ 69 ∷ 90 ∷ []) → same tag (85 ∷ 78 ∷ last ∷ []) ≡ false
+    none last m = fails (same tag (85 ∷ 78 ∷ last ∷ [])) (says-same tag (85 ∷ 78 ∷ last ∷ [])) .1 (h last m)
+
+-- a kind is itself and no other
+pub is-says : (kind other : Kind) → Says (is kind other) (other ≡ kind)
+unfolding is
+is-says kind other = (λ e. tells other kind (eqb-true (index other) (index kind) e), λ e. eq-eqb (index other) (index kind) (ap index e))
+  where
+    kinds : List Kind
+    kinds = Unb ∷ Ung ∷ Unh ∷ Uns ∷ Unt ∷ Une ∷ Unz ∷ User ∷ []
+
+    placed : (k : Kind) → getD kinds (index k) User ≡ k
+    placed Unb = refl
+    placed Ung = refl
+    placed Unh = refl
+    placed Uns = refl
+    placed Unt = refl
+    placed Une = refl
+    placed Unz = refl
+    placed User = refl
+
+    tells : (k j : Kind) → index k ≡ index j → k ≡ j
+    tells k j e = sym (placed k) ∙ ap (λ (n : ℕ). getD kinds n User) e ∙ placed j
+
+-- "three bytes, each `A`-`Z` or `0`-`9`"
+pub tag-says : (tag : List ℕ)
+    → Says (isTag tag)
+    ((length tag ≡ 3) × ((b : ℕ) → List·Memᴰ b tag → ((65 ≤ b) × (b ≤ 90)) ⊎ ((48 ≤ b) × (b ≤ 57))))
+unfolding isTag
+tag-says tag =
+    says-both (eqb (length tag) 3) (all (λ b. upper b || digit b) tag) (says-eq (length tag) 3)
+    (says-all (λ b. upper b || digit b) (λ b. says-either (upper b) (digit b) (upper-says b) (digit-says b)) tag)
+
+-- ---- counts
+
+module _ (kind : Kind) (past : List Kind) where
+  -- every segment counts, and is a message's or a group's where it is its header
+  pub counted : (segmentsIn [] ≡ 0)
+      × (messagesIn [] ≡ 0)
+      × (groupsIn [] ≡ 0)
+      × (segmentsIn (kind ∷ past) ≡ segmentsIn past + 1)
+      × (messagesIn (Unh ∷ past) ≡ messagesIn past + 1)
+      × ((kind ≡ Unh → ⊥) → messagesIn (kind ∷ past) ≡ messagesIn past)
+      × (groupsIn (Ung ∷ past) ≡ groupsIn past + 1)
+      × ((kind ≡ Ung → ⊥) → groupsIn (kind ∷ past) ≡ groupsIn past)
+  unfolding segmentsIn messagesIn groupsIn those is
+  counted = (
+    refl,
+    refl,
+    refl,
+    omega arith,
+    omega arith,
+    λ n. rw (fails (is Unh kind) (is-says Unh kind) .1 n),
+    omega arith,
+    λ n. rw (fails (is Ung kind) (is-says Ung kind) .1 n),
+  )
+
+-- what passed since a header, which is the nearest of its kind
+module _ (nearer farther : List Kind) where
+  pub since-header : ((kind : Kind) → List·Memᴰ kind nearer → kind ≡ Unh → ⊥) → segmentsSinceHeader (nearer ++ Unh ∷ farther) ≡ length nearer + 1
+  unfolding segmentsSinceHeader segmentsIn
+  since-header n =
+      ap length (through-is (is Unh) nearer Unh farther (λ k m. fails (is Unh k) (is-says Unh k) .1 (n k m)) (is-says Unh Unh .1 refl))
+      ∙ length-append nearer (Unh ∷ [])
+
+  pub since-group : ((kind : Kind) → List·Memᴰ kind nearer → kind ≡ Ung → ⊥) → messagesSinceGroup (nearer ++ Ung ∷ farther) ≡ messagesIn nearer
+  unfolding messagesSinceGroup messagesIn those is
+  since-group n =
+      ap messagesIn (through-is (is Ung) nearer Ung farther (λ k m. fails (is Ung k) (is-says Ung k) .1 (n k m)) (is-says Ung Ung .1 refl))
+      ∙ trailing nearer
+    where
+      trailing : (ks : List Kind) → messagesIn (ks ++ Ung ∷ []) ≡ messagesIn ks
+      trailing [] = refl
+      trailing (k ∷ ks) = step (is Unh k) (trailing ks)
+        where
+          step : (t : Bool) → messagesIn (ks ++ Ung ∷ []) ≡ messagesIn ks
+              → length (if t then k ∷ those (is Unh) (ks ++ Ung ∷ []) else those (is Unh) (ks ++ Ung ∷ []))
+              ≡ length (if t then k ∷ those (is Unh) ks else those (is Unh) ks)
+          step true e = omega arith
+          step false e = e
