@@ -14,19 +14,20 @@ use borrow.Author.Tests.{not-true}
 use Rattle.lists.specs.Lists.{any, at, gather, maybe}
 use Rattle.lists.proofs.Tests.{Says, says-eq, says-lt, says-both, says-either, says-not, says-as, says-any, says-maybe, decides, at-within}
 use Rattle.characters.specs.declared.Characters.{Characters}
-use Rattle.characters.specs.Characters.{sixBytes, usable, released, isService}
+use Rattle.characters.specs.Characters.{spelledOut, adviceOf, sixBytes, usable, released, isService}
 use Rattle.characters.proofs.Words.{Usable, usable-says, service-says, six-are}
 use Rattle.refusals.specs.declared.Fault.{Fault}
 use Rattle.refusals.specs.declared.Fault.the-variants.{TooLong, UnusableAdvice, BufferShort, BadList, NeedsRelease}
 use Rattle.refusals.specs.declared.Refusal.{Refusal}
 use Rattle.refusals.specs.Refusals.{Stage, met, placeIf, answering}
 use Rattle.refusals.proofs.Words.{place-says, place-answers, nowhere-answers}
-use Rattle.reading.specs.Spelling.{Bytes}
+use Rattle.reading.specs.Spelling.{Bytes, spell}
+use Rattle.verdict.specs.Contents.{interchange}
 use Rattle.verdict.specs.Places.{tooLong}
 use Rattle.verdict.specs.Stages.{laterStages}
 use Rattle.verdict.proofs.Words.{one-at}
 use Rattle.operations.specs.Judge.{shortFor}
-use Rattle.operations.specs.ValueList.{Item, listElement, listSegment, listOf, listBytes, tableFrom, listTable, Entry, entries, valueIn, listedIn}
+use Rattle.operations.specs.ValueList.{Item, listElement, listSegment, listOf, listBytes, tableFrom, listTable, Entry, entries, valueIn, listedIn, segmentsListed, trimList}
 use Rattle.operations.specs.Write.{numbersWhere, badTable, badEntry, badList, unusableBytes, lacksRelease, needsRelease, writtenText, writeRefusal}
 
 -- ---- the records of a table
@@ -281,6 +282,24 @@ listed-at bytes table n kind start size h = mapped (entries table) n (entry-is t
     mapped (x ∷ xs) zero e =
         ap (λ (y : Entry). some (record { kind = y .kind; value = valueIn bytes y })) (Option·some-injective x (entry kind start size) e)
     mapped (x ∷ xs) (suc n) e = mapped xs n e
+
+-- "always an advice, then the trimmed list"
+pub text-is : (component element mark release reserved terminator : ℕ) (bytes table : List ℕ)
+    → writtenText (component ∷ element ∷ mark ∷ release ∷ reserved ∷ terminator ∷ []) bytes table
+    ≡ 85
+    ∷ 78
+    ∷ 65
+    ∷ component
+    ∷ element
+    ∷ mark
+    ∷ release
+    ∷ reserved
+    ∷ terminator
+    ∷ spell
+    (record { component = component; element = element; mark = mark; release = release; reserved = reserved; terminator = terminator })
+    (trimList (segmentsListed (listedIn bytes table)))
+unfolding writtenText interchange adviceOf spelledOut sixBytes
+text-is component element mark release reserved terminator bytes table = refl
 
 -- ---- "Writer: 15, 2, 16, 1, 14"
 

@@ -14,10 +14,10 @@ use Rattle.refusals.specs.declared.Refusal.{Refusal}
 use Rattle.refusals.proofs.Words.{numbers-are}
 use Rattle.reading.specs.Tokens.{byte, Segment}
 use Rattle.reading.specs.Trimming.{contentsOf}
-use Rattle.reading.proofs.Words.{read-end, read-separators, read-value, read-released, read-stray, read-last, finished-says, segment-ended, segment-unended, no-segment, start-is}
+use Rattle.reading.proofs.Words.{read-end, read-separators, read-value, read-released, read-stray, read-last, finished-says, segment-ended, segment-unended, no-segment, start-is, bytes-are, spelled-value, spelled-segment, spelled-list}
 use Rattle.levels.specs.Levels.{levelOf, inLevel}
 use Rattle.levels.proofs.Words.{level-a-says, level-b-says, in-level-says, names-level, level-none}
-use Rattle.segments.proofs.Words.{kinds-are, user-kind, tag-says, counted}
+use Rattle.segments.proofs.Words.{kinds-are, user-kind, tag-is, tag-says, rule-says, counted}
 use Rattle.control.proofs.Words.{unb-control, ung-control, unh-control, unt-control, une-control, unz-control, no-control, unt-reference, une-reference, unz-reference, unt-count, une-count, unz-groups, unz-messages, no-trailer, decimal-digits}
 use Rattle.verdict.specs.Contents.{bodyTokens, segmentsOf}
 use Rattle.verdict.specs.Places.{outsideLevel}
@@ -32,7 +32,7 @@ use Rattle.forms.proofs.Alike.{control-alike, references-by-contents, counts-by
 use Rattle.trips.proofs.Numbers.{unrefused}
 use Rattle.trips.proofs.Theorems.{written-unchanged}
 use Rattle.paper_words.specs.Relations.{Usable, Names, LevelA, LevelB}
-use Rattle.paper_words.specs.PaperWords.{ServiceCharacters, Reading, BytesToValues, ControlOf, ReferencesOf, CountsOf, ControlElements, NormalForm, Told, ValueLists, PlacesOf, Refusals, PaperWords}
+use Rattle.paper_words.specs.PaperWords.{ServiceCharacters, Reading, Spelling, BytesToValues, ControlOf, ReferencesOf, CountsOf, ControlElements, NormalForm, Told, ValueLists, PlacesOf, Refusals, PaperWords}
 use Rattle.paper_words.proofs.Writer.{fine-list, write-refused-exactly}
 
 service-characters : ServiceCharacters
@@ -59,6 +59,16 @@ reading c u place =
       stray-end = read-last c u place;
     }
 
+spelling : (c : Characters) → Spelling c
+spelling c =
+    record {
+      nothing = spelled-value c 0 [] .0;
+      service = λ b more h. spelled-value c b more .1 (service-says c b .1 h);
+      plain = λ b more h. spelled-value c b more .2 (fails (isService c b) (service-says c b) .1 h);
+      segment = spelled-segment c;
+      list = spelled-list c;
+    }
+
 -- the level that is read is the one that is named
 named-level : (unb : Segment) (l m b : ℕ) (Q : ℕ → Type 0) → ((inLevel m b ≡ true) ↔ Q b) → levelOf unb ≡ some m → levelOf unb ≡ some l
     → (inLevel l b ≡ true) ↔ Q b
@@ -74,9 +84,13 @@ bytes-to-values =
       segment-unended = segment-unended;
       starts = start-is;
       finished-when = finished-says;
+      value-bytes = bytes-are;
+      spelling = spelling;
+      tag = tag-is;
       tag-bytes = tag-says;
       service-tags = kinds-are;
       user-tags = user-kind;
+      tag-rule = rule-says;
       level-a = level-a-says;
       level-b = level-b-says;
       names-a = λ unb l b n. named-level unb l 2 b LevelA (in-level-says b .0) (names-level unb .0 n);
@@ -155,6 +169,7 @@ value-lists =
       table-length = listTable-length;
       record-names = values.listed-at;
       listed-table = listed-table;
+      text = values.text-is;
       written-unchanged = λ service bytes table output h. written-unchanged service bytes table output (unrefused _ (writeRefusal service bytes table output) h);
     }
 

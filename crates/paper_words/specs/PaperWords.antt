@@ -15,14 +15,14 @@ use Rattle.refusals.specs.declared.Fault.the-variants.{TooLong, UnusableAdvice,
 use Rattle.refusals.specs.declared.Refusal.{Refusal}
 use Rattle.refusals.specs.Refusals.{number}
 use Rattle.reading.specs.Tokens.{Token, byte, separator, fault, tokens, Segment, segments, start}
-use Rattle.reading.specs.Values.{finished}
+use Rattle.reading.specs.Values.{bytesOf, finished}
 use Rattle.reading.specs.Trimming.{contentsOf}
-use Rattle.reading.specs.Spelling.{Bytes, SegmentList, spell}
+use Rattle.reading.specs.Spelling.{Bytes, SegmentList, spellValue, spellSegment, spell}
 use Rattle.levels.specs.Levels.{inLevelA, inLevelB, levelOf, inLevel}
 use Rattle.segments.specs.declared.Kind.{Kind}
 use Rattle.segments.specs.declared.Kind.the-variants.{Unb, Ung, Unh, Uns, Unt, Une, Unz, User}
 use Rattle.segments.specs.Kinds.{kindNamed}
-use Rattle.segments.specs.Tags.{kindOf, isTag, tagRule}
+use Rattle.segments.specs.Tags.{tagPiece, tagOf, kindOf, isTag, tagRule}
 use Rattle.segments.specs.Order.{segmentsIn, messagesIn, groupsIn, allowed, isComplete}
 use Rattle.control.specs.Control.{controlRule, referenceDiffers, decimal, countWrong}
 use Rattle.verdict.specs.Contents.{bodyTokens, segmentsOf, contents, kindsOf, normalForm}
@@ -82,6 +82,16 @@ pub record Reading (c : Characters) (place : ℕ) : Type 0 where
       → tokens c place (c .release ∷ b ∷ more) ≡ fault place ∷ tokens c (place + 2) more
   pub stray-end : (c .release ≡ 32 → ⊥) → tokens c place (c .release ∷ []) ≡ fault place ∷ []
 
+-- the spelling of a list of segments: "each service character inside a value being released and nothing else"
+pub record Spelling (c : Characters) : Type 0 where
+  pub nothing : spellValue c [] ≡ []
+  pub service : (b : ℕ) (more : List ℕ) → Service c b → spellValue c (b ∷ more) ≡ c .release ∷ b ∷ spellValue c more
+  pub plain : (b : ℕ) (more : List ℕ) → (Service c b → ⊥) → spellValue c (b ∷ more) ≡ b ∷ spellValue c more
+  pub segment : (u v w : Bytes)
+      → spellSegment c ((u ∷ v ∷ []) ∷ (w ∷ []) ∷ [])
+      ≡ spellValue c u ++ c .component ∷ spellValue c v ++ c .element ∷ spellValue c w ++ c .terminator ∷ []
+  pub list : (g : List (List Bytes)) (gs : SegmentList) → (spell c [] ≡ []) × (spell c (g ∷ gs) ≡ spellSegment c g ++ spell c gs)
+
 pub record BytesToValues : Type 0 where
   pub reading : (c : Characters) → Usable c → (place : ℕ) → Reading c place
   -- "An unreleased terminator ends a segment", and is its last token
@@ -96,6 +106,18 @@ pub record BytesToValues : Type 0 where
   pub finished-when : (g : Segment)
       → (finished g ≡ true)
       ↔ (((before : List Token) × (q : ℕ) × (g ≡ before ++ separator 0 q ∷ [])) × ((q : ℕ) → List·Memᴰ (fault q) g → ⊥))
+  -- "Values keep every byte"
+  pub value-bytes : (b from place kind : ℕ) (ts : List Token)
+      → (bytesOf [] ≡ [])
+      × (bytesOf (byte b from place ∷ ts) ≡ b ∷ bytesOf ts)
+      × (bytesOf (separator kind place ∷ ts) ≡ bytesOf ts)
+      × (bytesOf (fault place ∷ ts) ≡ bytesOf ts)
+  pub spelling : (c : Characters) → Spelling c
+  -- "The first element is the tag": the bytes before the first separator of any kind
+  pub tag : (inside : List Token) (kind place : ℕ) (rest : List Token) → kind ≤ 2
+      → ((k q : ℕ) → List·Memᴰ (separator k q) inside → k ≤ 2 → ⊥)
+      → (tagPiece (inside ++ separator kind place ∷ rest) ≡ inside ++ separator kind place ∷ [])
+      × (tagOf (inside ++ separator kind place ∷ rest) ≡ bytesOf (inside ++ separator kind place ∷ []))
   -- "three bytes, each `A`-`Z` or `0`-`9`"
   pub tag-bytes : (tag : List ℕ)
       → (isTag tag ≡ true)
@@ -110,6 +132,12 @@ pub record BytesToValues : Type 0 where
       × (kindNamed (85 ∷ 78 ∷ 90 ∷ []) ≡ Unz)
   pub user-tags : (tag : List ℕ)
       → ((last : ℕ) → List·Memᴰ last (66 ∷ 71 ∷ 72 ∷ 83 ∷ 84 ∷ 69 ∷ 90 ∷ []) → tag ≡ 85 ∷ 78 ∷ last ∷ [] → ⊥) → kindNamed tag ≡ User
+  -- "A tag beginning `UN` must be [one of these], and no component separator may follow it": what follows ends the element or the segment
+  pub tag-rule : (g : Segment)
+      → (tagRule g ≡ true)
+      ↔ ((isTag (tagOf g) ≡ true)
+      × (((rest : List ℕ) × (tagOf g ≡ 85 ∷ 78 ∷ rest) → ⊥)
+      ⊎ ((kindOf g ≡ User → ⊥) × ((before : List Token) × (k : ℕ) × (q : ℕ) × (tagPiece g ≡ before ++ separator k q ∷ []) × (k ≤ 1)))))
   -- "Level A: `A`-`Z`, `0`-`9`, space and .." "Level B adds `a`-`z`."
   pub level-a : (b : ℕ) → (inLevelA b ≡ true) ↔ LevelA b
   pub level-b : (b : ℕ) → (inLevelB b ≡ true) ↔ LevelB b
@@ -260,6 +288,21 @@ pub record ValueLists : Type 0 where
   pub record-names : (bytes table : List ℕ) (n kind start size : ℕ) → Record table n kind start size
       → at {A = Item} (listedIn bytes table) n ≡ some (record { kind = kind; value = take size (drop start bytes) })
   pub listed-table : (items : List Item) → listedIn (listBytes items) (listTable items) ≡ items
+  -- Write's text: "always an advice, then the trimmed list"
+  pub text : (component element mark release reserved terminator : ℕ) (bytes table : List ℕ)
+      → writtenText (component ∷ element ∷ mark ∷ release ∷ reserved ∷ terminator ∷ []) bytes table
+      ≡ 85
+      ∷ 78
+      ∷ 65
+      ∷ component
+      ∷ element
+      ∷ mark
+      ∷ release
+      ∷ reserved
+      ∷ terminator
+      ∷ spell
+      (record { component = component; element = element; mark = mark; release = release; reserved = reserved; terminator = terminator })
+      (trimList (segmentsListed (listedIn bytes table)))
   -- a list that was written with nothing to trim is read as it was, value by value
   pub written-unchanged : (service bytes table output : List ℕ) → write service bytes table output .number ≡ 0
       → trimList (segmentsListed (listedIn bytes table)) ≡ segmentsListed (listedIn bytes table)

@@ -2,12 +2,12 @@
 use Prim.Native.Nat.{ℕ, _+_, _≤_}
 use mathlib.Core.Path.{_≡_, refl, sym, ap, ap₂, _∙_}
 use mathlib.Core.Bool.{Bool, true, false, not, _&&_, true≢false, false≢true}
-use mathlib.Core.List.{List, [], _∷_, _++_, nil≢cons, cons≢nil, head-eq-of-cons-eq, List·Memᴰ, Memᴰ·cast}
+use mathlib.Core.List.{List, [], _∷_, _++_, append-nil, append-assoc, nil≢cons, cons≢nil, head-eq-of-cons-eq, List·Memᴰ, Memᴰ·cast}
 use mathlib.Core.Option.{none, some}
 use mathlib.Core.Logic.{_⊎_, inl, inr, ⊎-elim, _↔_}
 use native.Mathlib.Omega.{arith}
 use borrow.Author.Tests.{leb-true, le-leb}
-use Rattle.lists.specs.Lists.{isEmpty, through, lastOr, cut, all}
+use Rattle.lists.specs.Lists.{isEmpty, through, at, lastOr, cut, behind, joined, gather, maybe, all}
 use Rattle.lists.proofs.Pieces.{cut-append, cut-none, cut-first}
 use Rattle.lists.proofs.Tests.{Says, says-both, says-not, says-as, says-all, last-stands, last-is, never-empty}
 use Rattle.characters.specs.declared.Characters.{Characters}
@@ -16,7 +16,9 @@ use Rattle.characters.specs.declared.Role.the-variants.{Separator, Release, Pla
 use Rattle.characters.specs.Characters.{isService, role}
 use Rattle.characters.proofs.Words.{Usable, service-says, terminator-role, element-role, component-role, release-role, plain-role, service-role}
 use Rattle.reading.specs.Tokens.{Token, byte, separator, fault, unreleased, releasing, taken, tokensFrom, tokens, ends, placeOf, Segment, segments, start}
-use Rattle.reading.specs.Values.{isFault, endedBy, endsInside, finished}
+use Rattle.reading.specs.Values.{byteOf, bytesOf, isFault, endedBy, endsInside, finished}
+use Rattle.reading.specs.Trimming.{valueAt}
+use Rattle.reading.specs.Spelling.{Bytes, SegmentList, spellByte, spellValue, spellElement, spellSegment, spell}
 use Rattle.reading.proofs.Steps.{tokens-role}
 
 module _ (c : Characters) (u : Usable c) (place : ℕ) where
@@ -205,3 +207,45 @@ pub start-first : (ts : List Token) (g : Segment) (gs : List Segment) → segmen
 unfolding segments cut start through
 start-first [] g gs e = absurd (nil≢cons e)
 start-first (t ∷ ts) g gs e = ap start (sym (head-eq-of-cons-eq (sym (cut-first (ends 0) t ts) ∙ e)))
+
+-- ---- values
+
+-- what stands at an element and a component is at that component of what stands at that element
+pub value-at : {A : Type 0} (segment : List (List A)) (element component : ℕ)
+    → ((values : List A) → at segment element ≡ some values → valueAt segment element component ≡ at values component)
+    × (at segment element ≡ none → valueAt segment element component ≡ none)
+unfolding valueAt maybe
+value-at segment element component = (λ values e. rw e, λ e. rw e)
+
+-- the bytes of a value are those of its tokens, in their order
+pub bytes-are : (b from place kind : ℕ) (ts : List Token)
+    → (bytesOf [] ≡ [])
+    × (bytesOf (byte b from place ∷ ts) ≡ b ∷ bytesOf ts)
+    × (bytesOf (separator kind place ∷ ts) ≡ bytesOf ts)
+    × (bytesOf (fault place ∷ ts) ≡ bytesOf ts)
+unfolding bytesOf byteOf gather
+bytes-are b from place kind ts = (refl, refl, refl, refl)
+
+-- ---- spelling
+
+module _ (c : Characters) where
+  -- "each service character inside a value being released and nothing else"
+  pub spelled-value : (b : ℕ) (more : List ℕ)
+      → (spellValue c [] ≡ [])
+      × (isService c b ≡ true → spellValue c (b ∷ more) ≡ c .release ∷ b ∷ spellValue c more)
+      × (isService c b ≡ false → spellValue c (b ∷ more) ≡ b ∷ spellValue c more)
+  unfolding spellValue spellByte gather
+  spelled-value b more = (refl, λ e. rw e, λ e. rw e)
+
+  -- a separator between two components, another between two elements, the terminator after a segment
+  pub spelled-segment : (u v w : Bytes)
+      → spellSegment c ((u ∷ v ∷ []) ∷ (w ∷ []) ∷ [])
+      ≡ spellValue c u ++ c .component ∷ spellValue c v ++ c .element ∷ spellValue c w ++ c .terminator ∷ []
+  unfolding spellSegment spellElement joined behind
+  spelled-segment u v w = simp (append-nil, append-assoc)
+
+  -- one segment after the other
+  pub spelled-list : (segment : List (List Bytes)) (list : SegmentList)
+      → (spell c [] ≡ []) × (spell c (segment ∷ list) ≡ spellSegment c segment ++ spell c list)
+  unfolding spell gather
+  spelled-list segment list = (refl, refl)

@@ -1,22 +1,25 @@
 -- What the definitions say in the paper's letters: the tags by their bytes, and what is counted. Assumes nothing.
 use Prim.Native.Nat.{ℕ, _+_, _≤_}
 use mathlib.Core.Path.{_≡_, refl, sym, ap, _∙_}
-use mathlib.Core.Bool.{Bool, true, false, _&&_, _||_}
-use mathlib.Core.List.{List, [], _∷_, _++_, map, List·Memᴰ, List·Memᴰ·head, List·Memᴰ·tail}
+use mathlib.Core.Bool.{Bool, true, false, not, _&&_, _||_}
+use mathlib.Core.List.{List, [], _∷_, _++_, map, List·Memᴰ, List·Memᴰ·head, List·Memᴰ·tail, Memᴰ·cast}
 use mathlib.Core.Logic.{_⊎_, _↔_}
 use native.Mathlib.Omega.{arith}
 use lib.Dec.{eqb}
 use lib.ListN.{length, getD, length-append}
 use borrow.Author.Tests.{eqb-true, eq-eqb}
-use Rattle.lists.specs.Lists.{if_then_else_, text, same, all, those}
+use Rattle.lists.specs.Lists.{if_then_else_, text, same, begins, all, those}
 use Rattle.lists.proofs.Texts.{if-false}
-use Rattle.lists.proofs.Tests.{Says, says-eq, says-both, says-either, says-same, says-as, says-all, fails, through-is}
+use Rattle.lists.proofs.Tests.{Says, says-eq, says-both, says-either, says-not, says-same, says-begins, says-as, says-all, fails, through-is}
 use Rattle.characters.specs.Characters.{upper, digit}
 use Rattle.characters.proofs.Words.{upper-says, digit-says}
+use Rattle.reading.specs.Tokens.{Token, separator, Segment, ends}
+use Rattle.reading.specs.Values.{bytesOf, endedBy}
+use Rattle.reading.proofs.Words.{ends-says, ended-says}
 use Rattle.segments.specs.declared.Kind.{Kind}
 use Rattle.segments.specs.declared.Kind.the-variants.{Unb, Ung, Unh, Uns, Unt, Une, Unz, User}
 use Rattle.segments.specs.Kinds.{index, is, kindNamed}
-use Rattle.segments.specs.Tags.{isTag}
+use Rattle.segments.specs.Tags.{tagPiece, tagOf, kindOf, isTag, tagRule}
 use Rattle.segments.specs.Order.{segmentsIn, messagesIn, groupsIn, segmentsSinceHeader, messagesSinceGroup}
 
 -- ---- tags
@@ -78,6 +81,34 @@ unfolding isTag
 tag-says tag =
     says-both (eqb (length tag) 3) (all (λ b. upper b || digit b) tag) (says-eq (length tag) 3)
     (says-all (λ b. upper b || digit b) (λ b. says-either (upper b) (digit b) (upper-says b) (digit-says b)) tag)
+
+-- the tag is the bytes before the first separator of any kind, and its piece ends with that
+pub tag-is : (inside : List Token) (kind place : ℕ) (rest : List Token) → kind ≤ 2
+    → ((k q : ℕ) → List·Memᴰ (separator k q) inside → k ≤ 2 → ⊥)
+    → (tagPiece (inside ++ separator kind place ∷ rest) ≡ inside ++ separator kind place ∷ [])
+    × (tagOf (inside ++ separator kind place ∷ rest) ≡ bytesOf (inside ++ separator kind place ∷ []))
+unfolding tagOf tagPiece
+tag-is inside kind place rest low none =
+    let piece = through-is (ends 2) inside (separator kind place) rest
+    (λ t m. fails (ends 2 t) (ends-says 2 t) .1 (λ h. none (h .0) (h .1) (Memᴰ·cast (sym (h .2)) m) (h .3)))
+    (ends-says 2 (separator kind place) .1 (kind, place, refl, low))
+    in
+    (piece, ap bytesOf piece)
+
+-- "A tag beginning `UN` must be UNB, UNG, UNH, UNS, UNT, UNE or UNZ, and no component separator may follow it."
+pub rule-says : (g : Segment)
+    → Says (tagRule g)
+    ((isTag (tagOf g) ≡ true)
+    × (((rest : List ℕ) × (tagOf g ≡ 85 ∷ 78 ∷ rest) → ⊥)
+    ⊎ ((kindOf g ≡ User → ⊥) × ((before : List Token) × (k : ℕ) × (q : ℕ) × (tagPiece g ≡ before ++ separator k q ∷ []) × (k ≤ 1)))))
+unfolding tagRule
+rule-says g =
+    let un : Bool = begins (text "UN") (tagOf g) in
+    let service : Bool = not (is User (kindOf g)) in
+    let alone : Bool = endedBy 1 (tagPiece g) in
+    says-both (isTag (tagOf g)) (not un || (service && alone)) (λ h. h, λ h. h)
+    (says-either (not un) (service && alone) (says-not un (says-begins (text "UN") (tagOf g)))
+    (says-both service alone (says-not (is User (kindOf g)) (is-says User (kindOf g))) (ended-says 1 (tagPiece g))))
 
 -- ---- counts
 
