@@ -169,6 +169,12 @@ gathered f y (x ∷ xs) = (
       (List·Memᴰ·cases-cons (h .1)),
 )
 
+-- numbers are counted from 0: as many as stand before it
+pub at-is : {A : Type 0} (before : List A) (x : A) (after : List A) → at (before ++ x ∷ after) (length before) ≡ some x
+unfolding at
+at-is [] x after = refl
+at-is (b ∷ before) x after = at-is before x after
+
 -- what stands at a number stands within the list
 pub at-within : {A : Type 0} (xs : List A) (n : ℕ) (x : A) → at xs n ≡ some x → n < length xs
 unfolding at

@@ -22,12 +22,13 @@ use Rattle.refusals.specs.declared.Refusal.{Refusal}
 use Rattle.refusals.specs.Refusals.{Stage, met, placeIf, answering}
 use Rattle.refusals.proofs.Words.{place-says, place-answers, nowhere-answers}
 use Rattle.reading.specs.Spelling.{Bytes, spell}
-use Rattle.verdict.specs.Contents.{interchange}
+use Rattle.verdict.specs.Contents.{contents, interchange}
 use Rattle.verdict.specs.Places.{tooLong}
 use Rattle.verdict.specs.Stages.{laterStages}
 use Rattle.verdict.proofs.Words.{one-at}
 use Rattle.operations.specs.Judge.{shortFor}
 use Rattle.operations.specs.ValueList.{Item, listElement, listSegment, listOf, listBytes, tableFrom, listTable, Entry, entries, valueIn, listedIn, segmentsListed, trimList}
+use Rattle.operations.specs.Read.{valueBytes, valueTable}
 use Rattle.operations.specs.Write.{numbersWhere, badTable, badEntry, badList, unusableBytes, lacksRelease, needsRelease, writtenText, writeRefusal}
 
 -- ---- the records of a table
@@ -282,6 +283,11 @@ listed-at bytes table n kind start size h = mapped (entries table) n (entry-is t
     mapped (x ∷ xs) zero e =
         ap (λ (y : Entry). some (record { kind = y .kind; value = valueIn bytes y })) (Option·some-injective x (entry kind start size) e)
     mapped (x ∷ xs) (suc n) e = mapped xs n e
+
+-- "Read into a value list of the contents"
+pub read-list : (s : List ℕ) → (valueBytes s ≡ listBytes (listOf (contents s))) × (valueTable s ≡ listTable (listOf (contents s)))
+unfolding valueBytes valueTable
+read-list s = (refl, refl)
 
 -- "always an advice, then the trimmed list"
 pub text-is : (component element mark release reserved terminator : ℕ) (bytes table : List ℕ)

@@ -167,6 +167,7 @@ value-lists =
       bytes = values.bytes-are;
       table = values.table-is;
       table-length = listTable-length;
+      read-list = values.read-list;
       record-names = values.listed-at;
       listed-table = listed-table;
       text = values.text-is;

@@ -284,6 +284,8 @@ pub record ValueLists : Type 0 where
   pub table : (items : List Item) (n : ℕ) (l : Item) → at items n ≡ some l
       → Record (listTable items) n (l .kind) (length (listBytes (take n items))) (length (l .value))
   pub table-length : (items : List Item) → length (listTable items) ≡ 3 * length items
+  -- "Read into a value list of the contents"
+  pub read-list : (s : List ℕ) → (valueBytes s ≡ listBytes (listOf (contents s))) × (valueTable s ≡ listTable (listOf (contents s)))
   -- a record names the part of the bytes that begins at its start and has its length
   pub record-names : (bytes table : List ℕ) (n kind start size : ℕ) → Record table n kind start size
       → at {A = Item} (listedIn bytes table) n ≡ some (record { kind = kind; value = take size (drop start bytes) })
