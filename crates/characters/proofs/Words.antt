@@ -1,19 +1,18 @@
 -- What the definitions say in numbers: which bytes are usable, which six an input uses, where its body begins, and what part a byte
 -- plays. Assumes nothing.
 use Prim.Native.Nat.{ℕ, _≤_, _<_}
-use mathlib.Core.Path.{_≡_, refl, sym, ap, subst, _∙_}
-use mathlib.Core.Bool.{Bool, true, false, not, _&&_, _||_, true≢false, false≢true}
-use mathlib.Core.List.{List, [], _∷_, _++_, tail-eq-of-cons-eq, head-eq-of-cons-eq}
-use mathlib.Core.Logic.{_⊎_, inl, inr, ⊎-elim, _↔_}
+use mathlib.Core.Path.{_≡_, refl, sym, ap, _∙_}
+use mathlib.Core.Bool.{Bool, true, false, not, _&&_, _||_, false≢true}
+use mathlib.Core.List.{List, [], _∷_, _++_}
+use mathlib.Core.Logic.{_⊎_, inl, inr, ⊎-elim}
 use native.Mathlib.Omega.{arith}
-use lib.Dec.{eqb, leb, ltb}
-use lib.ListN.{length, getD, drop}
+use lib.Dec.{eqb, leb}
+use lib.ListN.{length}
 use borrow.Author.Tests.{eq-eqb, ne-eqb, le-ltb, lt-ltb}
 use Rattle.lists.specs.Lists.{if_then_else_, text, begins, member, allDiffer, all}
-use Rattle.lists.proofs.Texts.{and-left, and-right, and-both, if-true, if-false}
-use Rattle.lists.proofs.Tests.{Says, says-eq, says-le, says-lt, says-both, says-either, says-not, says-as, fails, says-begins}
+use Rattle.lists.proofs.Texts.{and-left, and-both}
+use Rattle.lists.proofs.Tests.{Says, says-eq, says-le, says-both, says-either, says-not, says-as, fails, says-begins}
 use Rattle.characters.specs.declared.Characters.{Characters}
-use Rattle.characters.specs.declared.Role.{Role}
 use Rattle.characters.specs.declared.Role.the-variants.{Separator, Release, Plain}
 use Rattle.characters.specs.Characters.{between, upper, lower, digit, separates, released, serviceCharacters, isService, usable, sixBytes, spelledOut, advised, adviceOf, plusCharacters, controlCharacters, charactersOf, bodyStart, body, badAdvice, opens, role}
 

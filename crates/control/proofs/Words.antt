@@ -1,8 +1,8 @@
 -- What the definitions say in numbers: where a count and a reference stand in each service segment, what each must be, and what a trailer
 -- must say of what it closes. What passed is a list of segments, the nearest first. Assumes nothing.
 use Prim.Native.Nat.{ℕ, _+_, _*_, _-_, _≤_}
-use mathlib.Core.Path.{_≡_, refl, sym, ap, ap₂, _∙_}
-use mathlib.Core.Bool.{Bool, true, false, not, _&&_, _||_}
+use mathlib.Core.Path.{_≡_, refl, sym, ap, _∙_}
+use mathlib.Core.Bool.{true, false, _&&_}
 use mathlib.Core.List.{List, [], _∷_, _++_, map, map-append, List·Memᴰ, List·Memᴰ·head, List·Memᴰ·tail}
 use mathlib.Core.Option.{Option, none, some, Option·none-ne-some, Option·some-injective}
 use mathlib.Core.Logic.{_⊎_, inl, inr, _↔_}
@@ -10,7 +10,7 @@ use native.Mathlib.Omega.{arith}
 use lib.Dec.{eqb}
 use borrow.Author.Tests.{eq-eqb, ne-eqb}
 use lib.ListN.{length, length-map}
-use Rattle.lists.specs.Lists.{if_then_else_, same, all, first, at, maybe}
+use Rattle.lists.specs.Lists.{same, all, first, at, maybe}
 use Rattle.lists.proofs.Tests.{Says, says-eq, says-both, says-not, says-same, says-as, says-all, says-maybe, fails, first-is}
 use Rattle.characters.specs.Characters.{between, digit}
 use Rattle.characters.proofs.Words.{between-says, digit-says}
@@ -18,12 +18,12 @@ use Rattle.reading.specs.Tokens.{Segment}
 use Rattle.reading.specs.Trimming.{contentsOf}
 use Rattle.segments.specs.declared.Kind.{Kind}
 use Rattle.segments.specs.declared.Kind.the-variants.{Unb, Ung, Unh, Uns, Unt, Une, Unz, User}
-use Rattle.segments.specs.Kinds.{index, is}
+use Rattle.segments.specs.Kinds.{is}
 use Rattle.segments.specs.Tags.{kindOf}
 use Rattle.segments.specs.Order.{segmentsSinceHeader, messagesSinceGroup, messagesIn, groupsIn}
 use Rattle.segments.proofs.Words.{is-says, since-header, since-group}
 use Rattle.control.specs.Positions.{positionTable, positionsOf}
-use Rattle.control.specs.Control.{single, controlElement, isReference, isCount, standsWell, controlRule, headerOf, referenceOf, sameValue, nearestReference, referenceDiffers, decimalFrom, decimal, trueCount, countOf, countWrong}
+use Rattle.control.specs.Control.{single, controlElement, isReference, isCount, standsWell, controlRule, headerOf, referenceOf, sameValue, referenceDiffers, decimalFrom, decimal, trueCount, countOf, countWrong}
 
 -- ---- one element
 

@@ -1,14 +1,14 @@
 -- What the definitions say in numbers: both levels as ranges of byte values, and which level UNB names. Assumes nothing.
 use Prim.Native.Nat.{ℕ, _≤_}
 use mathlib.Core.Path.{_≡_, refl, sym, ap, _∙_}
-use mathlib.Core.Bool.{Bool, true, false, _||_, false≢true}
+use mathlib.Core.Bool.{Bool, true, false, _||_}
 use mathlib.Core.List.{List, [], _∷_}
 use mathlib.Core.Option.{Option, none, some, Option·none-ne-some, Option·some-injective}
 use mathlib.Core.Logic.{_⊎_, inl, inr, ⊎-elim, _↔_}
 use native.Mathlib.Omega.{arith}
 use lib.Dec.{leb}
 use Rattle.lists.specs.Lists.{if_then_else_, text, same, member, all, at, maybe}
-use Rattle.lists.proofs.Tests.{Says, says-either, says-as, says-all, says-member, says-same, allFrom, tested-from}
+use Rattle.lists.proofs.Tests.{Says, says-either, says-all, says-member, says-same, allFrom, tested-from}
 use Rattle.characters.specs.Characters.{between, upper, lower, digit}
 use Rattle.characters.proofs.Words.{between-says, upper-says, lower-says, digit-says}
 use Rattle.reading.specs.Tokens.{Segment}

@@ -1,8 +1,8 @@
 -- All of the statements hold. Assumes nothing.
 use Prim.Native.Nat.{ℕ}
-use mathlib.Core.Path.{_≡_, refl, sym, ap, subst, _∙_}
-use mathlib.Core.Bool.{true, false}
-use mathlib.Core.Logic.{_↔_, _⊎_, ⊎-elim}
+use mathlib.Core.Path.{_≡_, sym, subst, _∙_}
+use mathlib.Core.Bool.{true}
+use mathlib.Core.Logic.{_↔_}
 use mathlib.Core.List.{List, [], _∷_, List·Memᴰ}
 use mathlib.Core.Option.{some, Option·some-injective}
 use Rattle.lists.specs.Lists.{at}
@@ -17,7 +17,8 @@ use Rattle.reading.specs.Trimming.{contentsOf}
 use Rattle.reading.proofs.Words.{read-end, read-separators, read-value, read-released, read-stray, read-last, finished-says, segment-ended, segment-unended, no-segment, start-is, bytes-are, spelled-value, spelled-segment, spelled-list}
 use Rattle.levels.specs.Levels.{levelOf, inLevel}
 use Rattle.levels.proofs.Words.{level-a-says, level-b-says, in-level-says, names-level, level-none}
-use Rattle.segments.proofs.Words.{kinds-are, user-kind, tag-is, tag-says, rule-says, counted}
+use Rattle.segments.specs.declared.Kind.{Kind}
+use Rattle.segments.proofs.Words.{kinds-are, user-kind, tag-is, tag-says, rule-says, counted, behind-interchange, in-group-message, in-message, in-group, between-groups, before-interchange}
 use Rattle.control.proofs.Words.{unb-control, ung-control, unh-control, unt-control, une-control, unz-control, no-control, unt-reference, une-reference, unz-reference, unt-count, une-count, unz-groups, unz-messages, no-trailer, decimal-digits}
 use Rattle.verdict.specs.Contents.{bodyTokens, segmentsOf}
 use Rattle.verdict.specs.Places.{outsideLevel}
@@ -31,8 +32,8 @@ use Rattle.trimming.proofs.Tables.{listed-table, listTable-length}
 use Rattle.forms.proofs.Alike.{control-alike, references-by-contents, counts-by-contents}
 use Rattle.trips.proofs.Numbers.{unrefused}
 use Rattle.trips.proofs.Theorems.{written-unchanged}
-use Rattle.paper_words.specs.Relations.{Usable, Names, LevelA, LevelB}
-use Rattle.paper_words.specs.PaperWords.{ServiceCharacters, Reading, Spelling, BytesToValues, ControlOf, ReferencesOf, CountsOf, ControlElements, NormalForm, Told, ValueLists, PlacesOf, Refusals, PaperWords}
+use Rattle.paper_words.specs.Relations.{Usable, LevelA, LevelB}
+use Rattle.paper_words.specs.PaperWords.{ServiceCharacters, Reading, Spelling, BytesToValues, Stands, ControlOf, ReferencesOf, CountsOf, ControlElements, Told, ValueLists, PlacesOf, PaperWords}
 use Rattle.paper_words.proofs.Writer.{fine-list, write-refused-exactly}
 
 service-characters : ServiceCharacters
@@ -96,6 +97,17 @@ bytes-to-values =
       names-a = λ unb l b n. named-level unb l 2 b LevelA (in-level-says b .0) (names-level unb .0 n);
       names-b = λ unb l b n. named-level unb l 1 b LevelB (in-level-says b .1) (names-level unb .1 n);
       names-none = level-none;
+    }
+
+stands : (past : List Kind) → Stands past
+stands past =
+    record {
+      behind = behind-interchange past;
+      in-group-message = in-group-message past;
+      in-message = in-message past;
+      in-group = in-group past;
+      between-groups = between-groups past;
+      before = before-interchange past;
     }
 
 control-of : (g : Segment) → ControlOf g
@@ -211,6 +223,7 @@ paper-words =
     record {
       service-characters = service-characters;
       bytes-to-values = bytes-to-values;
+      stands = stands;
       control-elements = control-elements;
       normal-form = record { byte-by-byte = form-is };
       told = told;

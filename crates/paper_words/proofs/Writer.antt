@@ -1,6 +1,6 @@
 -- What Write is refused with, by what the paper asks one after the other. Assumes nothing.
-use Prim.Native.Nat.{ℕ, _+_, _*_, _/_, _%_, _≤_, _<_}
-use mathlib.Core.Path.{_≡_, refl, sym, ap, ap₂, subst, _∙_}
+use Prim.Native.Nat.{ℕ, _+_, _/_, _%_, _≤_, _<_}
+use mathlib.Core.Path.{_≡_, refl, sym, ap, subst, _∙_}
 use mathlib.Core.Bool.{_&&_}
 use mathlib.Core.Logic.{_⊎_, inl, inr, ⊎-elim, _↔_}
 use mathlib.Core.List.{List, [], _∷_, List·Memᴰ, List·Memᴰ·head, List·Memᴰ·tail, List·Memᴰ·not-nil, List·Memᴰ·cases-cons, head-eq-of-cons-eq}
@@ -10,8 +10,7 @@ use native.Mathlib.Omega.{arith}
 use lib.Dec.{eqb, leb, ltb}
 use lib.ListN.{length}
 use borrow.Author.Tests.{ltb-false}
-use Rattle.lists.specs.Lists.{at, maybe}
-use Rattle.lists.proofs.Tests.{Says, says-eq, says-le, says-lt, fails, decides}
+use Rattle.lists.proofs.Tests.{says-eq, says-le, says-lt, fails, decides}
 use Rattle.characters.specs.declared.Characters.{Characters}
 use Rattle.characters.specs.Characters.{usable, sixBytes}
 use Rattle.characters.proofs.Words.{six-are}
@@ -19,17 +18,14 @@ use Rattle.refusals.specs.declared.Fault.{Fault}
 use Rattle.refusals.specs.declared.Fault.the-variants.{TooLong, UnusableAdvice, BufferShort, BadList, NeedsRelease}
 use Rattle.refusals.specs.declared.Refusal.{Refusal}
 use Rattle.refusals.specs.Refusals.{number}
-use Rattle.verdict.specs.Places.{tooLong}
 use Rattle.verdict.specs.Stages.{refusalOf}
-use Rattle.verdict.proofs.Words.{one-at}
 use Rattle.answers.specs.Answers.{Answer, given, refused}
 use Rattle.operations.specs.Write.{badList, unusableBytes, needsRelease, writtenText, writeRefusal, write}
-use Rattle.operations.proofs.Words.{At15, At2, At16, At1, At14, fifteen-at, six-says, two-at, sixteen-at, write-fifteen, write-two, write-sixteen, write-one, write-fourteen}
+use Rattle.operations.proofs.Words.{At15, At2, At16, At1, fifteen-at, six-says, two-at, sixteen-at, write-fifteen, write-two, write-sixteen, write-one, write-fourteen}
 use Rattle.trips.proofs.Written.{write-given, write-refused}
-use Rattle.acceptance.specs.Refused.{Refused}
 use Rattle.acceptance.proofs.Stages.{refused-exactly}
 use Rattle.demands.proofs.Buffers.{as-judged}
-use Rattle.paper_words.specs.Relations.{Usable, Record, BadTable, BadRecord, SixUsable, LacksRelease, Nowhere, Lowest}
+use Rattle.paper_words.specs.Relations.{BadTable, BadRecord, SixUsable, LacksRelease, Nowhere, Lowest}
 use Rattle.paper_words.specs.PaperWords.{FineList, WriteRefused, fifteen, two, sixteen, one, fourteen, later}
 
 -- ---- places

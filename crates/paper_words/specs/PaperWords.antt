@@ -21,9 +21,10 @@ use Rattle.reading.specs.Spelling.{Bytes, SegmentList, spellValue, spellSegment
 use Rattle.levels.specs.Levels.{inLevelA, inLevelB, levelOf, inLevel}
 use Rattle.segments.specs.declared.Kind.{Kind}
 use Rattle.segments.specs.declared.Kind.the-variants.{Unb, Ung, Unh, Uns, Unt, Une, Unz, User}
+use Rattle.segments.specs.declared.Standing.the-variants.{BeforeInterchange, BetweenGroups, InGroup, InGroupMessage, InMessage, BehindInterchange}
 use Rattle.segments.specs.Kinds.{kindNamed}
 use Rattle.segments.specs.Tags.{tagPiece, tagOf, kindOf, isTag, tagRule}
-use Rattle.segments.specs.Order.{segmentsIn, messagesIn, groupsIn, allowed, isComplete}
+use Rattle.segments.specs.Order.{segmentsIn, messagesIn, groupsIn, standing, allowed, isComplete}
 use Rattle.control.specs.Control.{controlRule, referenceDiffers, decimal, countWrong}
 use Rattle.verdict.specs.Contents.{bodyTokens, segmentsOf, contents, kindsOf, normalForm}
 use Rattle.verdict.specs.Places.{tooLong, unusableAdvice, noOpening, strayReleases, unendedSegment, brokenTags, foreignLevel, outsideLevel, misplacedSegments, badControls, differingReferences, wrongCounts, normalTooLong}
@@ -40,7 +41,7 @@ use Rattle.operations.specs.Write.{badList, writtenText, write}
 use Rattle.spelling.specs.Bodies.{Shaped}
 use Rattle.trimming.specs.Kinds.{Kinds}
 use Rattle.acceptance.specs.Refused.{Refused}
-use Rattle.paper_words.specs.Relations.{Usable, Service, advised, NoAdvice, BeginsUnb, Unended, LevelA, LevelB, Names, Reference, Count, Nearest, StartsAt, Record, BadTable, BadRecord, SixUsable, LacksRelease, Nowhere, Lowest}
+use Rattle.paper_words.specs.Relations.{Usable, Service, advised, NoAdvice, BeginsUnb, Unended, Open, LevelA, LevelB, Names, Reference, Count, Nearest, StartsAt, Record, BadTable, BadRecord, SixUsable, LacksRelease, Nowhere, Lowest}
 
 -- ---- "Service characters"
 
@@ -147,6 +148,18 @@ pub record BytesToValues : Type 0 where
   -- and where neither is named, with one of our versions, none is read
   pub names-none : (unb : Segment) → (levelOf unb ≡ none) ↔ ((Names (contentsOf unb) 65 → ⊥) × (Names (contentsOf unb) 66 → ⊥))
 
+-- "While it walks, the check knows where it stands: before UNB, between groups, inside a group, or inside a message of a group or of none";
+-- or after UNZ. Between messages of none it stands where it stands between groups.
+pub record Stands (past : List Kind) : Type 0 where
+  pub behind : Open Unz Unb past → standing past ≡ BehindInterchange
+  pub in-group-message : (Open Unz Unb past → ⊥) → Open Unh Unt past → Open Ung Une past → standing past ≡ InGroupMessage
+  pub in-message : (Open Unz Unb past → ⊥) → Open Unh Unt past → (Open Ung Une past → ⊥) → standing past ≡ InMessage
+  pub in-group : (Open Unz Unb past → ⊥) → (Open Unh Unt past → ⊥) → Open Ung Une past → standing past ≡ InGroup
+  pub between-groups : (Open Unz Unb past → ⊥) → (Open Unh Unt past → ⊥) → (Open Ung Une past → ⊥) → Open Unb Unz past
+      → standing past ≡ BetweenGroups
+  pub before : (Open Unz Unb past → ⊥) → (Open Unh Unt past → ⊥) → (Open Ung Une past → ⊥) → (Open Unb Unz past → ⊥)
+      → standing past ≡ BeforeInterchange
+
 -- ---- "Control elements"
 
 -- 10, by kind of segment: where the count and the reference stand
@@ -160,7 +173,7 @@ pub record ControlOf (g : Segment) : Type 0 where
   -- "UNS has neither."
   pub neither : (kindOf g ≡ Uns) ⊎ (kindOf g ≡ User) → controlRule g ≡ true
 
--- 11, of a trailer behind what passed: its reference, and that of its header
+-- 11, of a trailer after what passed: its reference, and that of its header
 pub record ReferencesOf (past : List Segment) (g : Segment) (v w : List ℕ) (own : at (contentsOf g) 2 ≡ some (v ∷ [])) : Type 0 where
   pub unt : kindOf g ≡ Unt → (n : Nearest Unh past) → at (contentsOf (n .1)) 1 ≡ some (w ∷ [])
       → (referenceDiffers past g ≡ true) ↔ (v ≡ w → ⊥)
@@ -169,7 +182,7 @@ pub record ReferencesOf (past : List Segment) (g : Segment) (v w : List ℕ) (ow
   pub unz : kindOf g ≡ Unz → (n : Nearest Unb past) → at (contentsOf (n .1)) 5 ≡ some (w ∷ [])
       → (referenceDiffers past g ≡ true) ↔ (v ≡ w → ⊥)
 
--- 12, of a trailer behind what passed: its count, and the true one
+-- 12, of a trailer after what passed: its count, and the true one
 pub record CountsOf (past : List Segment) (g : Segment) (v : List ℕ) (own : at (contentsOf g) 1 ≡ some (v ∷ [])) : Type 0 where
   -- "UNT's count is the segments from UNH to UNT, both included"
   pub unt : kindOf g ≡ Unt → (n : Nearest Unh past) → (countWrong past g ≡ true) ↔ (decimal v ≡ length (n .0) + 2 → ⊥)
@@ -409,6 +422,7 @@ pub record Refusals : Type 0 where
 pub record PaperWords : Type 0 where
   pub service-characters : ServiceCharacters
   pub bytes-to-values : BytesToValues
+  pub stands : (past : List Kind) → Stands past
   pub control-elements : ControlElements
   pub normal-form : NormalForm
   pub told : (r : Refusal) → Told r

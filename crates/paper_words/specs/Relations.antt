@@ -59,6 +59,14 @@ BeginsUnb s b = (rest : List ℕ) × (s ≡ 85 ∷ 78 ∷ 66 ∷ b ∷ rest)
 abbrev pub Unended : List Token → Type 0
 Unended ts = (q : ℕ) → List·Memᴰ (separator 0 q) ts → ⊥
 
+-- of the kinds that passed, the nearest first: the header passed, and since then neither it nor its trailer
+abbrev pub Open : Kind → Kind → List Kind → Type 0
+Open header trailer past =
+    (nearer : List Kind)
+    × (farther : List Kind)
+    × (past ≡ nearer ++ header ∷ farther)
+    × ((kind : Kind) → List·Memᴰ kind nearer → (kind ≡ header → ⊥) × (kind ≡ trailer → ⊥))
+
 -- "Level A: `A`-`Z`, `0`-`9`, space and `. , - ( ) / = ' + : ? ! " % & * ; < >`": as byte values
 abbrev pub LevelA : ℕ → Type 0
 LevelA b = ((32 ≤ b) × (b ≤ 34)) ⊎ ((37 ≤ b) × (b ≤ 63)) ⊎ ((65 ≤ b) × (b ≤ 90))

@@ -1,10 +1,10 @@
 -- How bytes are read, byte by byte, and where a segment, an element and a value end. Assumes nothing.
 use Prim.Native.Nat.{ℕ, _+_, _≤_}
-use mathlib.Core.Path.{_≡_, refl, sym, ap, ap₂, _∙_}
-use mathlib.Core.Bool.{Bool, true, false, not, _&&_, true≢false, false≢true}
+use mathlib.Core.Path.{_≡_, refl, sym, ap, _∙_}
+use mathlib.Core.Bool.{true, false, not, false≢true}
 use mathlib.Core.List.{List, [], _∷_, _++_, append-nil, append-assoc, nil≢cons, cons≢nil, head-eq-of-cons-eq, List·Memᴰ, Memᴰ·cast}
 use mathlib.Core.Option.{none, some}
-use mathlib.Core.Logic.{_⊎_, inl, inr, ⊎-elim, _↔_}
+use mathlib.Core.Logic.{_⊎_, ⊎-elim}
 use native.Mathlib.Omega.{arith}
 use borrow.Author.Tests.{leb-true, le-leb}
 use Rattle.lists.specs.Lists.{isEmpty, through, at, lastOr, cut, behind, joined, gather, maybe, all}
@@ -14,7 +14,7 @@ use Rattle.characters.specs.declared.Characters.{Characters}
 use Rattle.characters.specs.declared.Role.{Role}
 use Rattle.characters.specs.declared.Role.the-variants.{Separator, Release, Plain}
 use Rattle.characters.specs.Characters.{isService, role}
-use Rattle.characters.proofs.Words.{Usable, service-says, terminator-role, element-role, component-role, release-role, plain-role, service-role}
+use Rattle.characters.proofs.Words.{Usable, terminator-role, element-role, component-role, release-role, plain-role, service-role}
 use Rattle.reading.specs.Tokens.{Token, byte, separator, fault, unreleased, releasing, taken, tokensFrom, tokens, ends, placeOf, Segment, segments, start}
 use Rattle.reading.specs.Values.{byteOf, bytesOf, isFault, endedBy, endsInside, finished}
 use Rattle.reading.specs.Trimming.{valueAt}
@@ -186,7 +186,7 @@ unfolding tokens tokensFrom start placeOf taken unreleased releasing
 start-tokens c place [] h = absurd (h refl)
 start-tokens c place (b ∷ bs) h = step (role c b) (after bs)
   where
-    -- behind a release character
+    -- after a release character
     after : (more : List ℕ) → start (tokensFrom c (some place) (place + 1) more) ≡ place
     after [] = refl
     after (d ∷ ds) = taking (role c d)

@@ -1,7 +1,7 @@
 -- What the definitions say in numbers: the number of each refusal, and which of two is lower. Assumes nothing.
 use Prim.Native.Nat.{ℕ, _≤_, _<_}
-use mathlib.Core.Path.{_≡_, refl, sym, ap, subst}
-use mathlib.Core.Bool.{Bool, true, false, _&&_, _||_, false≢true}
+use mathlib.Core.Path.{_≡_, refl, ap}
+use mathlib.Core.Bool.{Bool, true, false, _&&_, false≢true}
 use mathlib.Core.List.{List, [], _∷_, map, List·Memᴰ, List·Memᴰ·head, List·Memᴰ·not-nil, List·Memᴰ·eq-of-singleton}
 use mathlib.Core.Option.{Option, none, some}
 use mathlib.Core.Logic.{_⊎_, ⊎-elim, _↔_}
@@ -42,7 +42,7 @@ unfolding placeIf
 place-says true p q s = (λ m. (s .0 refl, List·Memᴰ·eq-of-singleton m), λ h. List·Memᴰ·head (h .1))
 place-says false p q s = (λ m. absurd (List·Memᴰ·not-nil m), λ h. absurd (false≢true (s .1 (h .0))))
 
--- what a stage comes to
+-- what a stage answers, as an outcome
 pub outcome-is : (f : Fault) (p : ℕ)
     → (outcome none ≡ Passed)
     × (outcome (some (record { fault = f; place = p })) ≡ Failed (record { fault = f; place = p }))

@@ -1,16 +1,15 @@
--- What the definitions say in the paper's letters: the tags by their bytes, and what is counted. Assumes nothing.
+-- What the definitions say in the paper's letters: the tags by their bytes, what is counted, and where the check stands. Assumes nothing.
 use Prim.Native.Nat.{ℕ, _+_, _≤_}
 use mathlib.Core.Path.{_≡_, refl, sym, ap, _∙_}
-use mathlib.Core.Bool.{Bool, true, false, not, _&&_, _||_}
-use mathlib.Core.List.{List, [], _∷_, _++_, map, List·Memᴰ, List·Memᴰ·head, List·Memᴰ·tail, Memᴰ·cast}
-use mathlib.Core.Logic.{_⊎_, _↔_}
+use mathlib.Core.Bool.{Bool, true, false, not, _&&_, _||_, false≢true}
+use mathlib.Core.List.{List, [], _∷_, _++_, List·Memᴰ, List·Memᴰ·head, List·Memᴰ·tail, List·Memᴰ·not-nil, Memᴰ·cast, nil≢cons, head-eq-of-cons-eq, tail-eq-of-cons-eq}
+use mathlib.Core.Logic.{_⊎_}
 use native.Mathlib.Omega.{arith}
 use lib.Dec.{eqb}
 use lib.ListN.{length, getD, length-append}
 use borrow.Author.Tests.{eqb-true, eq-eqb}
 use Rattle.lists.specs.Lists.{if_then_else_, text, same, begins, all, those}
-use Rattle.lists.proofs.Texts.{if-false}
-use Rattle.lists.proofs.Tests.{Says, says-eq, says-both, says-either, says-not, says-same, says-begins, says-as, says-all, fails, through-is}
+use Rattle.lists.proofs.Tests.{Says, says-eq, says-both, says-either, says-not, says-same, says-begins, says-all, fails, through-is}
 use Rattle.characters.specs.Characters.{upper, digit}
 use Rattle.characters.proofs.Words.{upper-says, digit-says}
 use Rattle.reading.specs.Tokens.{Token, separator, Segment, ends}
@@ -18,9 +17,10 @@ use Rattle.reading.specs.Values.{bytesOf, endedBy}
 use Rattle.reading.proofs.Words.{ends-says, ended-says}
 use Rattle.segments.specs.declared.Kind.{Kind}
 use Rattle.segments.specs.declared.Kind.the-variants.{Unb, Ung, Unh, Uns, Unt, Une, Unz, User}
+use Rattle.segments.specs.declared.Standing.the-variants.{BeforeInterchange, BetweenGroups, InGroup, InGroupMessage, InMessage, BehindInterchange}
 use Rattle.segments.specs.Kinds.{index, is, kindNamed}
 use Rattle.segments.specs.Tags.{tagPiece, tagOf, kindOf, isTag, tagRule}
-use Rattle.segments.specs.Order.{segmentsIn, messagesIn, groupsIn, segmentsSinceHeader, messagesSinceGroup}
+use Rattle.segments.specs.Order.{segmentsIn, messagesIn, groupsIn, segmentsSinceHeader, messagesSinceGroup, isOpen, standing, walkOver}
 
 -- ---- tags
 
@@ -157,3 +157,99 @@ module _ (nearer farther : List Kind) where
               ≡ length (if t then k ∷ those (is Unh) ks else those (is Unh) ks)
           step true e = omega arith
           step false e = e
+
+-- ---- where the check stands
+
+-- what the header opened is not closed yet: it passed, and since then neither it nor its trailer
+abbrev pub Open : Kind → Kind → List Kind → Type 0
+Open header trailer past =
+    (nearer : List Kind)
+    × (farther : List Kind)
+    × (past ≡ nearer ++ header ∷ farther)
+    × ((kind : Kind) → List·Memᴰ kind nearer → (kind ≡ header → ⊥) × (kind ≡ trailer → ⊥))
+
+pub open-says : (header trailer : Kind) (past : List Kind) → Says (isOpen header trailer past) (Open header trailer past)
+unfolding isOpen
+open-says header trailer [] = (λ h. absurd (false≢true h), λ h. absurd (nothing (h .0) (h .1) (h .2)))
+  where
+    nothing : (nearer farther : List Kind) → [] ≡ nearer ++ header ∷ farther → ⊥
+    nothing [] farther e = nil≢cons e
+    nothing (k ∷ nearer) farther e = nil≢cons e
+open-says header trailer (kind ∷ past) =
+    step (is header kind) (is-says header kind) (is trailer kind) (is-says trailer kind) (open-says header trailer past)
+  where
+    -- the nearest is another one
+    onward : (kind ≡ header → ⊥) → Open header trailer (kind ∷ past) → (kind ≡ trailer → ⊥) × Open header trailer past
+    onward other ([], farther, e, h) = absurd (other (head-eq-of-cons-eq e))
+    onward other (k ∷ nearer, farther, e, h) =
+        let same : kind ≡ k = head-eq-of-cons-eq e in (
+          λ q. h k (List·Memᴰ·head refl) .1 (sym same ∙ q),
+          (nearer, farther, tail-eq-of-cons-eq e, λ j m. h j (List·Memᴰ·tail m)),
+        )
+
+    step : (b : Bool) → Says b (kind ≡ header) → (d : Bool) → Says d (kind ≡ trailer)
+        → Says (isOpen header trailer past) (Open header trailer past)
+        → Says (if b then true else if d then false else isOpen header trailer past) (Open header trailer (kind ∷ past))
+    step true b d t rest = (
+      λ e. ([], past, ap (λ (k : Kind). k ∷ past) (b .0 refl), λ k m. absurd (List·Memᴰ·not-nil m)),
+      λ h. refl,
+    )
+    step false b true t rest =
+        (λ e. absurd (false≢true e), λ h. absurd (onward (fails false b .0 refl) h .0 (t .0 refl)))
+    step false b false t rest = (
+      λ e.
+          let (nearer, farther, parts, h) = rest .0 e in
+          (kind ∷ nearer, farther, ap (λ (l : List Kind). kind ∷ l) parts, closer nearer h),
+      λ h. rest .1 (onward (fails false b .0 refl) h .1),
+    )
+      where
+        closer : (nearer : List Kind) → ((k : Kind) → List·Memᴰ k nearer → (k ≡ header → ⊥) × (k ≡ trailer → ⊥))
+            → (k : Kind) → List·Memᴰ k (kind ∷ nearer) → (k ≡ header → ⊥) × (k ≡ trailer → ⊥)
+        closer nearer h k (List·Memᴰ·head e) = (λ q. fails false b .0 refl (sym e ∙ q), λ q. fails false t .0 refl (sym e ∙ q))
+        closer nearer h k (List·Memᴰ·tail m) = h k m
+
+-- "before UNB, between groups, inside a group, or inside a message of a group or of none"; or after UNZ
+module _ (past : List Kind) where
+  opened : (header trailer : Kind) → Open header trailer past → isOpen header trailer past ≡ true
+  opened header trailer = open-says header trailer past .1
+
+  unopened : (header trailer : Kind) → (Open header trailer past → ⊥) → isOpen header trailer past ≡ false
+  unopened header trailer = fails (isOpen header trailer past) (open-says header trailer past) .1
+
+  pub behind-interchange : Open Unz Unb past → standing past ≡ BehindInterchange
+  unfolding standing
+  behind-interchange z = rw (opened Unz Unb z)
+
+  module _ (z : Open Unz Unb past → ⊥) where
+    pub in-group-message : Open Unh Unt past → Open Ung Une past → standing past ≡ InGroupMessage
+    unfolding standing
+    in-group-message h g = rw (unopened Unz Unb z, opened Unh Unt h, opened Ung Une g)
+
+    pub in-message : Open Unh Unt past → (Open Ung Une past → ⊥) → standing past ≡ InMessage
+    unfolding standing
+    in-message h g = rw (unopened Unz Unb z, opened Unh Unt h, unopened Ung Une g)
+
+    module _ (h : Open Unh Unt past → ⊥) where
+      pub in-group : Open Ung Une past → standing past ≡ InGroup
+      unfolding standing
+      in-group g = rw (unopened Unz Unb z, unopened Unh Unt h, opened Ung Une g)
+
+      module _ (g : Open Ung Une past → ⊥) where
+        pub between-groups : Open Unb Unz past → standing past ≡ BetweenGroups
+        unfolding standing
+        between-groups b = rw (unopened Unz Unb z, unopened Unh Unt h, unopened Ung Une g, opened Unb Unz b)
+
+        pub before-interchange : (Open Unb Unz past → ⊥) → standing past ≡ BeforeInterchange
+        unfolding standing
+        before-interchange b = rw (unopened Unz Unb z, unopened Unh Unt h, unopened Ung Une g, unopened Unb Unz b)
+
+-- what the walk's struct holds
+pub walk-is : (past : List Kind) → let walk = walkOver past in
+    (walk .standing ≡ standing past)
+    × (walk .segments .0 ≡ segmentsIn past)
+    × (walk .messages .0 ≡ messagesIn past)
+    × (walk .groups .0 ≡ groupsIn past)
+    × (walk .in_message .0 ≡ segmentsSinceHeader past)
+    × (walk .in_group .0 ≡ messagesSinceGroup past)
+unfolding walkOver
+walk-is past = (refl, refl, refl, refl, refl, refl)

@@ -1,28 +1,28 @@
 -- The places at which an input meets each of 1 to 13, and the normal form byte by byte. Assumes nothing.
 use Prim.Native.Nat.{ℕ, _<_}
-use mathlib.Core.Path.{_≡_, refl, sym, ap, subst, _∙_}
+use mathlib.Core.Path.{_≡_, refl, sym, ap, _∙_}
 use mathlib.Core.Bool.{Bool, true, false, not, _&&_}
-use mathlib.Core.List.{List, [], _∷_, _++_, map, reverseAux, nil≢cons, head-eq-of-cons-eq, tail-eq-of-cons-eq, List·Memᴰ, List·Memᴰ·head, List·Memᴰ·tail, List·Memᴰ·not-nil, List·Memᴰ·eq-of-singleton, List·Memᴰ·append-cases, Memᴰ·append-left, Memᴰ·append-right, Memᴰ·cast}
+use mathlib.Core.List.{List, [], _∷_, _++_, map, reverseAux, nil≢cons, head-eq-of-cons-eq, tail-eq-of-cons-eq, List·Memᴰ, List·Memᴰ·head, List·Memᴰ·not-nil, List·Memᴰ·eq-of-singleton, List·Memᴰ·append-cases, Memᴰ·append-left, Memᴰ·append-right, Memᴰ·cast}
 use mathlib.Core.Option.{Option, none, some, Option·some-ne-none}
 use mathlib.Core.Logic.{_⊎_, inl, inr, ⊎-elim, _↔_}
 use native.Mathlib.Omega.{arith}
 use lib.Dec.{ltb}
 use borrow.Author.Tests.{not-true}
 use lib.ListN.{length}
-use Rattle.lists.specs.Lists.{gather, at, maybe}
-use Rattle.lists.proofs.Tests.{Says, says-lt, says-both, says-not, says-as, fails, gathered}
+use Rattle.lists.specs.Lists.{at, maybe}
+use Rattle.lists.proofs.Tests.{Says, says-lt, says-not, fails, gathered}
 use Rattle.characters.specs.declared.Characters.{Characters}
 use Rattle.characters.specs.Characters.{sixBytes, spelledOut, adviceOf, charactersOf, bodyStart, body, badAdvice, opens}
 use Rattle.characters.proofs.Words.{Usable, advising, advised-opening, advised-bad, advised-opens, short-bad, plain-opening, plain-opens}
 use Rattle.refusals.specs.Refusals.{placeIf}
 use Rattle.refusals.proofs.Words.{place-says}
-use Rattle.reading.specs.Tokens.{Token, byte, separator, fault, Segment, placeOf, start, tokens, segments}
+use Rattle.reading.specs.Tokens.{Token, byte, separator, fault, Segment, placeOf, start, segments}
 use Rattle.reading.specs.Values.{isFault, finished, endsInside}
 use Rattle.reading.specs.Trimming.{contentsOf}
 use Rattle.reading.specs.Spelling.{spell}
 use Rattle.reading.proofs.Words.{fault-says, inside-says, no-segment, start-tokens, start-first}
 use Rattle.levels.specs.Levels.{levelOf, inLevel}
-use Rattle.levels.proofs.Words.{LevelA, LevelB, in-level-says, Names, names-level, level-none}
+use Rattle.levels.proofs.Words.{Names, level-none}
 use Rattle.segments.specs.Tags.{kindOf, tagRule}
 use Rattle.segments.specs.Order.{allowed, isComplete}
 use Rattle.control.specs.Control.{controlRule, referenceDiffers, countWrong}
