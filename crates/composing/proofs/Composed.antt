@@ -5,17 +5,17 @@ use mathlib.Core.List.{List, [], _∷_, _++_, map, append-assoc}
 use Rattle.lists.specs.Lists.{if_then_else_, gather}
 use Rattle.characters.specs.declared.Characters.{Characters}
 use Rattle.characters.specs.Characters.{adviceOf, spelledOut}
-use Rattle.reading.specs.Tokens.{Token, separator}
-use Rattle.reading.specs.Spelling.{Bytes, spellByte, spellValue, spell}
-use Rattle.verdict.specs.Contents.{interchange}
-use Rattle.emission.specs.Emission.{letOut, emitted}
-use Rattle.emission.proofs.Spelled.{spelled-emitted}
+use Rattle.values.specs.Tokens.{Token, separator}
+use Rattle.values.specs.Spelling.{Bytes, spellByte, spellValue, spell}
+use Rattle.stages.specs.Contents.{interchange}
+use Rattle.emission_laws.specs.Emission.{letOut, emitted}
+use Rattle.emission_laws.proofs.Spelled.{spelled-emitted}
 use Rattle.emitting.proofs.Putting.{let-out-append}
-use Rattle.measuring.specs.declared.Measure.{Measure}
-use Rattle.measuring.specs.Measure.{behindSeparator}
-use Rattle.measuring.proofs.Steps.{by-separator}
+use Rattle.stage_length.specs.declared.Measure.{Measure}
+use Rattle.stage_length.specs.Measure.{behindSeparator}
+use Rattle.stage_length.proofs.Steps.{by-separator}
 use Rattle.operations.specs.ValueList.{Item, closed, segmentsListed, trimList}
-use Rattle.trimming.specs.Kinds.{firstKind}
+use Rattle.trimming_laws.specs.Kinds.{firstKind}
 use Rattle.composing.specs.Composing.{firstMeasure, endText, valueText, behindValue, behindItem, itemText, composed, adviceFront, composedText}
 use Rattle.composing.proofs.Tokens.{valueByte, endKind, itemTokens, tokensBehind, item-tokens, contents-listed, tokens-whole, tokens-known}
 

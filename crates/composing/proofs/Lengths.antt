@@ -11,12 +11,12 @@ use Rattle.lists.specs.Lists.{if_then_else_, gather}
 use Rattle.lists.proofs.Texts.{if-true}
 use Rattle.lists.proofs.Numbers.{drop-next}
 use Rattle.characters.specs.declared.Characters.{Characters}
-use Rattle.reading.specs.Spelling.{Bytes, spellByte, spellValue}
-use Rattle.emission.proofs.Cases.{by-spelling}
+use Rattle.values.specs.Spelling.{Bytes, spellByte, spellValue}
+use Rattle.emission_laws.proofs.Cases.{by-spelling}
 use Rattle.emitting.proofs.Putting.{let-out-length}
-use Rattle.measuring.specs.declared.Measure.{Measure}
-use Rattle.measuring.specs.Measure.{behindSeparator}
-use Rattle.measuring.proofs.Steps.{by-separator}
+use Rattle.stage_length.specs.declared.Measure.{Measure}
+use Rattle.stage_length.specs.Measure.{behindSeparator}
+use Rattle.stage_length.proofs.Steps.{by-separator}
 use Rattle.operations.specs.ValueList.{Item, Entry, valueIn, listedIn}
 use Rattle.value_lists.specs.declared.Record.{Record}
 use Rattle.value_lists.specs.Records.{entryOf, recordAt}

@@ -10,11 +10,11 @@ use borrow.Author.Tests.{le-leb, lt-leb}
 use Rattle.lists.proofs.Texts.{if-true, if-false}
 use Rattle.characters.specs.declared.Characters.{Characters}
 use Rattle.characters.specs.Characters.{adviceOf, spelledOut}
-use Rattle.reading.specs.Spelling.{Bytes, spellValue}
+use Rattle.values.specs.Spelling.{Bytes, spellValue}
 use Rattle.storing.proofs.Stores.{sets-append}
 use Rattle.emitting.proofs.Putting.{Goes, goes-step, front-fits, put-let-out, let-out-length, stored-length}
-use Rattle.measuring.specs.declared.Measure.{Measure}
-use Rattle.measuring.specs.Measure.{behindSeparator}
+use Rattle.stage_length.specs.declared.Measure.{Measure}
+use Rattle.stage_length.specs.Measure.{behindSeparator}
 use Rattle.operations.specs.ValueList.{Item}
 use Rattle.composing.specs.Composing.{firstMeasure, endText, valueText, behindValue, behindItem, itemText, composed, adviceFront, composedText}
 use Rattle.composing.proofs.Lengths.{kind-moves, item-moves, composed-next, composed-end, length-start}

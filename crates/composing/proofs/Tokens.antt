@@ -11,15 +11,15 @@ use borrow.Author.Tests.{not-true, leb-true, le-leb}
 use Rattle.lists.specs.Lists.{if_then_else_, isEmpty, all, lastOr, onto, cut, gather}
 use Rattle.lists.proofs.Texts.{and-left, and-right}
 use Rattle.lists.proofs.Pieces.{None}
-use Rattle.reading.specs.Tokens.{Token, byte, separator, ends, segments}
-use Rattle.reading.specs.Values.{byteOf, bytesOf, valueOf, valuesOf, elementsOf, endedBy, endsInside}
-use Rattle.reading.specs.Trimming.{trimSegment, contentsOf}
-use Rattle.reading.specs.Spelling.{Bytes}
-use Rattle.emission.proofs.Cases.{known}
+use Rattle.values.specs.Tokens.{Token, byte, separator, ends, segments}
+use Rattle.values.specs.Values.{byteOf, bytesOf, valueOf, valuesOf, elementsOf, endedBy, endsInside}
+use Rattle.values.specs.Trimming.{trimSegment, contentsOf}
+use Rattle.values.specs.Spelling.{Bytes}
+use Rattle.emission_laws.proofs.Cases.{known}
 use Rattle.operations.specs.ValueList.{Item, closed, closes, elementsListed, segmentsListed, trimList}
-use Rattle.spelling.specs.Bodies.{wordsOf}
-use Rattle.trimming.specs.Kinds.{firstKind}
-use Rattle.forms.proofs.Trimmed.{contents-words}
+use Rattle.spelling_laws.specs.Bodies.{wordsOf}
+use Rattle.trimming_laws.specs.Kinds.{firstKind}
+use Rattle.normal_form_laws.proofs.Trimmed.{contents-words}
 
 -- ---- a list cut, where each of its parts may end a piece
 

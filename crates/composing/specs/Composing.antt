@@ -6,10 +6,10 @@ use lib.Dec.{leb, ltb}
 use lib.ListN.{length}
 use Rattle.lists.specs.Lists.{if_then_else_, text}
 use Rattle.characters.specs.declared.Characters.{Characters}
-use Rattle.reading.specs.Spelling.{Bytes, spellValue}
-use Rattle.emission.specs.Emission.{letOut}
-use Rattle.measuring.specs.declared.Measure.{Measure}
-use Rattle.measuring.specs.Measure.{behindSeparator}
+use Rattle.values.specs.Spelling.{Bytes, spellValue}
+use Rattle.emission_laws.specs.Emission.{letOut}
+use Rattle.stage_length.specs.declared.Measure.{Measure}
+use Rattle.stage_length.specs.Measure.{behindSeparator}
 use Rattle.operations.specs.ValueList.{Item, valueIn}
 use Rattle.value_lists.specs.declared.Record.{Record}
 use Rattle.value_lists.specs.Records.{entryOf}

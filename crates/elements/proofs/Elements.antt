@@ -13,9 +13,9 @@ use Rattle.lists.proofs.Texts.{if-true, if-false}
 use Rattle.lists.proofs.Numbers.{drop-nothing, at-drop}
 use Rattle.lists.proofs.Pieces.{drop-onto}
 use Rattle.characters.specs.declared.Characters.{Characters}
-use Rattle.reading.specs.Tokens.{Token, byte, separator, fault, ends, tokensAt}
-use Rattle.reading.specs.Values.{byteOf, bytesOf}
-use Rattle.reading.proofs.Ends.{pieces-first}
+use Rattle.values.specs.Tokens.{Token, byte, separator, fault, ends, tokensAt}
+use Rattle.values.specs.Values.{byteOf, bytesOf}
+use Rattle.values.proofs.Ends.{pieces-first}
 use Rattle.scanner.specs.Scan.{segmentAt}
 use Rattle.elements.specs.Elements.{pieceFrom, firstPiece, holdsByte, ElementAt}
 

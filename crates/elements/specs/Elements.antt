@@ -7,8 +7,8 @@ use mathlib.Core.Option.{Option, none, some}
 use lib.ListN.{length}
 use Rattle.lists.specs.Lists.{if_then_else_, isEmpty, through}
 use Rattle.characters.specs.declared.Characters.{Characters}
-use Rattle.reading.specs.Tokens.{Token, ends, tokensAt}
-use Rattle.reading.specs.Values.{bytesOf}
+use Rattle.values.specs.Tokens.{Token, ends, tokensAt}
+use Rattle.values.specs.Values.{bytesOf}
 
 module _ {A : Type 0} where
   -- what follows that many smaller pieces of the larger piece that the list begins with; nothing where it ends before

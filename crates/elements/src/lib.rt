@@ -1,9 +1,9 @@
 // Pieces where they are spelled: at which place an element of a segment, or a component of an element,
-// begins; and whether a byte of a value stands in a piece. It promises the pieces into which `reading`
+// begins; and whether a byte of a value stands in a piece. It promises the pieces into which `values`
 // cuts the larger piece, by their numbers.
 ghost use Prim.Native.Nat.{_<_};
 ghost use mathlib.Core.Path.{_≡_};
-ghost use Rattle.reading.specs.Tokens.{tokensAt};
+ghost use Rattle.values.specs.Tokens.{tokensAt};
 ghost use Rattle.elements.specs.Elements.{PieceAt, ElementAt, holdsByte};
 use characters::Characters;
 use scanner::Lexed;

@@ -12,13 +12,13 @@ use lib.ListN.{length, set, replicate, length-append, length-replicate}
 use lib.Seq.{sets, length-sets}
 use Rattle.characters.specs.declared.Characters.{Characters}
 use Rattle.characters.specs.Characters.{sixBytes, isService, serviceCharacters, released}
-use Rattle.reading.specs.Spelling.{spellByte}
-use Rattle.verdict.specs.Contents.{normalCharacters}
-use Rattle.reading.specs.Tokens.{Token, byte, separator, fault}
-use Rattle.emission.specs.Emission.{letOut, emitted}
-use Rattle.measuring.specs.declared.Measure.{Measure}
-use Rattle.measuring.specs.Measure.{width, behindByte, behindSeparator}
-use Rattle.measuring.proofs.Steps.{by-separator}
+use Rattle.values.specs.Spelling.{spellByte}
+use Rattle.stages.specs.Contents.{normalCharacters}
+use Rattle.values.specs.Tokens.{Token, byte, separator, fault}
+use Rattle.emission_laws.specs.Emission.{letOut, emitted}
+use Rattle.stage_length.specs.declared.Measure.{Measure}
+use Rattle.stage_length.specs.Measure.{width, behindByte, behindSeparator}
+use Rattle.stage_length.proofs.Steps.{by-separator}
 use Rattle.emitting.specs.Emitting.{endText, emittedFrom}
 use Rattle.storing.proofs.Stores.{sets-append}
 

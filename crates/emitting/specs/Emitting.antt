@@ -3,10 +3,10 @@ use Prim.Native.Nat.{ℕ}
 use mathlib.Core.List.{List, [], _∷_}
 use lib.Dec.{leb}
 use Rattle.lists.specs.Lists.{if_then_else_}
-use Rattle.reading.specs.Tokens.{Token}
-use Rattle.verdict.specs.Contents.{normalCharacters}
-use Rattle.emission.specs.Emission.{emitted}
-use Rattle.measuring.specs.declared.Measure.{Measure}
+use Rattle.values.specs.Tokens.{Token}
+use Rattle.stages.specs.Contents.{normalCharacters}
+use Rattle.emission_laws.specs.Emission.{emitted}
+use Rattle.stage_length.specs.declared.Measure.{Measure}
 
 -- a terminator, and nothing for another separator
 unfoldable pub endText : ℕ → List ℕ

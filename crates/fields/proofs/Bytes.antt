@@ -14,7 +14,7 @@ use lib.Dec.{ltb}
 use borrow.Author.Tests.{ltb-true, ltb-false}
 use Rattle.lists.specs.Lists.{if_then_else_, all}
 use Rattle.characters.specs.Characters.{digit}
-use Rattle.control.specs.Control.{decimal, decimalFrom}
+use Rattle.control_elements.specs.Control.{decimal, decimalFrom}
 use Rattle.fields.specs.declared.Field.{Field}
 use Rattle.fields.specs.Fields.{fieldWith}
 use Rattle.fields.specs.Reading.{ceiling, withDigit, withByte, withBytes, noBytes}

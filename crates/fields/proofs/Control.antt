@@ -14,10 +14,10 @@ use Rattle.lists.proofs.Texts.{and-left, and-right}
 use Rattle.lists.proofs.Numbers.{at-map, at-trimEnd}
 use Rattle.characters.specs.declared.Characters.{Characters}
 use Rattle.characters.specs.Characters.{between, digit}
-use Rattle.reading.specs.Tokens.{Token, ends, tokensAt}
-use Rattle.reading.specs.Values.{Value, bytesOf, valueOf, valuesOf, elementsOf}
-use Rattle.reading.specs.Trimming.{trimElement, isIdle, trimSegment, isBlank, trimmed, contentsOf}
-use Rattle.control.specs.Control.{single, controlElement, isReference, isCount, sameValue, decimal}
+use Rattle.values.specs.Tokens.{Token, ends, tokensAt}
+use Rattle.values.specs.Values.{Value, bytesOf, valueOf, valuesOf, elementsOf}
+use Rattle.values.specs.Trimming.{trimElement, isIdle, trimSegment, isBlank, trimmed, contentsOf}
+use Rattle.control_elements.specs.Control.{single, controlElement, isReference, isCount, sameValue, decimal}
 use Rattle.scanner.specs.Scan.{segmentAt}
 use Rattle.elements.specs.Elements.{elementFrom, firstPiece, ElementAt}
 use Rattle.elements.proofs.Elements.{piece-number}

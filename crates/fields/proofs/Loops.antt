@@ -7,7 +7,7 @@ use native.Mathlib.Omega.{arith}
 use borrow.Author.Tests.{eq-eqb, ne-eqb}
 use Rattle.lists.specs.Lists.{same}
 use Rattle.characters.specs.declared.Characters.{Characters}
-use Rattle.reading.specs.Tokens.{tokensAt}
+use Rattle.values.specs.Tokens.{tokensAt}
 use Rattle.fields.specs.declared.Field.{Field}
 use Rattle.fields.specs.declared.NextByte.{NextByte}
 use Rattle.fields.specs.declared.NextByte.the-variants.{Byte, Ended}

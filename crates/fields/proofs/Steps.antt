@@ -8,8 +8,8 @@ use lib.Dec.{leb}
 use borrow.Author.Tests.{le-leb}
 use Rattle.lists.specs.Lists.{if_then_else_, through, gather}
 use Rattle.characters.specs.declared.Characters.{Characters}
-use Rattle.reading.specs.Tokens.{separator, ends, tokensAt}
-use Rattle.reading.specs.Values.{byteOf, bytesOf}
+use Rattle.values.specs.Tokens.{separator, ends, tokensAt}
+use Rattle.values.specs.Values.{byteOf, bytesOf}
 use Rattle.scanner.specs.declared.Lexed.the-variants as lexed
 use Rattle.scanner.proofs.Lexing.{Lexes}
 use Rattle.fields.specs.declared.NextByte.{NextByte}

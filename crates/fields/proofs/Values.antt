@@ -7,9 +7,9 @@ use lib.Dec.{leb, lit≤}
 use borrow.Author.Tests.{lt-leb, leb-false}
 use Rattle.lists.specs.Lists.{if_then_else_, isEmpty, all, through, cut, gather, beyond}
 use Rattle.lists.proofs.Pieces.{gather-cut}
-use Rattle.reading.specs.Tokens.{Token, byte, separator, fault, ends}
-use Rattle.reading.specs.Values.{byteOf, bytesOf}
-use Rattle.reading.proofs.Ends.{pieces-first}
+use Rattle.values.specs.Tokens.{Token, byte, separator, fault, ends}
+use Rattle.values.specs.Values.{byteOf, bytesOf}
+use Rattle.values.proofs.Ends.{pieces-first}
 use Rattle.fields.specs.Fields.{valuesIn, valueIn, blankIn, fieldWith, fieldIn, fieldOf}
 use Rattle.fields.specs.Reading.{valueEnd}
 

@@ -5,9 +5,9 @@ use mathlib.Core.List.{List, [], _∷_, map}
 use lib.ListN.{length, take}
 use Rattle.lists.specs.Lists.{isEmpty, all, through, cut}
 use Rattle.characters.specs.Characters.{between, digit}
-use Rattle.reading.specs.Tokens.{Token, ends}
-use Rattle.reading.specs.Values.{bytesOf}
-use Rattle.control.specs.Control.{decimal}
+use Rattle.values.specs.Tokens.{Token, ends}
+use Rattle.values.specs.Values.{bytesOf}
+use Rattle.control_elements.specs.Control.{decimal}
 use Rattle.fields.specs.declared.Field.{Field}
 
 -- the values of the element that the tokens begin with

@@ -8,7 +8,7 @@ use lib.Dec.{ltb}
 use Rattle.lists.specs.Lists.{if_then_else_}
 use Rattle.characters.specs.declared.Characters.{Characters}
 use Rattle.characters.specs.Characters.{digit}
-use Rattle.reading.specs.Tokens.{Token, ends, tokensAt}
+use Rattle.values.specs.Tokens.{Token, ends, tokensAt}
 use Rattle.fields.specs.declared.Field.{Field}
 use Rattle.fields.specs.declared.NextByte.{NextByte}
 use Rattle.fields.specs.declared.NextByte.the-variants.{Byte, Ended}

@@ -5,7 +5,7 @@ ghost use mathlib.Core.Path.{_≡_};
 ghost use mathlib.Core.Bool.{_&&_};
 ghost use Rattle.lists.specs.Lists.{same};
 ghost use Rattle.characters.specs.Characters.{between};
-ghost use Rattle.reading.specs.Tokens.{tokensAt};
+ghost use Rattle.values.specs.Tokens.{tokensAt};
 ghost use Rattle.fields.specs.Fields.{valueIn, blankIn, fieldOf, spellsReference, spellsCount};
 ghost use Rattle.fields.specs.Reading.{NextAt, isEnded, Room, withDigit, withByte};
 use characters::Characters;

@@ -6,8 +6,8 @@ use mathlib.Core.Option.{Option, none, some}
 use lib.Dec.{leb}
 use Rattle.lists.specs.Lists.{if_then_else_, text, same, member, maybe}
 use Rattle.characters.specs.Characters.{upper, lower, digit}
-use Rattle.reading.specs.Tokens.{Segment}
-use Rattle.reading.specs.Trimming.{valueAt, contentsOf}
+use Rattle.values.specs.Tokens.{Segment}
+use Rattle.values.specs.Trimming.{valueAt, contentsOf}
 
 -- "Level A: `A`-`Z`, `0`-`9`, space and `. , - ( ) / = ' + : ? ! " % & * ; < >`."
 unfoldable pub inLevelA : ℕ → Bool

@@ -10,10 +10,10 @@ use lib.Seq.{sets, length-sets}
 use borrow.Author.Tests.{le-leb, lt-leb}
 use Rattle.lists.specs.Lists.{gather}
 use Rattle.lists.proofs.Texts.{if-true, if-false}
-use Rattle.reading.specs.Tokens.{Token, byte, separator, fault}
-use Rattle.reading.specs.Values.{byteOf, bytesOf}
+use Rattle.values.specs.Tokens.{Token, byte, separator, fault}
+use Rattle.values.specs.Values.{byteOf, bytesOf}
 use Rattle.operations.specs.ValueList.{Entry}
-use Rattle.emission.specs.Emission.{emitted}
+use Rattle.emission_laws.specs.Emission.{emitted}
 use Rattle.storing.proofs.Stores.{sets-append}
 use Rattle.emitting.proofs.Putting.{Goes, goes-step, front-fits}
 use Rattle.tallying.specs.declared.Listing.{Listing}

@@ -15,9 +15,9 @@ use Rattle.refusals.specs.declared.Fault.the-variants.{BufferShort}
 use Rattle.refusals.specs.declared.Refusal.{Refusal}
 use Rattle.refusals.specs.Refusals.{Stage, met, placeIf, lowerOf, lowest, orElse, answering}
 use Rattle.refusals.proofs.Stages.{answering-append}
-use Rattle.reading.specs.Values.{Value}
-use Rattle.verdict.specs.Contents.{normalForm}
-use Rattle.verdict.specs.Stages.{stages, refusalOf}
+use Rattle.values.specs.Values.{Value}
+use Rattle.stages.specs.Contents.{normalForm}
+use Rattle.stages.specs.Stages.{stages, refusalOf}
 use Rattle.answers.specs.Answers.{given, refused, refusedInput, accepted}
 use Rattle.operations.specs.Judge.{interchangeOf, judge, shortFor, storedIn, unlessRefused, normaliseRefusal, normalise, normaliseBuffer}
 use Rattle.operations.specs.Compare.{areSame, compare}

@@ -11,8 +11,8 @@ use Rattle.refusals.specs.declared.Fault.the-variants.{BufferShort}
 use Rattle.refusals.specs.declared.Refusal.{Refusal}
 use Rattle.refusals.specs.Refusals.{Stage, met, placeIf, answering}
 use Rattle.segments.specs.Order.{segmentsIn, messagesIn, groupsIn}
-use Rattle.verdict.specs.Contents.{kindsOf, normalForm}
-use Rattle.verdict.specs.Stages.{stages, refusalOf}
+use Rattle.stages.specs.Contents.{kindsOf, normalForm}
+use Rattle.stages.specs.Stages.{stages, refusalOf}
 use Rattle.answers.specs.declared.Interchange.{Interchange}
 use Rattle.answers.specs.Answers.{Answer, given, refused, accepted}
 

@@ -5,8 +5,8 @@ use mathlib.Core.List.{List, [], _∷_, _++_, map}
 use lib.ListN.{length, take, drop}
 use lib.Dec.{leb}
 use Rattle.lists.specs.Lists.{cut, gather, isEmpty}
-use Rattle.reading.specs.Trimming.{trimSegment}
-use Rattle.reading.specs.Spelling.{Bytes, SegmentList}
+use Rattle.values.specs.Trimming.{trimSegment}
+use Rattle.values.specs.Spelling.{Bytes, SegmentList}
 
 -- "kind (0 new segment, 1 new element, 2 next component)"
 pub record Item : Type 0 where

@@ -11,9 +11,9 @@ use Rattle.characters.specs.Characters.{sixBytes, usable, released, isService}
 use Rattle.refusals.specs.declared.Fault.the-variants.{TooLong, UnusableAdvice, BadList, NeedsRelease}
 use Rattle.refusals.specs.declared.Refusal.{Refusal}
 use Rattle.refusals.specs.Refusals.{met, placeIf, answering}
-use Rattle.verdict.specs.Contents.{interchange}
-use Rattle.verdict.specs.Places.{tooLong}
-use Rattle.verdict.specs.Stages.{laterStages}
+use Rattle.stages.specs.Contents.{interchange}
+use Rattle.stages.specs.Places.{tooLong}
+use Rattle.stages.specs.Stages.{laterStages}
 use Rattle.answers.specs.Answers.{Answer, given, refused}
 use Rattle.operations.specs.Judge.{shortFor, storedIn, unlessRefused}
 use Rattle.operations.specs.ValueList.{Entry, entries, valueIn, listedIn, segmentsListed, trimList}

@@ -11,7 +11,7 @@ use Rattle.lists.specs.Lists.{cut, beyond}
 use Rattle.lists.proofs.Texts.{if-true, if-false}
 use Rattle.lists.proofs.Numbers.{drop-nothing}
 use Rattle.lists.proofs.Pieces.{cut-first}
-use Rattle.reading.specs.Tokens.{Token, ends}
+use Rattle.values.specs.Tokens.{Token, ends}
 use Rattle.fields.specs.Reading.{valueEnd}
 use Rattle.placing.specs.Placing.{behindPieces}
 

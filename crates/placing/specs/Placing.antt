@@ -6,7 +6,7 @@ use mathlib.Core.List.{List}
 use lib.ListN.{length}
 use Rattle.lists.specs.Lists.{beyond}
 use Rattle.characters.specs.declared.Characters.{Characters}
-use Rattle.reading.specs.Tokens.{ends, tokensAt}
+use Rattle.values.specs.Tokens.{ends, tokensAt}
 use Rattle.elements.specs.Elements.{pieceFrom}
 use Rattle.fields.specs.Reading.{valueEnd}
 

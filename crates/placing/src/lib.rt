@@ -1,5 +1,5 @@
 // Places by number: where a segment, or a component of an element, begins; where a value ends. It
-// promises the pieces into which `reading` cuts the tokens. What trimming leaves of them is left to
+// promises the pieces into which `values` cuts the tokens. What trimming leaves of them is left to
 // others.
 ghost use Rattle.placing.specs.Placing.{SegmentAt, ComponentAt, EndsAt};
 use characters::Characters;

@@ -1,6 +1,6 @@
 // Refusals (paper 01, "Refusals by number"): the sixteen by name, and the rule that picks one:
 // the first failing stage answers; within a stage the lowest place, then the lowest number.
-// The definitions are in specs/. When each refusal is met is left to `verdict` and `operations`.
+// The definitions are in specs/. When each refusal is met is left to `stages` and `operations`.
 ghost use mathlib.Core.Path.{_≡_};
 ghost use Rattle.refusals.specs.Refusals.{failedAt};
 

@@ -1,4 +1,4 @@
--- What the scanner says at a place is the token that `reading` has there. Assumes nothing.
+-- What the scanner says at a place is the token that `values` has there. Assumes nothing.
 use Prim.Native.Nat.{ℕ, _+_, _≤_, _<_}
 use native.Mathlib.Omega.{arith}
 use native.Mathlib.Decide.{decLe}
@@ -15,8 +15,8 @@ use Rattle.characters.specs.declared.Characters.{Characters}
 use Rattle.characters.specs.declared.Role.{Role}
 use Rattle.characters.specs.declared.Role.the-variants as role
 use Rattle.characters.specs.Characters.{role as roleIn, released}
-use Rattle.reading.specs.Tokens.{Token, byte, separator, fault, tokensAt}
-use Rattle.reading.proofs.Steps.{at-end, at-plain, at-separator, at-last-release, at-stray-release, at-released-release, at-released-separator}
+use Rattle.values.specs.Tokens.{Token, byte, separator, fault, tokensAt}
+use Rattle.values.proofs.Steps.{at-end, at-plain, at-separator, at-last-release, at-stray-release, at-released-release, at-released-separator}
 use Rattle.scanner.specs.declared.Lexed.{Lexed}
 use Rattle.scanner.specs.declared.Lexed.the-variants.{Byte, Separator, Stray, End}
 use Rattle.scanner.specs.Scanner.{lexTaken, lexRole, lexAt}

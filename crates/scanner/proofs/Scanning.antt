@@ -9,7 +9,7 @@ use borrow.Author.Tests.{le-leb, lt-leb}
 use Rattle.lists.specs.Lists.{if_then_else_, beyond}
 use Rattle.lists.proofs.Texts.{if-true, if-false}
 use Rattle.characters.specs.declared.Characters.{Characters}
-use Rattle.reading.specs.Tokens.{Token, byte, separator, fault, ends, tokensAt}
+use Rattle.values.specs.Tokens.{Token, byte, separator, fault, ends, tokensAt}
 use Rattle.scanner.specs.declared.Lexed.the-variants.{Byte, Separator, Stray, End}
 use Rattle.scanner.specs.declared.Scanned.{Scanned}
 use Rattle.scanner.specs.Scan.{Scanning, ended, stray, unended, scanned, Scans}

@@ -7,8 +7,8 @@ use lib.ListN.{length}
 use Rattle.lists.specs.Lists.{through, cut, beyond}
 use Rattle.lists.proofs.Pieces.{cut-first}
 use Rattle.characters.specs.declared.Characters.{Characters}
-use Rattle.reading.specs.Tokens.{Token, byte, separator, fault, ends, placeOf, segments, start, tokensAt}
-use Rattle.reading.proofs.Steps.{at-end}
+use Rattle.values.specs.Tokens.{Token, byte, separator, fault, ends, placeOf, segments, start, tokensAt}
+use Rattle.values.proofs.Steps.{at-end}
 use Rattle.scanner.specs.declared.Lexed.{Lexed}
 use Rattle.scanner.specs.declared.Lexed.the-variants.{Byte, Separator, Stray, End}
 use Rattle.scanner.specs.Scanner.{lexAt}

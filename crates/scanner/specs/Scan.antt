@@ -7,7 +7,7 @@ use lib.ListN.{length}
 use lib.Dec.{leb}
 use Rattle.lists.specs.Lists.{if_then_else_, through, beyond}
 use Rattle.characters.specs.declared.Characters.{Characters}
-use Rattle.reading.specs.Tokens.{Token, byte, separator, fault, Segment, ends, tokensAt}
+use Rattle.values.specs.Tokens.{Token, byte, separator, fault, Segment, ends, tokensAt}
 use Rattle.scanner.specs.declared.Scanned.{Scanned}
 use Rattle.scanner.specs.declared.Scanned.the-variants.{Ended, Stray, Unended}
 

@@ -1,9 +1,9 @@
 // The scanner: what stands at a place of the input (a byte of a value, a separator, a stray release
-// character, the end) and where reading goes on. It promises the tokens of `reading`, one at a time.
+// character, the end) and where reading goes on. It promises the tokens of `values`, one at a time.
 ghost use mathlib.Core.Path.{_≡_};
 ghost use Rattle.characters.specs.Characters.{role};
 ghost use Rattle.scanner.specs.Scanner.{lexTaken, lexAt};
-ghost use Rattle.reading.specs.Tokens.{ends};
+ghost use Rattle.values.specs.Tokens.{ends};
 ghost use Rattle.scanner.specs.Scan.{Scans, Skips};
 use characters::Characters;
 use characters::Role;

@@ -11,7 +11,7 @@ use mathlib.Core.Bool.{true, false}
 use Rattle.lists.proofs.Texts.{if-true, if-false}
 use Rattle.characters.specs.declared.Characters.{Characters}
 use Rattle.characters.specs.Characters.{isService}
-use Rattle.reading.specs.Spelling.{spellByte}
+use Rattle.values.specs.Spelling.{spellByte}
 
 module _ {A : Type 0} where
   -- two texts stored one behind the other are one text stored

@@ -6,7 +6,7 @@ ghost use Prim.Native.Nat.{_+_, _≤_};
 ghost use lib.ListN.{length, replicate, drop};
 ghost use lib.Seq.{sets};
 ghost use Rattle.characters.specs.Characters.{isService, adviceOf};
-ghost use Rattle.reading.specs.Spelling.{spellByte};
+ghost use Rattle.values.specs.Spelling.{spellByte};
 use characters::Characters;
 
 // Stores a byte so many times, from a place on.

@@ -7,9 +7,9 @@ use mathlib.Core.Option.{Option, none, some}
 use lib.ListN.{length}
 use borrow.Author.Tests.{lt-ltb, le-ltb}
 use Rattle.lists.specs.Lists.{maybe}
-use Rattle.reading.specs.Values.{Value}
+use Rattle.values.specs.Values.{Value}
 use Rattle.refusals.specs.declared.Refusal.{Refusal}
-use Rattle.verdict.specs.Stages.{refusalOf}
+use Rattle.stages.specs.Stages.{refusalOf}
 use Rattle.answers.specs.Answers.{given, refused}
 use Rattle.operations.specs.Compare.{areSame, keep}
 use Rattle.operations.specs.Locate.{located, locate, partOffset, partLength}

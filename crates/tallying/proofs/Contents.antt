@@ -1,4 +1,4 @@
--- A list of segments, spelled with the marks, is read as its value list; and what `emission` spells of a body's tokens with them is
+-- A list of segments, spelled with the marks, is read as its value list; and what `emission_laws` spells of a body's tokens with them is
 -- read as the value list of the body's contents, whose bytes are all the value bytes of the body. Assumes nothing.
 use Prim.Native.Nat.{ℕ, zero, suc, _+_, _≤_}
 use native.Mathlib.Omega.{arith}
@@ -10,16 +10,16 @@ use lib.ListN.{replicate}
 use borrow.Author.Tests.{not-false, leb-true}
 use Rattle.lists.specs.Lists.{isEmpty, all, lastOr, behind, joined, gather}
 use Rattle.lists.proofs.Texts.{and-left, and-right}
-use Rattle.reading.specs.Tokens.{Token, byte, separator, fault, ends, segments}
-use Rattle.reading.specs.Values.{byteOf, bytesOf, endedBy, endsInside}
-use Rattle.reading.specs.Trimming.{contentsOf}
-use Rattle.reading.proofs.Ends.{ended-next}
-use Rattle.reading.specs.Spelling.{Bytes, SegmentList, spellByte, spellValue, spellElement, spellSegment, spell}
+use Rattle.values.specs.Tokens.{Token, byte, separator, fault, ends, segments}
+use Rattle.values.specs.Values.{byteOf, bytesOf, endedBy, endsInside}
+use Rattle.values.specs.Trimming.{contentsOf}
+use Rattle.values.proofs.Ends.{ended-next}
+use Rattle.values.specs.Spelling.{Bytes, SegmentList, spellByte, spellValue, spellElement, spellSegment, spell}
 use Rattle.operations.specs.ValueList.{Item, listElement, listSegment, listOf, listBytes, tableFrom, listTable}
-use Rattle.spelling.specs.Bodies.{shapedSegment, Shaped}
-use Rattle.emission.specs.Emission.{emitted}
-use Rattle.emission.proofs.Cases.{known}
-use Rattle.emission.proofs.Spelled.{spelled-emitted}
+use Rattle.spelling_laws.specs.Bodies.{shapedSegment, Shaped}
+use Rattle.emission_laws.specs.Emission.{emitted}
+use Rattle.emission_laws.proofs.Cases.{known}
+use Rattle.emission_laws.proofs.Spelled.{spelled-emitted}
 use Rattle.tallying.specs.Marks.{marks, readMarks, itemOut, itemNext, itemGrow, itemsFrom}
 use Rattle.tallying.specs.Tally.{tableRest, tableOf}
 use Rattle.tallying.proofs.Marks.{read-byte, read-mark, table-read}

@@ -10,7 +10,7 @@ use borrow.Author.Tests.{eqb-false, lt-leb}
 use Rattle.lists.specs.Lists.{if_then_else_, member}
 use Rattle.lists.proofs.Texts.{or-none-left, or-none-right, if-true, if-false}
 use Rattle.characters.specs.Characters.{isService, serviceCharacters, released}
-use Rattle.reading.specs.Spelling.{spellByte}
+use Rattle.values.specs.Spelling.{spellByte}
 use Rattle.operations.specs.ValueList.{Item, tableFrom}
 use Rattle.tallying.specs.Marks.{marks, readMarks, runOut, runNext, itemNext, itemGrow, itemsFrom, numbersFrom}
 

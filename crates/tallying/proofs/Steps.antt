@@ -8,11 +8,11 @@ use native.Mathlib.Nat.{add-zero}
 use lib.Dec.{leb}
 use lib.ListN.{length, replicate, length-append}
 use Rattle.lists.specs.Lists.{if_then_else_, gather}
-use Rattle.reading.specs.Tokens.{Token, byte, separator, fault}
-use Rattle.reading.specs.Values.{byteOf, bytesOf}
-use Rattle.reading.specs.Spelling.{spellByte}
+use Rattle.values.specs.Tokens.{Token, byte, separator, fault}
+use Rattle.values.specs.Values.{byteOf, bytesOf}
+use Rattle.values.specs.Spelling.{spellByte}
 use Rattle.operations.specs.ValueList.{Entry}
-use Rattle.emission.specs.Emission.{emitted}
+use Rattle.emission_laws.specs.Emission.{emitted}
 use Rattle.tallying.specs.declared.Listing.{Listing}
 use Rattle.tallying.specs.Marks.{marks, readMarks, runOut, runNext, numbersOut, entryNext, entryGrow, numbersFrom}
 use Rattle.tallying.specs.Tally.{entryOf, listing, fresh, values, end, marksOut, entryBehind, behindMarks, behindByte, byteNumbers, behindSeparator, separatorNumbers, tableRest, tableOf}

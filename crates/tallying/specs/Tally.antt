@@ -6,10 +6,10 @@ use mathlib.Core.List.{List, [], _++_}
 use lib.Dec.{leb}
 use lib.ListN.{length}
 use Rattle.lists.specs.Lists.{if_then_else_}
-use Rattle.reading.specs.Tokens.{Token}
-use Rattle.reading.specs.Values.{bytesOf}
+use Rattle.values.specs.Tokens.{Token}
+use Rattle.values.specs.Values.{bytesOf}
 use Rattle.operations.specs.ValueList.{Entry}
-use Rattle.emission.specs.Emission.{emitted}
+use Rattle.emission_laws.specs.Emission.{emitted}
 use Rattle.tallying.specs.declared.Listing.{Listing}
 use Rattle.tallying.specs.declared.Tally.{Tally}
 use Rattle.tallying.specs.Marks.{marks, runOut, runNext, numbersOut, entryNext, entryGrow, numbersFrom}

@@ -4,7 +4,7 @@
 ghost use mathlib.Core.Path.{_≡_};
 ghost use Prim.Native.Nat.{_+_, _≤_};
 ghost use lib.ListN.{length};
-ghost use Rattle.reading.specs.Tokens.{tokensAt};
+ghost use Rattle.values.specs.Tokens.{tokensAt};
 ghost use Rattle.tallying.specs.Tally.{fresh, values, end, behindMarks, grown, behindByte, behindSeparator, Tallies};
 use characters::Characters;
 use scanner::Lexed;

@@ -18,7 +18,7 @@ use Rattle.refusals.specs.declared.Fault.the-variants.{BadList}
 use Rattle.refusals.specs.declared.Refusal.{Refusal}
 use Rattle.refusals.specs.Refusals.{met, placeIf, isLower, lowerOf, lowest}
 use Rattle.refusals.proofs.Order.{key, not-lower}
-use Rattle.machines.specs.Walks.{refuse}
+use Rattle.stage_walks.specs.Walks.{refuse}
 use Rattle.operations.specs.ValueList.{Entry, entries}
 use Rattle.operations.specs.Write.{numbersWhere, badTable, badEntry, badList}
 use Rattle.value_lists.specs.Records.{recordAt, firstRecord, wellListed}

@@ -13,11 +13,11 @@ use Rattle.characters.specs.declared.Characters.{Characters}
 use Rattle.characters.specs.declared.Role.{Role}
 use Rattle.characters.specs.declared.Role.the-variants.{Separator, Release, Plain}
 use Rattle.characters.specs.Characters.{role, released, isService, serviceCharacters, sixBytes}
-use Rattle.reading.specs.Tokens.{Token, byte, separator, fault, unreleased, releasing, taken, tokensFrom, tokens, tokensAt}
-use Rattle.reading.specs.Values.{isFault}
-use Rattle.reading.specs.Spelling.{spellByte}
-use Rattle.verdict.specs.Contents.{normalCharacters}
-use Rattle.emission.specs.Emission.{letOut, emitted}
+use Rattle.values.specs.Tokens.{Token, byte, separator, fault, unreleased, releasing, taken, tokensFrom, tokens, tokensAt}
+use Rattle.values.specs.Values.{isFault}
+use Rattle.values.specs.Spelling.{spellByte}
+use Rattle.stages.specs.Contents.{normalCharacters}
+use Rattle.emission_laws.specs.Emission.{letOut, emitted}
 use Rattle.verbatim.specs.Verbatim.{normalService, idle, clean, verbatim, faultless}
 
 -- ---- the part that a byte plays

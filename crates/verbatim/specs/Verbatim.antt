@@ -7,8 +7,8 @@ use mathlib.Core.List.{List, [], _∷_}
 use lib.Dec.{eqb}
 use Rattle.lists.specs.Lists.{all}
 use Rattle.characters.specs.declared.Characters.{Characters}
-use Rattle.reading.specs.Tokens.{Token}
-use Rattle.reading.specs.Values.{isFault}
+use Rattle.values.specs.Tokens.{Token}
+use Rattle.values.specs.Values.{isFault}
 
 -- "the contents spelled with those characters": `:`, `+`, `?` and `'`, whichever the mark
 unfoldable pub normalService : Characters → Bool

@@ -5,9 +5,9 @@ use native.Mathlib.Omega.{arith}
 use lib.ListN.{length, replicate}
 use lib.Seq.{sets}
 use borrow.Author.Needs.{needs}
-use Rattle.reading.specs.Spelling.{spellValue}
+use Rattle.values.specs.Spelling.{spellValue}
 use Rattle.emitting.proofs.Putting.{stored-length}
-use Rattle.measuring.specs.declared.Measure.{Measure}
+use Rattle.stage_length.specs.declared.Measure.{Measure}
 use Rattle.composing.proofs.Stored.{empty-text, full-text, full-length, stored-value}
 use Rattle.composing.proofs.put_held.Statement.{statement}
 use Rattle.composing.proofs.put_held.Tie as tie

@@ -7,8 +7,8 @@ use native.Mathlib.Omega.{arith}
 use borrow.Author.Needs.{needs}
 use lib.ListN.{length, drop, length-set}
 use Rattle.emitting.proofs.Putting.{Goes}
-use Rattle.measuring.specs.declared.Measure.{Measure}
-use Rattle.measuring.specs.Measure.{held}
+use Rattle.stage_length.specs.declared.Measure.{Measure}
+use Rattle.stage_length.specs.Measure.{held}
 use Rattle.operations.specs.ValueList.{listedIn}
 use Rattle.value_lists.specs.Records.{wellListed}
 use Rattle.value_lists.proofs.Records.{read-next, good-kind, good-value, good-rest}

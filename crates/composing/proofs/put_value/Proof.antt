@@ -5,7 +5,7 @@ use mathlib.Core.Path.{_≡_, refl, ap}
 use native.Mathlib.Omega.{arith}
 use lib.ListN.{length, drop, getD}
 use borrow.Author.Needs.{needs}
-use Rattle.reading.specs.Spelling.{spellByte, spellValue}
+use Rattle.values.specs.Spelling.{spellByte, spellValue}
 use Rattle.emitting.proofs.Putting.{Goes, goes-step, front-fits}
 use Rattle.composing.proofs.Lengths.{spelled-next, spelled-left, spelled-end}
 use Rattle.composing.proofs.Stored.{goes-done}

@@ -5,7 +5,7 @@ use mathlib.Core.Path.{_≡_, ap}
 use native.Mathlib.Omega.{arith}
 use lib.ListN.{length, drop, getD}
 use borrow.Author.Needs.{needs}
-use Rattle.reading.specs.Spelling.{spellValue}
+use Rattle.values.specs.Spelling.{spellValue}
 use Rattle.composing.proofs.Lengths.{spelled-left, spelled-end, spelled-most}
 use Rattle.composing.proofs.spelled_length.Statement.{statement}
 use Rattle.composing.proofs.spelled_length.Tie as tie

@@ -6,8 +6,8 @@ use mathlib.Core.Bool.{true}
 use native.Mathlib.Omega.{arith}
 use borrow.Author.Needs.{needs}
 use lib.ListN.{length, drop}
-use Rattle.measuring.specs.declared.Measure.{Measure}
-use Rattle.measuring.specs.Measure.{held}
+use Rattle.stage_length.specs.declared.Measure.{Measure}
+use Rattle.stage_length.specs.Measure.{held}
 use Rattle.operations.specs.ValueList.{listedIn}
 use Rattle.value_lists.specs.Records.{wellListed}
 use Rattle.value_lists.proofs.Records.{read-next, good-kind, good-value, good-rest}

@@ -4,9 +4,9 @@ use mathlib.Core.Path.{ap}
 use native.Mathlib.Omega.{arith}
 use lib.ListN.{length}
 use borrow.Author.Needs.{needs}
-use Rattle.measuring.specs.declared.Measure.{Measure}
-use Rattle.measuring.specs.Measure.{held}
-use Rattle.measuring.proofs.Steps.{held-separator}
+use Rattle.stage_length.specs.declared.Measure.{Measure}
+use Rattle.stage_length.specs.Measure.{held}
+use Rattle.stage_length.proofs.Steps.{held-separator}
 use Rattle.value_lists.specs.Records.{entryOf}
 use Rattle.composing.specs.Composing.{itemOf}
 use Rattle.composing.proofs.Lengths.{value-size}

@@ -3,7 +3,7 @@ use Prim.Native.Nat.{ℕ, _+_}
 use mathlib.Core.Path.{sym, ap, _∙_}
 use native.Mathlib.Omega.{arith}
 use borrow.Author.Needs.{needs}
-use Rattle.measuring.specs.declared.Measure.{Measure}
+use Rattle.stage_length.specs.declared.Measure.{Measure}
 use Rattle.composing.proofs.Lengths.{spelled-bound}
 use Rattle.composing.proofs.Stored.{empty-text, full-text}
 use Rattle.composing.proofs.with_value.Statement.{statement}

@@ -6,7 +6,7 @@ use native.Mathlib.Omega.{arith}
 use lib.ListN.{length}
 use borrow.Author.Needs.{needs}
 use borrow.Author.Tests.{le-leb, lt-leb}
-use Rattle.reading.specs.Tokens.{tokensAt}
+use Rattle.values.specs.Tokens.{tokensAt}
 use Rattle.scanner.proofs.Lexing.{lexes-as}
 use Rattle.elements.specs.Elements.{holdsByte}
 use Rattle.elements.proofs.Elements.{holds-byte, holds-over, holds-separator, holds-stray, holds-end}

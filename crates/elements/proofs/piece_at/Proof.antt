@@ -6,8 +6,8 @@ use native.Mathlib.Omega.{arith}
 use native.Mathlib.Nat.{le-refl}
 use lib.ListN.{length}
 use borrow.Author.Needs.{needs}
-use Rattle.reading.specs.Tokens.{ends, tokensAt}
-use Rattle.reading.proofs.Steps.{at-end, ends-yes, ends-no}
+use Rattle.values.specs.Tokens.{ends, tokensAt}
+use Rattle.values.proofs.Steps.{at-end, ends-yes, ends-no}
 use Rattle.scanner.proofs.Lexing.{lexes-as}
 use Rattle.elements.specs.Elements.{pieceFrom}
 use Rattle.elements.proofs.Elements.{from-here, from-over, from-end, from-next, from-miss}

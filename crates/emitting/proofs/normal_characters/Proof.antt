@@ -1,7 +1,7 @@
 -- `emitting::normal_characters` meets its contract. Assumes nothing.
 use mathlib.Core.Path.{refl}
 use Rattle.characters.specs.Characters.{sixBytes}
-use Rattle.verdict.specs.Contents.{normalCharacters}
+use Rattle.stages.specs.Contents.{normalCharacters}
 use Rattle.emitting.proofs.normal_characters.Statement.{statement}
 use Rattle.emitting.proofs.normal_characters.Tie as tie
 

@@ -6,12 +6,12 @@ use mathlib.Core.Path.{refl, ap}
 use native.Mathlib.Omega.{arith}
 use lib.ListN.{length}
 use borrow.Author.Needs.{needs}
-use Rattle.reading.specs.Tokens.{tokensAt}
-use Rattle.verdict.specs.Contents.{normalCharacters}
-use Rattle.emission.specs.Emission.{emitted}
-use Rattle.measuring.specs.declared.Measure.{Measure}
-use Rattle.measuring.specs.Measure.{held}
-use Rattle.measuring.proofs.Steps.{held-byte, held-separator}
+use Rattle.values.specs.Tokens.{tokensAt}
+use Rattle.stages.specs.Contents.{normalCharacters}
+use Rattle.emission_laws.specs.Emission.{emitted}
+use Rattle.stage_length.specs.declared.Measure.{Measure}
+use Rattle.stage_length.specs.Measure.{held}
+use Rattle.stage_length.proofs.Steps.{held-byte, held-separator}
 use Rattle.scanner.proofs.Lexing.{lexes-as}
 use Rattle.emitting.specs.Emitting.{emittedFrom}
 use Rattle.emitting.proofs.Putting.{Goes, byte-fits, byte-goes, separator-fits, separator-goes, fault-goes, end-goes}

@@ -5,8 +5,8 @@ use native.Mathlib.Omega.{arith}
 use lib.ListN.{length, replicate}
 use borrow.Author.Needs.{needs}
 use Rattle.characters.specs.declared.Characters.{Characters}
-use Rattle.reading.specs.Spelling.{spellByte}
-use Rattle.verdict.specs.Contents.{normalCharacters}
+use Rattle.values.specs.Spelling.{spellByte}
+use Rattle.stages.specs.Contents.{normalCharacters}
 use Rattle.emitting.proofs.Putting.{let-out-length, put-three, stored-length}
 use Rattle.emitting.proofs.put_value_byte.Statement.{statement}
 use Rattle.emitting.proofs.put_value_byte.Tie as tie

@@ -6,7 +6,7 @@ use native.Mathlib.Omega.{arith}
 use lib.ListN.{length}
 use borrow.Author.Needs.{needs}
 use Rattle.lists.specs.Lists.{same}
-use Rattle.reading.specs.Tokens.{tokensAt}
+use Rattle.values.specs.Tokens.{tokensAt}
 use Rattle.fields.specs.Fields.{valueIn}
 use Rattle.fields.proofs.Steps.{next-as}
 use Rattle.fields.proofs.Loops.{same-ended, same-longer, same-byte, same-not}

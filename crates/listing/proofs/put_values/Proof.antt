@@ -4,7 +4,7 @@ use Prim.Native.Nat.{_-_, _≤_}
 use native.Mathlib.Omega.{arith}
 use lib.ListN.{length}
 use borrow.Author.Needs.{needs}
-use Rattle.reading.specs.Tokens.{tokensAt}
+use Rattle.values.specs.Tokens.{tokensAt}
 use Rattle.scanner.proofs.Lexing.{lexes-as}
 use Rattle.tallying.specs.Tally.{values, end}
 use Rattle.listing.proofs.Storing.{Stored, stored-start, byte-fits, records-fit, stored-byte, separator-fits, stored-separator, stored-fault, stored-end}

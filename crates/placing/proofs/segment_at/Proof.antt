@@ -5,8 +5,8 @@ use mathlib.Core.Path.{_≡_, refl, sym, ap, _∙_}
 use native.Mathlib.Omega.{arith}
 use lib.ListN.{length}
 use borrow.Author.Needs.{needs}
-use Rattle.reading.specs.Tokens.{ends, tokensAt}
-use Rattle.reading.proofs.Steps.{at-end}
+use Rattle.values.specs.Tokens.{ends, tokensAt}
+use Rattle.values.proofs.Steps.{at-end}
 use Rattle.placing.specs.Placing.{behindPieces}
 use Rattle.placing.proofs.Placing.{behind-nothing, behind-here, behind-next}
 use Rattle.placing.proofs.segment_at.Statement.{statement}

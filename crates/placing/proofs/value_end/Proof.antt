@@ -5,8 +5,8 @@ use mathlib.Core.Path.{_≡_, refl, sym, _∙_}
 use native.Mathlib.Omega.{arith}
 use lib.ListN.{length}
 use borrow.Author.Needs.{needs}
-use Rattle.reading.specs.Tokens.{ends, tokensAt}
-use Rattle.reading.proofs.Steps.{ends-yes}
+use Rattle.values.specs.Tokens.{ends, tokensAt}
+use Rattle.values.proofs.Steps.{ends-yes}
 use Rattle.scanner.proofs.Lexing.{lexes-as}
 use Rattle.fields.specs.Reading.{valueEnd}
 use Rattle.placing.proofs.Placing.{end-here, end-later, end-nowhere}

@@ -5,7 +5,7 @@ use mathlib.Core.Path.{_≡_, refl, _∙_}
 use native.Mathlib.Omega.{arith}
 use lib.ListN.{length}
 use borrow.Author.Needs.{needs}
-use Rattle.reading.specs.Tokens.{tokensAt}
+use Rattle.values.specs.Tokens.{tokensAt}
 use Rattle.scanner.specs.Scan.{scanned}
 use Rattle.scanner.proofs.Lexing.{lexes-as}
 use Rattle.scanner.proofs.Scanning.{scan-byte, scan-terminator, scan-separator, scan-stray, scan-end}

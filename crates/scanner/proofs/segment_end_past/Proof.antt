@@ -8,8 +8,8 @@ use borrow.Author.Needs.{needs}
 use native.Mathlib.Nat.{le-of-eq, pos-of-ne-zero}
 use Rattle.lists.specs.Lists.{beyond}
 use Rattle.lists.proofs.Pieces.{beyond-hit, beyond-miss}
-use Rattle.reading.specs.Tokens.{ends, tokensAt}
-use Rattle.reading.proofs.Steps.{ends-yes, ends-no}
+use Rattle.values.specs.Tokens.{ends, tokensAt}
+use Rattle.values.proofs.Steps.{ends-yes, ends-no}
 use Rattle.scanner.proofs.Lexing.{lexes-as}
 use Rattle.scanner.proofs.segment_end_past.Statement.{statement}
 use Rattle.scanner.proofs.segment_end_past.Tie as tie

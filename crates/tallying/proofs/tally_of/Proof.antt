@@ -5,7 +5,7 @@ use mathlib.Core.Path.{sym, subst}
 use native.Mathlib.Omega.{arith}
 use lib.ListN.{length}
 use borrow.Author.Needs.{needs}
-use Rattle.reading.specs.Tokens.{tokensAt}
+use Rattle.values.specs.Tokens.{tokensAt}
 use Rattle.scanner.proofs.Lexing.{lexes-as}
 use Rattle.tallying.specs.declared.Listing.{Listing}
 use Rattle.tallying.proofs.Steps.{Tallied, tallied-start, tallied-byte, tallied-separator, tallied-fault, tallied-end}

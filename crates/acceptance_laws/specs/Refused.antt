@@ -1,0 +1,57 @@
+-- Paper 01, "Refusals by number": what it is that an input is refused with a fault at a place. Assumes nothing.
+use Prim.Native.Nat.{ℕ, _≤_, _<_}
+use mathlib.Core.Path.{_≡_}
+use mathlib.Core.Logic.{_⊎_}
+use mathlib.Core.List.{List, [], _∷_, _++_, List·Memᴰ}
+use Rattle.refusals.specs.declared.Fault.{Fault}
+use Rattle.refusals.specs.declared.Fault.the-variants.{TooLong, UnusableAdvice, NoOpening, StrayRelease, UnendedSegment, BrokenTag, ForeignLevel, OutsideLevel, MisplacedSegment, BadControl, ReferenceDiffers, CountWrong, NormalTooLong, BufferShort, BadList, NeedsRelease}
+use Rattle.refusals.specs.Refusals.{number}
+use Rattle.stages.specs.Places.{tooLong, unusableAdvice, noOpening, strayReleases, unendedSegment, brokenTags, foreignLevel, outsideLevel, misplacedSegments, badControls, differingReferences, wrongCounts, normalTooLong}
+
+-- all the places at which an input meets a fault; 14 to 16 are of lent buffers and value lists
+unfoldable pub placesOf : Fault → List ℕ → List ℕ
+placesOf TooLong s = tooLong s
+placesOf UnusableAdvice s = unusableAdvice s
+placesOf NoOpening s = noOpening s
+placesOf StrayRelease s = strayReleases s
+placesOf UnendedSegment s = unendedSegment s
+placesOf BrokenTag s = brokenTags s
+placesOf ForeignLevel s = foreignLevel s
+placesOf OutsideLevel s = outsideLevel s
+placesOf MisplacedSegment s = misplacedSegments s
+placesOf BadControl s = badControls s
+placesOf ReferenceDiffers s = differingReferences s
+placesOf CountWrong s = wrongCounts s
+placesOf NormalTooLong s = normalTooLong s
+placesOf BufferShort s = []
+placesOf BadList s = []
+placesOf NeedsRelease s = []
+
+-- "Stages: 1, 2, 3, (4 5 6), 7, 8, 9, (10 11 12), 13"
+unfoldable pub brackets : List (List Fault)
+brackets =
+    (TooLong ∷ [])
+    ∷ (UnusableAdvice ∷ [])
+    ∷ (NoOpening ∷ [])
+    ∷ (StrayRelease ∷ UnendedSegment ∷ BrokenTag ∷ [])
+    ∷ (ForeignLevel ∷ [])
+    ∷ (OutsideLevel ∷ [])
+    ∷ (MisplacedSegment ∷ [])
+    ∷ (BadControl ∷ ReferenceDiffers ∷ CountWrong ∷ [])
+    ∷ (NormalTooLong ∷ [])
+    ∷ []
+
+-- "The first failing stage answers; within a stage, bracketed or single, the lowest place, then the lowest number."
+pub record Refused (s : List ℕ) (f : Fault) (p : ℕ) : Type 0 where
+  pub before : List (List Fault)
+  pub stage : List Fault
+  pub after : List (List Fault)
+  pub split : brackets ≡ before ++ stage ∷ after
+  -- the fault is of this stage, and is met at the place
+  pub own : List·Memᴰ f stage
+  pub met : List·Memᴰ p (placesOf f s)
+  -- no fault of an earlier stage is met anywhere
+  pub earlier : (faults : List Fault) → List·Memᴰ faults before → (g : Fault) → List·Memᴰ g faults → placesOf g s ≡ []
+  -- each fault of this stage is met farther on, or at the same place with a number that is not lower
+  pub lowest : (g : Fault) → List·Memᴰ g stage → (q : ℕ) → List·Memᴰ q (placesOf g s)
+      → (p < q) ⊎ ((p ≡ q) × (number f ≤ number g))
