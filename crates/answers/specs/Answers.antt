@@ -5,7 +5,7 @@ use mathlib.Core.Option.{Option, none, some}
 use Rattle.characters.specs.Characters.{spelledOut}
 use Rattle.refusals.specs.declared.Refusal.{Refusal}
 use Rattle.refusals.specs.Refusals.{number}
-use Rattle.answers.specs.declared.Interchange.{Interchange}
+use Rattle.answers.specs.declared.Figures.{Figures}
 use Rattle.answers.specs.declared.Judged.{Judged}
 use Rattle.answers.specs.declared.Judged.the-variants as judged
 use Rattle.answers.specs.declared.Stored.{Stored}
@@ -32,7 +32,7 @@ unfoldable pub refusedInput : ℕ → Refusal → Answer
 refusedInput which r = record { number = number (r .fault); values = which ∷ r .place ∷ [] }
 
 -- "service characters, counts of segments, messages and groups, length of the normal form"
-unfoldable pub accepted : Interchange → Answer
+unfoldable pub accepted : Figures → Answer
 accepted i = given (spelledOut (i .characters) ++ i .segments .0 ∷ i .messages .0 ∷ i .groups .0 ∷ i .length ∷ [])
 
 unfoldable pub toldJudged : Judged → Answer

@@ -1,5 +1,5 @@
 // What the operations answer (paper 01, "Operations"): an enum for each, and for each of its cases
-// the paper's number and values, which are what the promises speak of (specs/).
+// the paper's number and values, in which the contracts are stated (specs/).
 use characters::Characters;
 use refusals::Refusal;
 use segments::Groups;
@@ -7,7 +7,7 @@ use segments::Messages;
 use segments::Segments;
 
 // What Judge says of an accepted interchange; `length` is that of its normal form.
-pub struct Interchange {
+pub struct Figures {
     pub characters: Characters,
     pub segments: Segments,
     pub messages: Messages,
@@ -16,7 +16,7 @@ pub struct Interchange {
 }
 
 pub enum Judged {
-    Accepted(Interchange),
+    Accepted(Figures),
     Refused(Refusal),
 }
 

@@ -33,13 +33,13 @@ unfoldable pub separates : ℕ → Bool
 separates b = (between 33 126 b && not (upper b || lower b || digit b)) || member b (28 ∷ 29 ∷ 31 ∷ [])
 
 -- "A release character that is a space means "none""
-unfoldable pub released : Characters → Bool
-released c = not (eqb (c .release) space)
+unfoldable pub hasRelease : Characters → Bool
+hasRelease c = not (eqb (c .release) space)
 
 -- "From here on a service character is one of these four (three); the mark and the reserved byte are not."
 unfoldable pub serviceCharacters : Characters → List ℕ
 serviceCharacters c =
-    c .component ∷ c .element ∷ c .terminator ∷ (if released c then c .release ∷ [] else [])
+    c .component ∷ c .element ∷ c .terminator ∷ (if hasRelease c then c .release ∷ [] else [])
 
 unfoldable pub isService : Characters → ℕ → Bool
 isService c b = member b (serviceCharacters c)
@@ -106,4 +106,4 @@ role c b =
     if eqb b (c .terminator) then Separator 0
     else if eqb b (c .element) then Separator 1
     else if eqb b (c .component) then Separator 2
-    else if released c && eqb b (c .release) then Release else Plain
+    else if hasRelease c && eqb b (c .release) then Release else Plain

@@ -1,6 +1,6 @@
 // The service characters of an interchange (paper 01, "Service characters"): which six bytes are
 // usable, which ones an input uses, where its body begins, and what part a byte then plays.
-// The definitions are in specs/. What the bytes of the body mean is left to `reading`.
+// The definitions are in specs/. What the bytes of the body mean is left to `values`.
 
 // Six bytes in the advice's order. `release` is a space where there is no release character.
 pub struct Characters {
@@ -12,7 +12,7 @@ pub struct Characters {
     pub terminator: u8,
 }
 
-// The part that a byte plays. A separator of kind 0 ends a segment, 1 an element, 2 a component.
+// The part that a byte plays. A separator of rank 0 ends a segment, 1 an element, 2 a component.
 pub enum Role {
     Separator(u8),
     Release,

@@ -2,22 +2,38 @@
 -- may stand there, and of the search for a byte. Assumes nothing.
 use Prim.Native.Nat.{ℕ, zero, suc, _-_, _≤_, _<_}
 use mathlib.Core.Path.{_≡_, refl, sym, ap, _∙_}
-use mathlib.Core.Bool.{Bool, true, false, not}
+use mathlib.Core.Bool.{Bool, true, false, not, false≢true}
 use mathlib.Core.List.{List, [], _∷_}
+use mathlib.Core.Option.{some}
 use native.Mathlib.Omega.{arith}
 use native.Mathlib.Numerals.{sub-one}
-use lib.Dec.{leb, lit≤}
+use lib.Dec.{leb}
 use lib.ListN.{drop}
 use Rattle.lists.specs.Lists.{if_then_else_, isEmpty, through, at, onto, cut, gather}
 use Rattle.lists.proofs.Texts.{if-true, if-false}
 use Rattle.lists.proofs.Numbers.{drop-nothing, at-drop}
-use Rattle.lists.proofs.Pieces.{drop-onto}
-use Rattle.characters.specs.declared.Characters.{Characters}
-use Rattle.reading.specs.Tokens.{Token, byte, separator, fault, ends, tokensAt}
-use Rattle.reading.specs.Values.{byteOf, bytesOf}
-use Rattle.reading.proofs.Ends.{pieces-first}
-use Rattle.scanner.specs.Scan.{segmentAt}
-use Rattle.elements.specs.Elements.{pieceFrom, firstPiece, holdsByte, ElementAt}
+use Rattle.lists.proofs.Pieces.{drop-onto, cut-first, through-through}
+use Rattle.values.specs.Tokens.{Token, byte, separator, fault, ends}
+use Rattle.values.specs.Values.{byteOf, bytesOf}
+use Rattle.values.proofs.Ends.{ends-more}
+use Rattle.values.proofs.Steps.{ends-yes, ends-no}
+use Rattle.elements.specs.Elements.{outer, pieceFrom, segmentFrom, firstPiece, holdsByte}
+
+-- ---- what ends the larger piece
+
+-- a separator of a lower kind, and nothing else
+pub outer-yes : (kind place : ℕ) {k : ℕ} → k < kind → outer kind (separator k place) ≡ true
+outer-yes zero place h = absurd (omega arith)
+outer-yes (suc kind) place h = ends-yes kind place (omega arith)
+
+pub outer-no : (kind place : ℕ) {k : ℕ} → kind ≤ k → outer kind (separator k place) ≡ false
+outer-no zero place h = refl
+outer-no (suc kind) place h = ends-no kind place (omega arith)
+
+-- it ends the smaller piece too
+outer-ends : (kind : ℕ) (t : Token) → outer kind t ≡ true → ends kind t ≡ true
+outer-ends zero t h = absurd (false≢true h)
+outer-ends (suc kind) t h = ends-more kind (suc kind) (omega arith) t h
 
 -- ---- pieces by number
 
@@ -38,26 +54,32 @@ module _ {A : Type 0} (t u : A → Bool) where
       step false true one more = one
       step false false one more = more ∙ sym (drop-onto x (cut u (through t xs)) k)
 
-module _ (low high : ℕ) (h : low ≤ high) where
+module _ (kind : ℕ) where
   -- the first smaller piece of a larger one is the one that its tokens begin with
-  piece-first : (ts : List Token) → at (cut (ends high) (through (ends low) ts)) zero ≡ firstPiece high ts
+  piece-first : (ts : List Token) → at (cut (ends kind) (through (outer kind) ts)) zero ≡ firstPiece kind ts
   unfolding firstPiece at cut through
   piece-first [] = refl
-  piece-first (t ∷ ts) = ap (λ (pieces : List (List Token)). at pieces zero) (pieces-first low high h t ts)
+  piece-first (t ∷ ts) =
+      ap (λ (pieces : List (List Token)). at pieces zero)
+      (cut-first (ends kind) t (if outer kind t then [] else through (outer kind) ts))
+      ∙ ap some (through-through (outer kind) (ends kind) (outer-ends kind) (t ∷ ts))
 
   -- what was found is the larger piece's piece of that number
   pub piece-number : (k : ℕ) (ts : List Token)
-      → at (cut (ends high) (through (ends low) ts)) k ≡ firstPiece high (pieceFrom (ends low) (ends high) k ts)
+      → at (cut (ends kind) (through (outer kind) ts)) k ≡ firstPiece kind (pieceFrom (outer kind) (ends kind) k ts)
   piece-number k ts =
-      at-drop (cut (ends high) (through (ends low) ts)) k
-      ∙ ap (λ (pieces : List (List Token)). at pieces zero) (sym (pieces-from (ends low) (ends high) k ts))
-      ∙ piece-first (pieceFrom (ends low) (ends high) k ts)
+      at-drop (cut (ends kind) (through (outer kind) ts)) k
+      ∙ ap (λ (pieces : List (List Token)). at pieces zero) (sym (pieces-from (outer kind) (ends kind) k ts))
+      ∙ piece-first (pieceFrom (outer kind) (ends kind) k ts)
 
--- the tokens at the place that `element_at` gives begin with the segment's piece of that number
-pub element-at-piece : (c : Characters) (s : List ℕ) (from k : ℕ) {r : ℕ} → ElementAt c s from k r
-    → at (cut (ends 1) (segmentAt c s from)) k ≡ firstPiece 1 (tokensAt c s r)
-unfolding segmentAt
-element-at-piece c s from k e = piece-number 0 1 (lit≤ tt) k (tokensAt c s from) ∙ ap (firstPiece 1) (sym (e .0))
+-- nothing ends what segments are pieces of
+through-all : (ts : List Token) → through (outer 0) ts ≡ ts
+unfolding through
+through-all [] = refl
+through-all (t ∷ ts) = ap (λ (l : List Token). t ∷ l) (through-all ts)
+
+pub segment-number : (k : ℕ) (ts : List Token) → at (cut (ends 0) ts) k ≡ firstPiece 0 (segmentFrom k ts)
+segment-number k ts = ap (λ (us : List Token). at (cut (ends 0) us) k) (sym (through-all ts)) ∙ piece-number 0 k ts
 
 -- ---- one step of the search
 
@@ -101,6 +123,12 @@ module _ {A : Type 0} (t u : A → Bool) where
         step : (n : ℕ) → 0 < n → pieceFrom t u n xs ≡ pieceFrom t u n rest
         step zero p = absurd (omega arith)
         step (suc n) p = ap (pieceFrom t u (suc n)) e ∙ if-false (t x) [] _ inside ∙ if-false (u x) _ _ k
+
+-- a token that ends nothing is passed over
+pub from-plain : (kind left : ℕ) {t : Token} {ts rest : List Token} → 0 < left → ts ≡ t ∷ rest → ((k : ℕ) → ends k t ≡ false)
+    → pieceFrom (outer kind) (ends kind) left ts ≡ pieceFrom (outer kind) (ends kind) left rest
+from-plain zero left h e n = from-miss (outer 0) (ends 0) left h e refl (n 0)
+from-plain (suc kind) left h e n = from-miss (ends kind) (ends (suc kind)) left h e (n kind) (n (suc kind))
 
 -- ---- one step of the search for a byte
 

@@ -1,19 +1,19 @@
-// Pieces where they are spelled: at which place an element of a segment, or a component of an element,
-// begins; and whether a byte of a value stands in a piece. It promises the pieces into which `reading`
-// cuts the larger piece, by their numbers.
-ghost use Prim.Native.Nat.{_<_};
+// Pieces where they are spelled: at which place a segment, an element of a segment or a component of an
+// element begins, whether a byte of a value stands in a piece, and a value byte by byte up to its end.
+// It promises the pieces into which `values` cuts the larger piece, by their numbers. What trimming
+// leaves of them is left to `trimmed_values`.
 ghost use mathlib.Core.Path.{_≡_};
-ghost use Rattle.reading.specs.Tokens.{tokensAt};
-ghost use Rattle.elements.specs.Elements.{PieceAt, ElementAt, holdsByte};
+ghost use Rattle.values.specs.Tokens.{tokensAt};
+ghost use Rattle.elements.specs.Elements.{PieceAt, SegmentAt, ElementAt, ComponentAt, holdsByte};
+ghost use Rattle.elements.specs.Values.{EndsAt, NextAt};
 use characters::Characters;
 use scanner::Lexed;
 use scanner::lex;
 
-// Where the piece of that number begins, of those that separators of this kind end, in the larger piece
-// that begins at `from`, which a separator of a lower kind ends. The input's length where there is none.
-pub fn piece_at(s: &[u8], c: Characters, from: usize, kind: u8, number: usize) -> usize
-    requires { ⌜ 0 < kind ⌝ }
-    ensures { λ r. ⌜ PieceAt c (now (s .entry)) from kind number r ⌝ }
+// Where the piece of that number begins, of those that separators of this rank end, in the larger piece
+// that begins at `from`, which a separator of a lower rank ends. The input's length where there is none.
+pub fn piece_at(s: &[u8], c: Characters, from: usize, rank: u8, number: usize) -> usize
+    ensures { λ r. ⌜ PieceAt c (now (s .entry)) from rank number r ⌝ }
 {
     let mut at = from;
     let mut left = number;
@@ -26,12 +26,12 @@ pub fn piece_at(s: &[u8], c: Characters, from: usize, kind: u8, number: usize) -
             } => {
                 at = next;
             }
-            Lexed::Separator { kind: found, next } => {
-                if found < kind {
+            Lexed::Separator { rank: found, next } => {
+                if found < rank {
                     return s.len();
                 }
                 at = next;
-                if found == kind {
+                if found == rank {
                     left -= 1;
                     continue;
                 }
@@ -47,6 +47,13 @@ pub fn piece_at(s: &[u8], c: Characters, from: usize, kind: u8, number: usize) -
     at
 }
 
+// Where the segment of that number begins, from 0 at `start`. The input's length where there are fewer.
+pub fn segment_at(s: &[u8], c: Characters, start: usize, number: usize) -> usize
+    ensures { λ r. ⌜ SegmentAt c (now (s .entry)) start number r ⌝ }
+{
+    piece_at(s, c, start, 0, number)
+}
+
 // Where the element of that number begins in the segment that begins at `from`; 0 is the tag.
 // The input's length where the segment has no such element.
 pub fn element_at(s: &[u8], c: Characters, from: usize, position: usize) -> usize
@@ -55,7 +62,15 @@ pub fn element_at(s: &[u8], c: Characters, from: usize, position: usize) -> usiz
     piece_at(s, c, from, 1, position)
 }
 
-// A byte of a value stands from here on, before a separator of this kind or a lower one.
+// Where the component of that number begins in the element that begins at `from`. The input's length
+// where the element has no such component.
+pub fn component_at(s: &[u8], c: Characters, from: usize, number: usize) -> usize
+    ensures { λ r. ⌜ ComponentAt c (now (s .entry)) from number r ⌝ }
+{
+    piece_at(s, c, from, 2, number)
+}
+
+// A byte of a value stands from here on, before a separator of this rank or a lower one.
 pub fn holds_byte(s: &[u8], c: Characters, from: usize, rank: u8) -> bool
     ensures { λ r. ⌜ r ≡ holdsByte rank (tokensAt c (now (s .entry)) from) ⌝ }
 {
@@ -69,8 +84,8 @@ pub fn holds_byte(s: &[u8], c: Characters, from: usize, rank: u8) -> bool
             } => {
                 return true;
             }
-            Lexed::Separator { kind, next } => {
-                if kind <= rank {
+            Lexed::Separator { rank: found, next } => {
+                if found <= rank {
                     return false;
                 }
                 at = next;
@@ -80,6 +95,55 @@ pub fn holds_byte(s: &[u8], c: Characters, from: usize, rank: u8) -> bool
             }
             Lexed::End => {
                 return false;
+            }
+        }
+    }
+}
+
+// What is next in a value: a byte and the place to read on, or the place of what ends the value.
+pub enum NextByte {
+    Byte { byte: u8, next: usize },
+    Ended { place: usize },
+}
+
+pub fn byte_at(s: &[u8], c: Characters, from: usize) -> NextByte
+    ensures { λ r. ⌜ NextAt c (now (s .entry)) from r ⌝ }
+{
+    let mut at = from;
+    loop {
+        match lex(s, c, at) {
+            Lexed::Byte {
+                byte,
+                place: _,
+                next,
+            } => {
+                return NextByte::Byte { byte, next };
+            }
+            Lexed::Separator { rank: _, next: _ } => {
+                return NextByte::Ended { place: at };
+            }
+            Lexed::Stray { next } => {
+                at = next;
+            }
+            Lexed::End => {
+                return NextByte::Ended { place: at };
+            }
+        }
+    }
+}
+
+// Where the separator stands that ends the value which begins at `from`; the input's end where none does.
+pub fn value_end(s: &[u8], c: Characters, from: usize) -> usize
+    ensures { λ r. ⌜ EndsAt c (now (s .entry)) from r ⌝ }
+{
+    let mut at = from;
+    loop {
+        match byte_at(s, c, at) {
+            NextByte::Byte { byte: _, next } => {
+                at = next;
+            }
+            NextByte::Ended { place } => {
+                return place;
             }
         }
     }

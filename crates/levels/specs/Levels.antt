@@ -1,13 +1,13 @@
 -- Paper 01, "Levels". Assumes nothing.
-use Prim.Native.Nat.{ℕ, zero, suc}
+use Prim.Native.Nat.{ℕ}
 use mathlib.Core.Bool.{Bool, true, false, _||_}
-use mathlib.Core.List.{List, [], _∷_}
+use mathlib.Core.List.{List}
 use mathlib.Core.Option.{Option, none, some}
 use lib.Dec.{leb}
 use Rattle.lists.specs.Lists.{if_then_else_, text, same, member, maybe}
 use Rattle.characters.specs.Characters.{upper, lower, digit}
-use Rattle.reading.specs.Tokens.{Segment}
-use Rattle.reading.specs.Trimming.{valueAt, contentsOf}
+use Rattle.values.specs.Tokens.{Segment}
+use Rattle.values.specs.Trimming.{valueAt, contentsOf}
 
 -- "Level A: `A`-`Z`, `0`-`9`, space and `. , - ( ) / = ' + : ? ! " % & * ; < >`."
 unfoldable pub inLevelA : ℕ → Bool
@@ -20,15 +20,6 @@ inLevelB b = inLevelA b || lower b
 -- A byte's class is the number of levels in which it belongs: level A holds class 2, level B classes 1 and 2.
 unfoldable pub classOf : ℕ → ℕ
 classOf b = if inLevelA b then 2 else if inLevelB b then 1 else 0
-
--- what a rule gives for each number from n, as many as are asked for
-unfoldable pub tabulate : (ℕ → ℕ) → ℕ → ℕ → List ℕ
-tabulate f n zero = []
-tabulate f n (suc k) = f n ∷ tabulate f (suc n) k
-
--- "Each of the 256 byte values has one entry that says in which of the two levels it belongs."
-unfoldable pub classTable : List ℕ
-classTable = tabulate classOf 0 256
 
 -- A level is known by the least class that belongs in it: 2 for `UNOA`, 1 for `UNOB`.
 unfoldable pub levelNamed : List ℕ → Option ℕ

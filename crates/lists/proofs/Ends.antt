@@ -5,7 +5,7 @@ use mathlib.Core.List.{List, [], _∷_, _++_, map}
 use Rattle.lists.specs.Lists.{unlessIdle, dropEnd, trimEnd}
 
 module _ {A : Type 0} (t : A → Bool) where
-  -- what was left of an idle end has none
+  -- what is left where an idle end was dropped has no idle end
   pub dropEnd-again : (xs : List A) → dropEnd t (dropEnd t xs) ≡ dropEnd t xs
   unfolding dropEnd unlessIdle
   dropEnd-again [] = refl
@@ -23,7 +23,7 @@ module _ {A : Type 0} (t : A → Bool) where
   trimEnd-again (x ∷ xs) = ap (λ (l : List A). x ∷ l) (dropEnd-again xs)
 
 module _ {A B : Type 0} (f : A → B) (t : B → Bool) where
-  -- the end of what a map gives is idle where the map's values are
+  -- an idle end may be dropped before a map or after it
   pub dropEnd-map : (xs : List A) → dropEnd t (map f xs) ≡ map f (dropEnd (λ x. t (f x)) xs)
   unfolding dropEnd unlessIdle
   dropEnd-map [] = refl

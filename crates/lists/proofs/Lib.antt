@@ -1,4 +1,5 @@
 pub mod Texts
+pub mod Tests
 pub mod Numbers
 pub mod Pieces
 pub mod Ends

@@ -32,7 +32,7 @@ at-map d f g [] n = refl
 at-map d f g (x ∷ xs) zero = refl
 at-map d f g (x ∷ xs) (suc n) = at-map d f g xs n
 
--- Who reads an idle one as none reads the same where an idle end is dropped.
+-- Where an idle one is read as none, dropping an idle end does not change what is read.
 module _ {A B : Type 0} (t : A → Bool) (h : Option A → B) (idle : (x : A) → t x ≡ true → h (some x) ≡ h none) where
   pub at-dropEnd : (xs : List A) (n : ℕ) → h (at (dropEnd t xs) n) ≡ h (at xs n)
   unfolding at dropEnd unlessIdle

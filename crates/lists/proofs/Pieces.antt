@@ -8,7 +8,7 @@ use Rattle.lists.specs.Lists.{if_then_else_, all, through, beyond, onto,
 use Rattle.lists.proofs.Texts.{and-right, if-true, if-false}
 use Rattle.lists.proofs.Numbers.{drop-nothing}
 
--- one more in front of the first piece leaves those behind it
+-- one more in front of the first piece leaves those after it
 pub drop-onto : {A : Type 0} (x : A) (pieces : List (List A)) (n : ℕ) → drop (suc n) (onto false x pieces) ≡ drop (suc n) pieces
 unfolding onto
 drop-onto x [] n = drop-nothing n

@@ -97,7 +97,7 @@ module _ {A : Type 0} where
   onto false x [] = (x ∷ []) ∷ []
   onto false x (piece ∷ pieces) = (x ∷ piece) ∷ pieces
 
-  -- the list cut behind each that passes the test: a piece holds what ends it, and only the last piece may lack that
+  -- the list cut after each that passes the test: a piece holds what ends it, and only the last piece may lack that
   unfoldable pub cut : (A → Bool) → List A → List (List A)
   cut t [] = []
   cut t (x ∷ xs) = onto (t x) x (cut t xs)
@@ -123,16 +123,16 @@ module _ {A : Type 0} where
   -- ---- pieces joined
 
   -- the pieces, with x in front of each
-  unfoldable pub behind : A → List (List A) → List A
-  behind x [] = []
-  behind x (piece ∷ pieces) = x ∷ (piece ++ behind x pieces)
+  unfoldable pub eachLedBy : A → List (List A) → List A
+  eachLedBy x [] = []
+  eachLedBy x (piece ∷ pieces) = x ∷ (piece ++ eachLedBy x pieces)
 
   -- the pieces, with x between any two
   unfoldable pub joined : A → List (List A) → List A
   joined x [] = []
-  joined x (piece ∷ pieces) = piece ++ behind x pieces
+  joined x (piece ∷ pieces) = piece ++ eachLedBy x pieces
 
--- what f gives for each, one behind the other
+-- what f gives for each, one after another
 unfoldable pub gather : {A B : Type 0} → (A → List B) → List A → List B
 gather f [] = []
 gather f (x ∷ xs) = f x ++ gather f xs

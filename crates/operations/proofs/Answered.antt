@@ -2,7 +2,6 @@
 -- Assumes nothing.
 use Prim.Native.Nat.{ℕ, _≤_, _<_}
 use mathlib.Core.Path.{_≡_, refl, ap, ap₂, _∙_}
-use mathlib.Core.Bool.{Bool}
 use mathlib.Core.List.{List, [], _∷_, _++_}
 use mathlib.Core.Option.{Option, none, some}
 use native.Mathlib.Nat.{zero-add}
@@ -13,22 +12,22 @@ use borrow.Author.Tests.{lt-ltb, le-ltb}
 use Rattle.lists.specs.Lists.{if_then_else_, maybe}
 use Rattle.refusals.specs.declared.Fault.the-variants.{BufferShort}
 use Rattle.refusals.specs.declared.Refusal.{Refusal}
-use Rattle.refusals.specs.Refusals.{Stage, met, placeIf, lowerOf, lowest, orElse, answering}
-use Rattle.refusals.proofs.Stages.{answering-append}
-use Rattle.reading.specs.Values.{Value}
-use Rattle.verdict.specs.Contents.{normalForm}
-use Rattle.verdict.specs.Stages.{stages, refusalOf}
+use Rattle.refusals.specs.Refusals.{Stage, orElse, answering}
+use Rattle.refusals.proofs.Stages.{answering-append, one-place}
+use Rattle.values.specs.Values.{Value}
+use Rattle.stages.specs.Contents.{normalForm}
+use Rattle.stages.specs.Stages.{stages, refusalOf}
 use Rattle.answers.specs.Answers.{given, refused, refusedInput, accepted}
-use Rattle.operations.specs.Judge.{interchangeOf, judge, shortFor, storedIn, unlessRefused, normaliseRefusal, normalise, normaliseBuffer}
+use Rattle.operations.specs.Judge.{figuresOf, judge, shortFor, storedIn, unlessRefused, normaliseRefusal, normalise, normaliseBuffer}
 use Rattle.operations.specs.Compare.{areSame, compare}
 use Rattle.operations.specs.Locate.{located, locate, partOffset, partLength}
 use Rattle.operations.specs.Read.{valueBytes, valueTable, readRefusal, read, readBytes, readTable}
 
 -- ---- Judge and Compare, by what refuses the inputs
 
-pub judge-by : (s : List ℕ) (o : Option Refusal) → refusalOf s ≡ o → judge s ≡ maybe (accepted (interchangeOf s)) refused o
+pub judge-by : (s : List ℕ) (o : Option Refusal) → refusalOf s ≡ o → judge s ≡ maybe (accepted (figuresOf s)) refused o
 unfolding judge
-judge-by s o e = ap (maybe (accepted (interchangeOf s)) refused) e
+judge-by s o e = ap (maybe (accepted (figuresOf s)) refused) e
 
 pub compare-by : (a b : List ℕ) (o p : Option Refusal) → refusalOf a ≡ o → refusalOf b ≡ p
     → compare a b ≡ maybe (maybe (given ((if areSame a b then 1 else 0) ∷ [])) (refusedInput 2) p) (refusedInput 1) o
@@ -38,13 +37,13 @@ compare-by a b o p =
 
 -- ---- Locate's companion
 
--- the offset and the length of a part, from the values that are answered: none is told where there are not two
+-- the offset and the length of a part, from the values that are answered: 0 and 0 where there are not two
 unfoldable pub partIn : List ℕ → ℕ × ℕ
 partIn [] = (0, 0)
 partIn (offset ∷ []) = (0, 0)
 partIn (offset ∷ size ∷ rest) = (offset, size)
 
--- Locate's answer tells the part that the companion hands back
+-- Locate's answer names the part that the companion hands back
 pub part-told : (s : List ℕ) (segment element component : ℕ)
     → partIn (locate s segment element component .values)
     ≡ (partOffset s segment element component, partLength s segment element component)
@@ -58,14 +57,14 @@ part-told s segment element component = step (refusalOf s) (located s segment el
     step none (some v) = refl
     step (some r) v = refl
 
--- ---- stages behind those of the input
+-- ---- stages after those of the input
 
 -- what refuses the input answers,
 pub input-answers : (s : List ℕ) (last : List Stage) {r : Refusal} → refusalOf s ≡ some r → answering (stages s ++ last) ≡ some r
 unfolding refusalOf orElse
 input-answers s last e = answering-append (stages s) last ∙ ap (λ (o : Option Refusal). orElse o (answering last)) e
 
--- and the stages behind answer where nothing does
+-- and where nothing does, the stages after them answer
 pub last-answers : (s : List ℕ) (last : List Stage) → refusalOf s ≡ none → answering (stages s ++ last) ≡ answering last
 unfolding refusalOf orElse
 last-answers s last e = answering-append (stages s) last ∙ ap (λ (o : Option Refusal). orElse o (answering last)) e
@@ -73,16 +72,14 @@ last-answers s last e = answering-append (stages s) last ∙ ap (λ (o : Option 
 -- a lent buffer that is too short answers with the length that is needed
 pub short-answers : (new buffer : List ℕ) (last : List Stage) → length buffer < length new
     → answering (shortFor new buffer ∷ last) ≡ some (record { fault = BufferShort; place = length new })
-unfolding answering shortFor orElse met placeIf lowest lowerOf
-short-answers new buffer last h =
-    ap (λ (t : Bool). answering (met BufferShort (placeIf t (length new)) ∷ last)) (lt-ltb (length buffer) (length new) h)
+unfolding shortFor
+short-answers new buffer last h = one-place BufferShort (length new) last (lt-ltb (length buffer) (length new) h)
 
--- and one that holds the new leaves it to those behind
+-- and one that is long enough leaves the answer to the stages after it
 pub room-answers : (new buffer : List ℕ) (last : List Stage) → length new ≤ length buffer
     → answering (shortFor new buffer ∷ last) ≡ answering last
-unfolding answering shortFor orElse met placeIf lowest
-room-answers new buffer last h =
-    ap (λ (t : Bool). answering (met BufferShort (placeIf t (length new)) ∷ last)) (le-ltb (length buffer) (length new) h)
+unfolding shortFor
+room-answers new buffer last h = one-place BufferShort (length new) last (le-ltb (length buffer) (length new) h)
 
 -- a text stored at the front is the text and what is beyond it
 pub front-stored : (buffer text : List ℕ) → length text ≤ length buffer → sets buffer 0 text ≡ storedIn buffer text

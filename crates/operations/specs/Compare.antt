@@ -6,8 +6,8 @@ use mathlib.Core.Option.{Option, none, some}
 use lib.ListN.{length}
 use lib.Dec.{ltb}
 use Rattle.lists.specs.Lists.{if_then_else_, same, maybe}
-use Rattle.verdict.specs.Contents.{normalForm}
-use Rattle.verdict.specs.Stages.{refusalOf}
+use Rattle.stages.specs.Contents.{normalForm}
+use Rattle.stages.specs.Stages.{refusalOf}
 use Rattle.answers.specs.Answers.{Answer, given, refusedInput}
 
 -- "Two interchanges are the same when both are accepted and their normal forms are equal."

@@ -11,16 +11,16 @@ use Rattle.refusals.specs.declared.Fault.the-variants.{BufferShort}
 use Rattle.refusals.specs.declared.Refusal.{Refusal}
 use Rattle.refusals.specs.Refusals.{Stage, met, placeIf, answering}
 use Rattle.segments.specs.Order.{segmentsIn, messagesIn, groupsIn}
-use Rattle.verdict.specs.Contents.{kindsOf, normalForm}
-use Rattle.verdict.specs.Stages.{stages, refusalOf}
-use Rattle.answers.specs.declared.Interchange.{Interchange}
+use Rattle.stages.specs.Contents.{kindsOf, normalForm}
+use Rattle.stages.specs.Stages.{stages, refusalOf}
+use Rattle.answers.specs.declared.Figures.{Figures}
 use Rattle.answers.specs.Answers.{Answer, given, refused, accepted}
 
 -- ---- Judge
 
 -- what is said of an accepted interchange
-unfoldable pub interchangeOf : List ℕ → Interchange
-interchangeOf s =
+unfoldable pub figuresOf : List ℕ → Figures
+figuresOf s =
     record {
       characters = charactersOf s;
       segments = record { 0 = segmentsIn (kindsOf s) };
@@ -31,7 +31,7 @@ interchangeOf s =
 
 -- "service characters, counts of segments, messages and groups, length of the normal form; or a refusal"
 unfoldable pub judge : List ℕ → Answer
-judge s = maybe (accepted (interchangeOf s)) refused (refusalOf s)
+judge s = maybe (accepted (figuresOf s)) refused (refusalOf s)
 
 -- ---- what a lent buffer holds
 
@@ -39,7 +39,7 @@ judge s = maybe (accepted (interchangeOf s)) refused (refusalOf s)
 unfoldable pub shortFor : {A : Type 0} → List A → List A → Stage
 shortFor new buffer = met BufferShort (placeIf (ltb (length buffer) (length new)) (length new))
 
--- the buffer with the new in its front: what is beyond keeps its values
+-- the buffer with what is stored at its front: what is beyond keeps its values
 unfoldable pub storedIn : {A : Type 0} → List A → List A → List A
 storedIn buffer new = new ++ drop (length new) buffer
 

@@ -4,10 +4,10 @@ use mathlib.Core.List.{List, [], _∷_, map}
 use mathlib.Core.Option.{Option, none, some}
 use lib.ListN.{take, drop}
 use Rattle.lists.specs.Lists.{at, maybe}
-use Rattle.reading.specs.Values.{Value}
-use Rattle.reading.specs.Trimming.{trimmed, valueAt}
-use Rattle.verdict.specs.Contents.{segmentsOf}
-use Rattle.verdict.specs.Stages.{refusalOf}
+use Rattle.values.specs.Values.{Value}
+use Rattle.values.specs.Trimming.{trimmed, valueAt}
+use Rattle.stages.specs.Contents.{segmentsOf}
+use Rattle.stages.specs.Stages.{refusalOf}
 use Rattle.answers.specs.Answers.{Answer, given, refused}
 
 module _ (s : List ℕ) (segment element component : ℕ) where

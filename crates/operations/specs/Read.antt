@@ -6,8 +6,8 @@ use lib.ListN.{length}
 use Rattle.lists.specs.Lists.{maybe}
 use Rattle.refusals.specs.declared.Refusal.{Refusal}
 use Rattle.refusals.specs.Refusals.{answering}
-use Rattle.verdict.specs.Contents.{contents}
-use Rattle.verdict.specs.Stages.{stages}
+use Rattle.stages.specs.Contents.{contents}
+use Rattle.stages.specs.Stages.{stages}
 use Rattle.answers.specs.Answers.{Answer, given, refused}
 use Rattle.operations.specs.Judge.{shortFor, storedIn, unlessRefused}
 use Rattle.operations.specs.ValueList.{listOf, listBytes, listTable}

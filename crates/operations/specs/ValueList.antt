@@ -4,14 +4,18 @@ use mathlib.Core.Bool.{Bool}
 use mathlib.Core.List.{List, [], _∷_, _++_, map}
 use lib.ListN.{length, take, drop}
 use lib.Dec.{leb}
-use Rattle.lists.specs.Lists.{cut, gather, isEmpty}
-use Rattle.reading.specs.Trimming.{trimSegment}
-use Rattle.reading.specs.Spelling.{Bytes, SegmentList}
+use Rattle.lists.specs.Lists.{if_then_else_, cut, gather, isEmpty}
+use Rattle.values.specs.Trimming.{trimSegment}
+use Rattle.values.specs.Spelling.{Bytes, SegmentList}
 
 -- "kind (0 new segment, 1 new element, 2 next component)"
 pub record Item : Type 0 where
   pub kind : ℕ
   pub value : Bytes
+
+-- A kind says what a value begins, a separator's rank what it ends. The rank of the separator that stands before a value of this kind:
+unfoldable pub rankOf : ℕ → ℕ
+rankOf kind = if leb kind 0 then 0 else if leb kind 1 then 1 else 2
 
 -- ---- from segments to a value list
 
@@ -58,17 +62,17 @@ valueIn bytes e = take (e .size) (drop (e .start) bytes)
 unfoldable pub listedIn : Bytes → List ℕ → List Item
 listedIn bytes table = map (λ e. record { kind = e .kind; value = valueIn bytes e }) (entries table)
 
--- each value with the kind of what ends it: that of the next one, or 0 at the end
+-- each value with the kind of what ends it: the kind of the next value, or 0 at the end
 unfoldable pub closed : List Item → List Item
 closed [] = []
 closed (l ∷ []) = record { kind = 0; value = l .value } ∷ []
 closed (l ∷ next ∷ ls) = record { kind = next .kind; value = l .value } ∷ closed (next ∷ ls)
 
--- a value with which what a separator of this kind ends has ended
+-- a value with which what a separator of this rank ends has ended
 unfoldable pub closes : ℕ → Item → Bool
-closes kind l = leb (l .kind) kind
+closes rank l = leb (rankOf (l .kind)) rank
 
--- the elements of a segment, and the segments, of values with what ends them
+-- the elements of a segment, and the segments, of values that are given with what ends them
 abbrev pub elementsListed : List Item → List (List Bytes)
 elementsListed segment = map (map (λ l. l .value)) (cut (closes 1) segment)
 

@@ -7,16 +7,17 @@ use lib.ListN.{length, replicate}
 use lib.Dec.{eqb, ltb}
 use Rattle.lists.specs.Lists.{any, at, maybe}
 use Rattle.characters.specs.declared.Characters.{Characters}
-use Rattle.characters.specs.Characters.{sixBytes, usable, released, isService}
+use Rattle.characters.specs.Characters.{sixBytes, usable, hasRelease, isService}
 use Rattle.refusals.specs.declared.Fault.the-variants.{TooLong, UnusableAdvice, BadList, NeedsRelease}
 use Rattle.refusals.specs.declared.Refusal.{Refusal}
-use Rattle.refusals.specs.Refusals.{met, placeIf, answering}
-use Rattle.verdict.specs.Contents.{interchange}
-use Rattle.verdict.specs.Places.{tooLong}
-use Rattle.verdict.specs.Stages.{laterStages}
+use Rattle.refusals.specs.Refusals.{Stage, met, placeIf, answering}
+use Rattle.stages.specs.Contents.{interchange}
+use Rattle.stages.specs.Places.{tooLong}
+use Rattle.stages.specs.Stages.{laterStages}
 use Rattle.answers.specs.Answers.{Answer, given, refused}
 use Rattle.operations.specs.Judge.{shortFor, storedIn, unlessRefused}
 use Rattle.operations.specs.ValueList.{Entry, entries, valueIn, listedIn, segmentsListed, trimList}
+use Rattle.refusals.specs.Limits.{mostNumbers}
 
 -- the numbers of the records that fail a test, the first one's being given
 unfoldable pub numbersWhere : (Entry → Bool) → ℕ → List Entry → List ℕ
@@ -26,7 +27,7 @@ numbersWhere fails n (e ∷ es) = placeIf (fails e) n ++ numbersWhere fails (suc
 -- "table over 96,000 numbers or not a multiple of 3; first kind not 0"
 unfoldable pub badTable : List ℕ → Bool
 badTable table =
-    ltb 96000 (length table)
+    ltb mostNumbers (length table)
     || not (eqb (length table % 3) 0)
     || maybe false (λ e. not (eqb (e .kind) 0)) (at (entries table) 0)
 
@@ -44,7 +45,7 @@ unusableBytes service = placeIf (not (eqb (length service) 6 && usable (sixBytes
 
 -- "a value holds a service character and there is no release"
 unfoldable pub lacksRelease : Characters → List ℕ → Bool
-lacksRelease c value = not (released c) && any (isService c) value
+lacksRelease c value = not (hasRelease c) && any (isService c) value
 
 module _ (service bytes table : List ℕ) where
   -- 16: "lowest such record number"
@@ -57,16 +58,18 @@ module _ (service bytes table : List ℕ) where
 
 module _ (service bytes table output : List ℕ) where
   -- "Writer: 15, 2, 16, 1, 14, then 3 to 13 as Judge would answer for the text."
-  unfoldable pub writeRefusal : Option Refusal
-  writeRefusal =
+  unfoldable pub writeStages : List Stage
+  writeStages =
       let written = writtenText service bytes table in
-      answering
-      (met BadList (badList bytes table)
+      met BadList (badList bytes table)
       ∷ met UnusableAdvice (unusableBytes service)
       ∷ met NeedsRelease (needsRelease service bytes table)
       ∷ met TooLong (tooLong written)
       ∷ shortFor written output
-      ∷ laterStages written)
+      ∷ laterStages written
+
+  unfoldable pub writeRefusal : Option Refusal
+  writeRefusal = answering writeStages
 
   unfoldable pub write : Answer
   write = maybe (given (length (writtenText service bytes table) ∷ [])) refused writeRefusal

@@ -5,16 +5,20 @@ use answers::Compared;
 use libc::STDOUT_FILENO;
 use refusals::Refusal;
 
+pub fn print_line(words: &[u8]) -> bool {
+    io::write_all(STDOUT_FILENO, words) && io::write_all(STDOUT_FILENO, b"\n")
+}
+
 // A space and a number.
 pub fn print_value(value: u64) -> bool {
     io::write_all(STDOUT_FILENO, b" ") && io::print_decimal(STDOUT_FILENO, value)
 }
 
-// The line of a refusal, behind the words that it begins with.
+// The line of a refusal, after the words that it begins with.
 pub fn print_refused(words: &[u8], refusal: Refusal) -> bool {
     let fault = refusal.fault;
     io::write_all(STDOUT_FILENO, words)
-        && print_value(reporting::number_of(fault) as u64)
+        && print_value(refusing::number_of(fault) as u64)
         && print_value(refusal.place as u64)
         && io::write_all(STDOUT_FILENO, b"\n")
 }
@@ -22,8 +26,8 @@ pub fn print_refused(words: &[u8], refusal: Refusal) -> bool {
 // "same, different, or refusal with 1st or 2nd input"
 pub fn print_compared(compared: Compared) -> bool {
     match compared {
-        Compared::Same => io::write_all(STDOUT_FILENO, b"same\n"),
-        Compared::Different => io::write_all(STDOUT_FILENO, b"different\n"),
+        Compared::Same => print_line(b"same"),
+        Compared::Different => print_line(b"different"),
         Compared::FirstRefused(refusal) => print_refused(b"refused 1", refusal),
         Compared::SecondRefused(refusal) => print_refused(b"refused 2", refusal),
     }

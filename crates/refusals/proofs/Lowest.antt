@@ -1,4 +1,4 @@
--- What `lowest` answers: the refusal of the stage than which none is lower, whatever the order in which the stage lists them.
+-- What `lowest` answers: a refusal of the stage such that none is lower, whatever the order in which the stage lists them.
 -- So a stage may be taken in parts, regrouped, and left at the first refusal where the places rise. Assumes nothing.
 use Prim.Native.Nat.{_≤_, _<_}
 use mathlib.Core.Path.{_≡_, refl, sym, ap, subst, _∙_}
@@ -17,7 +17,7 @@ pub record LowestOf (rs : Stage) (r : Refusal) : Type 0 where
   pub met : List·Memᴰ r rs
   pub least : (q : Refusal) → List·Memᴰ q rs → isLower q r ≡ false
 
--- r is the lowest of those that it stands in front of, where none of them is lower
+-- a refusal in front of others is the lowest of all, where none of them is lower
 front-lowest : (r : Refusal) (rs : Stage) → ((q : Refusal) → List·Memᴰ q rs → isLower q r ≡ false) → LowestOf (r ∷ rs) r
 front-lowest r rs h =
     record { met = List·Memᴰ·head refl; least = λ q m. ⊎-elim (λ e. not-lower q r (omega (arith, ap key e))) (h q) (List·Memᴰ·cases-cons m) }
@@ -101,7 +101,7 @@ merge-regroup a b c d =
     cc (merge-assoc a b (merge c d), merge-assoc b c d, merge-comm b c, merge-assoc c b d, merge-assoc a c (merge b d))
 
 module _ {A : Type 0} where
-  -- what is gathered of two kinds, one kind behind the other, may be gathered together
+  -- what is gathered by two functions, one after the other, may be gathered together
   pub lowest-gather : (f g : A → Stage) (xs : List A) → lowest (gather f xs ++ gather g xs) ≡ lowest (gather (λ x. f x ++ g x) xs)
   unfolding gather
   lowest-gather f g [] = refl
@@ -115,7 +115,7 @@ module _ {A : Type 0} where
   lowest-gather-three f g h xs =
       rw (lowest-append (gather f xs ++ gather g xs), lowest-gather f g xs, ← lowest-append, lowest-gather (λ x. f x ++ g x) h xs)
 
--- where nothing behind it is lower, the first answers
+-- where nothing after it is lower, the first answers
 pub lowest-first : (r : Refusal) (rs : Stage) → ((q : Refusal) → List·Memᴰ q rs → isLower q r ≡ false) → lowest (r ∷ rs) ≡ some r
 lowest-first r rs h = lowest-answers (r ∷ rs) r (front-lowest r rs h)
 

@@ -22,7 +22,7 @@ faults =
 
 -- a fault stands at its number, which is below 17 and above 0
 numbered : (f : Fault) → (getD faults (number f) TooLong ≡ f) × (ltb (number f) 17 ≡ true) × (ltb 0 (number f) ≡ true)
-unfolding number faults
+unfolding faults
 numbered TooLong = (refl, refl, refl)
 numbered UnusableAdvice = (refl, refl, refl)
 numbered NoOpening = (refl, refl, refl)

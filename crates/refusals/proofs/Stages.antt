@@ -6,6 +6,7 @@ use mathlib.Core.List.{List, [], _∷_, _++_, map, List·Memᴰ, List·Memᴰ·h
 use mathlib.Core.Option.{Option, none, some, Option·some-ne-none}
 use mathlib.Core.Logic.{⊎-elim, _↔_}
 use native.Mathlib.Omega.{arith}
+use Rattle.lists.specs.Lists.{if_then_else_}
 use Rattle.lists.proofs.Texts.{if-false}
 use Rattle.refusals.specs.declared.Fault.{Fault}
 use Rattle.refusals.specs.declared.Refusal.{Refusal}
@@ -67,7 +68,27 @@ module _ (f : Fault) where
       ap (lowerOf (at p)) (met-rising q ps (chain .1))
       ∙ ap some (if-false (isLower (at q) (at p)) (at q) (at p) (not-lower (at q) (at p) (omega arith)))
 
--- ---- answers one behind the other
+  -- a stage of one refusal at one place answers it where its test passes
+  pub lowest-if : (t : Bool) (p : ℕ) → lowest (met f (placeIf t p)) ≡ (if t then some (record { fault = f; place = p }) else none)
+  unfolding met placeIf lowest lowerOf
+  lowest-if true p = refl
+  lowest-if false p = refl
+
+  -- and leaves the answer to the stages after it where the test fails
+  pub one-place : {t b : Bool} (p : ℕ) (after : List Stage) → t ≡ b
+      → answering (met f (placeIf t p) ∷ after) ≡ (if b then some (record { fault = f; place = p }) else answering after)
+  unfolding answering orElse
+  one-place {t} {b} p after e =
+      ap (λ (o : Option Refusal). orElse o (answering after)) (lowest-if t p)
+      ∙ ap (λ (c : Bool). orElse (if c then some (record { fault = f; place = p }) else none) (answering after)) e
+      ∙ step b
+    where
+      step : (c : Bool) → orElse (if c then some (record { fault = f; place = p }) else none) (answering after)
+          ≡ (if c then some (record { fault = f; place = p }) else answering after)
+      step true = refl
+      step false = refl
+
+-- ---- answers one after the other
 
 pub orElse-none : (o : Option Refusal) → orElse o none ≡ o
 unfolding orElse
@@ -85,7 +106,7 @@ unfolding orElse
 orElse-neither none p h = (refl, h)
 orElse-neither (some r) p h = absurd (Option·some-ne-none r h)
 
--- what a stage comes to tells its answer
+-- a stage's outcome gives its answer
 pub failed-is : (o : Option Refusal) (r : Refusal) → outcome o ≡ Failed r → o ≡ some r
 unfolding outcome
 failed-is none r e = cc

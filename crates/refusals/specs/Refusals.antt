@@ -12,7 +12,7 @@ use Rattle.refusals.specs.declared.Outcome.{Outcome}
 use Rattle.refusals.specs.declared.Outcome.the-variants.{Passed, Failed}
 
 -- the paper's number of each
-unfoldable pub number : Fault → ℕ
+abbrev pub number : Fault → ℕ
 number TooLong = 1
 number UnusableAdvice = 2
 number NoOpening = 3
@@ -60,12 +60,12 @@ unfoldable pub answering : List Stage → Option Refusal
 answering [] = none
 answering (stage ∷ stages) = orElse (lowest stage) (answering stages)
 
--- what a stage comes to, from the refusal that it answers
+-- the outcome of a stage, from the refusal that it answers
 unfoldable pub outcome : Option Refusal → Outcome
 outcome none = Passed
 outcome (some r) = Failed r
 
--- what a stage with this refusal comes to
+-- the outcome of a stage that answers this refusal
 abbrev pub failedAt : Fault → ℕ → Outcome
 failedAt fault place = Failed (record { fault = fault; place = place })
 

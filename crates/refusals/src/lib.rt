@@ -1,8 +1,12 @@
 // Refusals (paper 01, "Refusals by number"): the sixteen by name, and the rule that picks one:
 // the first failing stage answers; within a stage the lowest place, then the lowest number.
-// The definitions are in specs/. When each refusal is met is left to `verdict` and `operations`.
-ghost use mathlib.Core.Path.{_≡_};
-ghost use Rattle.refusals.specs.Refusals.{failedAt};
+// The definitions are in specs/. When each refusal is met is left to `stages` and `operations`.
+
+// The most bytes of an input, a text or a normal form (refusals 1 and 13), and the most numbers of a
+// value list's table (refusal 15).
+pub const MOST_BYTES: usize = 32000;
+
+pub const MOST_NUMBERS: usize = 96000;
 
 pub enum Fault {
     TooLong,
@@ -28,15 +32,8 @@ pub struct Refusal {
     pub place: usize,
 }
 
-// What a stage comes to.
+// The outcome of a stage.
 pub enum Outcome {
     Passed,
     Failed(Refusal),
-}
-
-// What a stage with this refusal comes to.
-pub fn failed(fault: Fault, place: usize) -> Outcome
-    ensures { λ r. ⌜ r ≡ failedAt fault place ⌝ }
-{
-    Outcome::Failed(Refusal { fault, place })
 }

@@ -1,4 +1,4 @@
--- What the scanner says at a place is the token that `reading` has there. Assumes nothing.
+-- What the scanner says at a place is the token that `values` has there. Assumes nothing.
 use Prim.Native.Nat.{ℕ, _+_, _≤_, _<_}
 use native.Mathlib.Omega.{arith}
 use native.Mathlib.Decide.{decLe}
@@ -14,16 +14,16 @@ use Rattle.lists.proofs.Texts.{if-true, if-false}
 use Rattle.characters.specs.declared.Characters.{Characters}
 use Rattle.characters.specs.declared.Role.{Role}
 use Rattle.characters.specs.declared.Role.the-variants as role
-use Rattle.characters.specs.Characters.{role as roleIn, released}
-use Rattle.reading.specs.Tokens.{Token, byte, separator, fault, tokensAt}
-use Rattle.reading.proofs.Steps.{at-end, at-plain, at-separator, at-last-release, at-stray-release, at-released-release, at-released-separator}
+use Rattle.characters.specs.Characters.{role as roleIn, hasRelease}
+use Rattle.values.specs.Tokens.{Token, byte, separator, fault, tokensAt}
+use Rattle.values.proofs.Steps.{at-end, at-plain, at-separator, at-last-release, at-stray-release, at-released-release, at-released-separator}
 use Rattle.scanner.specs.declared.Lexed.{Lexed}
 use Rattle.scanner.specs.declared.Lexed.the-variants.{Byte, Separator, Stray, End}
 use Rattle.scanner.specs.Scanner.{lexTaken, lexRole, lexAt}
 
--- there are three kinds of separators
+-- there are three ranks of separators
 abbrev Known : Role → Type 0
-Known (role.Separator kind) = kind ≤ 2
+Known (role.Separator rank) = rank ≤ 2
 Known role.Release = Unit {0}
 Known role.Plain = Unit {0}
 
@@ -33,14 +33,14 @@ role-known c b =
     either (eqb b (c .terminator)) (role.Separator 0) _ (lit≤ tt)
     (either (eqb b (c .element)) (role.Separator 1) _ (lit≤ tt)
     (either (eqb b (c .component)) (role.Separator 2) _ (lit≤ tt)
-    (either (released c && eqb b (c .release)) role.Release role.Plain tt tt)))
+    (either (hasRelease c && eqb b (c .release)) role.Release role.Plain tt tt)))
   where
     either : (t : Bool) (a o : Role) → Known a → Known o → Known (if t then a else o)
     either true a o k l = k
     either false a o k l = l
 
 module _ (c : Characters) (s : List ℕ) (at : ℕ) where
-  -- behind the last byte is the end
+  -- after the last byte is the end
   pub lex-end : length s ≤ at → End ≡ lexAt c s at
   unfolding lexAt
   lex-end h = sym (if-false (ltb at (length s)) (lexRole c s at (roleIn c (getD s at 0))) End (le-ltb at (length s) h))
@@ -52,7 +52,7 @@ module _ (c : Characters) (s : List ℕ) (at : ℕ) where
       ap (lexRole c s at) (sym e)
       ∙ sym (if-true (ltb at (length s)) (lexRole c s at (roleIn c (getD s at 0))) End (lt-ltb at (length s) h))
 
-  -- a release character with nothing behind it
+  -- a release character with nothing after it
   pub lex-last : at < length s → length s ≤ at + 1 → roleIn c (getD s at 0) ≡ role.Release → Stray (at + 1) ≡ lexAt c s at
   unfolding lexRole
   lex-last h k e =
@@ -64,7 +64,7 @@ module _ (c : Characters) (s : List ℕ) (at : ℕ) where
       (le-ltb (at + 1) (length s) k))
       ∙ lex-role role.Release h e
 
-  -- a release character with a byte behind it
+  -- a release character with a byte after it
   pub lex-taken : (o : Role) → at < length s → at + 1 < length s → roleIn c (getD s at 0) ≡ role.Release
       → roleIn c (getD s (at + 1) 0) ≡ o → lexTaken o (getD s (at + 1) 0) (at + 1) (at + 1 + 1) ≡ lexAt c s at
   unfolding lexRole
@@ -78,18 +78,18 @@ module _ (c : Characters) (s : List ℕ) (at : ℕ) where
       (lt-ltb (at + 1) (length s) k))
       ∙ lex-role role.Release h e
 
-  -- The token that stands there and the tokens behind it, as the scanner says them. Every caller goes by this alone.
+  -- The token that stands there and the tokens after it, as the scanner says them. Every caller goes by this alone.
   abbrev pub Lexes : Lexed → Type 0
   Lexes (Byte b place next) = (tokensAt c s at ≡ byte b at place ∷ tokensAt c s next) × (at < next) × (next ≤ length s)
-  Lexes (Separator kind next) =
-      (tokensAt c s at ≡ separator kind at ∷ tokensAt c s next) × (at < next) × (next ≤ length s) × (kind ≤ 2)
+  Lexes (Separator rank next) =
+      (tokensAt c s at ≡ separator rank at ∷ tokensAt c s next) × (at < next) × (next ≤ length s) × (rank ≤ 2)
   Lexes (Stray next) = (tokensAt c s at ≡ fault at ∷ tokensAt c s next) × (at < next) × (next ≤ length s)
   Lexes End = (tokensAt c s at ≡ []) × (length s ≤ at)
 
-  -- behind a release character
+  -- after a release character
   lexes-taken : (o : Role) → at + 1 < length s → roleIn c (getD s at 0) ≡ role.Release → roleIn c (getD s (at + 1) 0) ≡ o
       → Lexes (lexTaken o (getD s (at + 1) 0) (at + 1) (at + 1 + 1))
-  lexes-taken (role.Separator kind) h e d = (at-released-separator c s at kind h e d, omega arith, omega arith)
+  lexes-taken (role.Separator rank) h e d = (at-released-separator c s at rank h e d, omega arith, omega arith)
   lexes-taken role.Release h e d = (at-released-release c s at h e d, omega arith, omega arith)
   lexes-taken role.Plain h e d = (at-stray-release c s at h e d, omega arith, omega arith)
 
@@ -113,8 +113,8 @@ module _ (c : Characters) (s : List ℕ) (at : ℕ) where
 
   lexes-role : (o : Role) → at < length s → roleIn c (getD s at 0) ≡ o → Lexes (lexRole c s at o)
   unfolding lexRole
-  lexes-role (role.Separator kind) h e =
-      (at-separator c s at kind h e, omega arith, omega arith, subst Known e (role-known c (getD s at 0)))
+  lexes-role (role.Separator rank) h e =
+      (at-separator c s at rank h e, omega arith, omega arith, subst Known e (role-known c (getD s at 0)))
   lexes-role role.Release h e = lexes-release h e
   lexes-role role.Plain h e = (at-plain c s at h e, omega arith, omega arith)
 

@@ -9,7 +9,7 @@ use borrow.Author.Tests.{le-leb, lt-leb}
 use Rattle.lists.specs.Lists.{if_then_else_, beyond}
 use Rattle.lists.proofs.Texts.{if-true, if-false}
 use Rattle.characters.specs.declared.Characters.{Characters}
-use Rattle.reading.specs.Tokens.{Token, byte, separator, fault, ends, tokensAt}
+use Rattle.values.specs.Tokens.{Token, byte, separator, fault, ends, tokensAt}
 use Rattle.scanner.specs.declared.Lexed.the-variants.{Byte, Separator, Stray, End}
 use Rattle.scanner.specs.declared.Scanned.{Scanned}
 use Rattle.scanner.specs.Scan.{Scanning, ended, stray, unended, scanned, Scans}
@@ -24,19 +24,19 @@ module _ (c : Characters) (s : List ℕ) (at : ℕ) where
   unfolding scanned
   scan-byte l = ap scanned (l .0)
 
-  pub scan-terminator : {kind next : ℕ} → Lexes c s at (Separator kind next) → kind ≡ 0
+  pub scan-terminator : {rank next : ℕ} → Lexes c s at (Separator rank next) → rank ≡ 0
       → scanned (tokensAt c s at) ≡ ended (tokensAt c s next)
   unfolding scanned
-  scan-terminator {kind} {next} l z =
+  scan-terminator {rank} {next} l z =
       ap scanned (l .0)
-      ∙ if-true (leb kind 0) (ended (tokensAt c s next)) (scanned (tokensAt c s next)) (le-leb kind 0 (omega arith))
+      ∙ if-true (leb rank 0) (ended (tokensAt c s next)) (scanned (tokensAt c s next)) (le-leb rank 0 (omega arith))
 
-  pub scan-separator : {kind next : ℕ} → Lexes c s at (Separator kind next) → (kind ≡ 0 → ⊥)
+  pub scan-separator : {rank next : ℕ} → Lexes c s at (Separator rank next) → (rank ≡ 0 → ⊥)
       → scanned (tokensAt c s at) ≡ scanned (tokensAt c s next)
   unfolding scanned
-  scan-separator {kind} {next} l z =
+  scan-separator {rank} {next} l z =
       ap scanned (l .0)
-      ∙ if-false (leb kind 0) (ended (tokensAt c s next)) (scanned (tokensAt c s next)) (lt-leb kind 0 (omega arith))
+      ∙ if-false (leb rank 0) (ended (tokensAt c s next)) (scanned (tokensAt c s next)) (lt-leb rank 0 (omega arith))
 
   pub scan-stray : {next : ℕ} → Lexes c s at (Stray next) → scanned (tokensAt c s at) ≡ stray at
   unfolding scanned
@@ -47,24 +47,24 @@ module _ (c : Characters) (s : List ℕ) (at : ℕ) where
   scan-end l = ap scanned (l .0)
 
 -- what follows the terminator that a scan found, and something else where it found none
-behind : Scanning → List Token → List Token
-behind (ended rest) other = rest
-behind (stray place) other = other
-behind unended other = other
+after : Scanning → List Token → List Token
+after (ended rest) other = rest
+after (stray place) other = other
+after unended other = other
 
 -- a scan that finds a terminator finds the first
-scanned-behind : (ts : List Token) → behind (scanned ts) (beyond (ends 0) ts) ≡ beyond (ends 0) ts
-unfolding scanned beyond ends behind
-scanned-behind [] = refl
-scanned-behind (byte b from place ∷ ts) = scanned-behind ts
-scanned-behind (fault place ∷ ts) = refl
-scanned-behind (separator kind place ∷ ts) = step (leb kind 0) (scanned-behind ts)
+scanned-after : (ts : List Token) → after (scanned ts) (beyond (ends 0) ts) ≡ beyond (ends 0) ts
+unfolding scanned beyond ends after
+scanned-after [] = refl
+scanned-after (byte b from place ∷ ts) = scanned-after ts
+scanned-after (fault place ∷ ts) = refl
+scanned-after (separator rank place ∷ ts) = step (leb rank 0) (scanned-after ts)
   where
-    step : (b : Bool) → behind (scanned ts) (beyond (ends 0) ts) ≡ beyond (ends 0) ts
-        → behind (if b then ended ts else scanned ts) (if b then ts else beyond (ends 0) ts) ≡ (if b then ts else beyond (ends 0) ts)
+    step : (b : Bool) → after (scanned ts) (beyond (ends 0) ts) ≡ beyond (ends 0) ts
+        → after (if b then ended ts else scanned ts) (if b then ts else beyond (ends 0) ts) ≡ (if b then ts else beyond (ends 0) ts)
     step true ih = refl
     step false ih = ih
 
 pub ended-beyond : (ts : List Token) {rest : List Token} → scanned ts ≡ ended rest → rest ≡ beyond (ends 0) ts
-unfolding behind
-ended-beyond ts e = ap (λ (found : Scanning). behind found (beyond (ends 0) ts)) (sym e) ∙ scanned-behind ts
+unfolding after
+ended-beyond ts e = ap (λ (found : Scanning). after found (beyond (ends 0) ts)) (sym e) ∙ scanned-after ts

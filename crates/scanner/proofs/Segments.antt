@@ -1,4 +1,4 @@
--- The segments from a place on: the one that begins there, and those behind it. Assumes nothing.
+-- The segments from a place on: the one that begins there, and those after it. Assumes nothing.
 use Prim.Native.Nat.{ℕ, _≤_, _<_}
 use mathlib.Core.Path.{_≡_, refl, sym, ap, _∙_}
 use mathlib.Core.List.{List, [], _∷_}
@@ -7,8 +7,8 @@ use lib.ListN.{length}
 use Rattle.lists.specs.Lists.{through, cut, beyond}
 use Rattle.lists.proofs.Pieces.{cut-first}
 use Rattle.characters.specs.declared.Characters.{Characters}
-use Rattle.reading.specs.Tokens.{Token, byte, separator, fault, ends, placeOf, segments, start, tokensAt}
-use Rattle.reading.proofs.Steps.{at-end}
+use Rattle.values.specs.Tokens.{Token, byte, separator, fault, ends, placeOf, segments, start, tokensAt}
+use Rattle.values.proofs.Steps.{at-end}
 use Rattle.scanner.specs.declared.Lexed.{Lexed}
 use Rattle.scanner.specs.declared.Lexed.the-variants.{Byte, Separator, Stray, End}
 use Rattle.scanner.specs.Scanner.{lexAt}
@@ -26,11 +26,11 @@ module _ (c : Characters) (s : List ℕ) (at : ℕ) where
     where
       found : (r : Lexed) → Lexes c s at r → Stands
       found (Byte b place next) l = (byte b at place, tokensAt c s next, l .0, refl)
-      found (Separator kind next) l = (separator kind at, tokensAt c s next, l .0, refl)
+      found (Separator rank next) l = (separator rank at, tokensAt c s next, l .0, refl)
       found (Stray next) l = (fault at, tokensAt c s next, l .0, refl)
       found End l = absurd (omega arith)
 
-  -- behind the last byte there is no segment
+  -- after the last byte there is no segment
   pub segments-end : length s ≤ at → segments (tokensAt c s at) ≡ []
   unfolding segments cut
   segments-end h = ap segments (at-end c s at h)

@@ -7,7 +7,7 @@ use lib.ListN.{length}
 use lib.Dec.{leb}
 use Rattle.lists.specs.Lists.{if_then_else_, through, beyond}
 use Rattle.characters.specs.declared.Characters.{Characters}
-use Rattle.reading.specs.Tokens.{Token, byte, separator, fault, Segment, ends, tokensAt}
+use Rattle.values.specs.Tokens.{Token, byte, separator, fault, Segment, ends, tokensAt}
 use Rattle.scanner.specs.declared.Scanned.{Scanned}
 use Rattle.scanner.specs.declared.Scanned.the-variants.{Ended, Stray, Unended}
 
@@ -20,7 +20,7 @@ pub data Scanning : Type 0 where
 unfoldable pub scanned : List Token → Scanning
 scanned [] = unended
 scanned (byte b from place ∷ ts) = scanned ts
-scanned (separator kind place ∷ ts) = if leb kind 0 then ended ts else scanned ts
+scanned (separator rank place ∷ ts) = if leb rank 0 then ended ts else scanned ts
 scanned (fault place ∷ ts) = stray place
 
 module _ (c : Characters) (s : List ℕ) (from : ℕ) where
@@ -34,7 +34,7 @@ module _ (c : Characters) (s : List ℕ) (from : ℕ) where
 unfoldable pub segmentAt : Characters → List ℕ → ℕ → Segment
 segmentAt c s at = through (ends 0) (tokensAt c s at)
 
--- the place behind the first token that passes a test: what follows that token stands there, or nothing where none passes
+-- the place after the first token that passes a test: what follows that token stands there, or nothing where none passes
 abbrev pub Skips : (Token → Bool) → Characters → List ℕ → ℕ → ℕ → Type 0
 Skips t c s from next =
     (tokensAt c s next ≡ beyond t (tokensAt c s from)) × (from ≤ next) × (from < length s → from < next) × (from < length s → next ≤ length s)

@@ -11,15 +11,15 @@ use Rattle.characters.specs.Characters.{role as roleIn}
 use Rattle.scanner.specs.declared.Lexed.{Lexed}
 use Rattle.scanner.specs.declared.Lexed.the-variants.{Byte, Separator, Stray, End}
 
--- the byte at `place`, behind a release character
+-- the byte at `place`, after a release character
 abbrev pub lexTaken : Role → ℕ → ℕ → ℕ → Lexed
-lexTaken (role.Separator kind) b place next = Byte b place next
+lexTaken (role.Separator rank) b place next = Byte b place next
 lexTaken role.Release b place next = Byte b place next
 lexTaken role.Plain b place next = Stray next
 
 module _ (c : Characters) (s : List ℕ) (at : ℕ) where
   unfoldable pub lexRole : Role → Lexed
-  lexRole (role.Separator kind) = Separator kind (at + 1)
+  lexRole (role.Separator rank) = Separator rank (at + 1)
   lexRole role.Plain = Byte (getD s at 0) at (at + 1)
   lexRole role.Release =
       if ltb (at + 1) (length s)

@@ -1,9 +1,9 @@
 // The scanner: what stands at a place of the input (a byte of a value, a separator, a stray release
-// character, the end) and where reading goes on. It promises the tokens of `reading`, one at a time.
+// character, the end) and where reading goes on. It promises the tokens of `values`, one at a time.
 ghost use mathlib.Core.Path.{_≡_};
 ghost use Rattle.characters.specs.Characters.{role};
 ghost use Rattle.scanner.specs.Scanner.{lexTaken, lexAt};
-ghost use Rattle.reading.specs.Tokens.{ends};
+ghost use Rattle.values.specs.Tokens.{ends};
 ghost use Rattle.scanner.specs.Scan.{Scans, Skips};
 use characters::Characters;
 use characters::Role;
@@ -32,12 +32,12 @@ pub fn role_of(c: Characters, b: u8) -> Role
 // What stands at a place. `next` is the place at which reading goes on.
 pub enum Lexed {
     Byte { byte: u8, place: usize, next: usize },
-    Separator { kind: u8, next: usize },
+    Separator { rank: u8, next: usize },
     Stray { next: usize },
     End,
 }
 
-// The byte at `place`, behind a release character.
+// The byte at `place`, after a release character.
 fn taken(role: Role, byte: u8, place: usize, next: usize) -> Lexed
     ensures { λ r. ⌜ r ≡ lexTaken role byte place next ⌝ }
 {
@@ -57,7 +57,7 @@ pub fn lex(s: &[u8], c: Characters, at: usize) -> Lexed
     let b = s[at];
     let next = at + 1;
     match role_of(c, b) {
-        Role::Separator(kind) => Lexed::Separator { kind, next },
+        Role::Separator(rank) => Lexed::Separator { rank, next },
         Role::Plain => Lexed::Byte {
             byte: b,
             place: at,
@@ -95,8 +95,8 @@ pub fn scan(s: &[u8], c: Characters, from: usize) -> Scanned
             } => {
                 at = next;
             }
-            Lexed::Separator { kind, next } => {
-                if kind == 0 {
+            Lexed::Separator { rank, next } => {
+                if rank == 0 {
                     return Scanned::Ended { next };
                 }
                 at = next;
@@ -111,7 +111,7 @@ pub fn scan(s: &[u8], c: Characters, from: usize) -> Scanned
     }
 }
 
-// Where the segment behind this one begins: past the next terminator, or at the end of the input.
+// Where the segment after this one begins: past the next terminator, or at the end of the input.
 pub fn segment_end(s: &[u8], c: Characters, from: usize) -> usize
     ensures { λ r. ⌜ Skips (ends 0) c (now (s .entry)) from r ⌝ }
 {
@@ -135,8 +135,8 @@ fn segment_end_past(s: &[u8], c: Characters, from: usize) -> usize
             } => {
                 at = next;
             }
-            Lexed::Separator { kind, next } => {
-                if kind == 0 {
+            Lexed::Separator { rank, next } => {
+                if rank == 0 {
                     return next;
                 }
                 at = next;

@@ -8,7 +8,7 @@ use Rattle.lists.specs.Lists.{if_then_else_, through, those}
 use Rattle.segments.specs.declared.Kind.{Kind}
 use Rattle.segments.specs.declared.Kind.the-variants.{Unb, Ung, Unh, Uns, Unt, Une, Unz, User}
 use Rattle.segments.specs.declared.Standing.{Standing}
-use Rattle.segments.specs.declared.Standing.the-variants.{BeforeInterchange, BetweenGroups, InGroup, InGroupMessage, InMessage, BehindInterchange}
+use Rattle.segments.specs.declared.Standing.the-variants.{BeforeInterchange, BetweenGroups, InGroup, InGroupMessage, InMessage, AfterInterchange}
 use Rattle.segments.specs.declared.Walk.{Walk}
 use Rattle.segments.specs.Kinds.{is}
 
@@ -33,17 +33,17 @@ messagesSinceGroup past = messagesIn (through (is Ung) past)
 
 -- ---- where the check stands
 
--- of the two, the one named first is the nearer: as a header, what it opened is not closed yet
+-- of the two, the one named first is the nearer: where it is a header, what it opened is not closed yet
 unfoldable pub isOpen : Kind → Kind → List Kind → Bool
 isOpen nearer farther [] = false
 isOpen nearer farther (kind ∷ past) =
     if is nearer kind then true else if is farther kind then false else isOpen nearer farther past
 
--- "before UNB, between groups, inside a group, or inside a message of a group or of none"; or behind UNZ.
--- Between messages of none the check stands where it stands between groups. Behind a segment that is not allowed it says nothing.
+-- "before UNB, between groups, inside a group, or inside a message of a group or of none"; or after UNZ.
+-- Between messages outside groups the check stands where it stands between groups. After a segment that is not allowed it says nothing.
 unfoldable pub standing : List Kind → Standing
 standing past =
-    if isOpen Unz Unb past then BehindInterchange
+    if isOpen Unz Unb past then AfterInterchange
     else if isOpen Unh Unt past then (if isOpen Ung Une past then InGroupMessage else InMessage)
     else if isOpen Ung Une past then InGroup
     else if isOpen Unb Unz past then BetweenGroups else BeforeInterchange
@@ -64,7 +64,7 @@ allowedAt BetweenGroups past kind =
 allowedAt InGroup past kind = is Unh kind || (is Une kind && ltb 0 (messagesSinceGroup past))
 allowedAt InGroupMessage past kind = insideMessage kind
 allowedAt InMessage past kind = insideMessage kind
-allowedAt BehindInterchange past kind = false
+allowedAt AfterInterchange past kind = false
 
 unfoldable pub allowed : List Kind → Kind → Bool
 allowed past kind = allowedAt (standing past) past kind
@@ -73,7 +73,7 @@ allowed past kind = allowedAt (standing past) past kind
 unfoldable pub isComplete : List Kind → Bool
 isComplete past = isOpen Unz Unb past
 
--- the walk's state behind what passed
+-- the walk's state after what passed
 unfoldable pub walkOver : List Kind → Walk
 walkOver past =
     record {

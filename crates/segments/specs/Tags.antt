@@ -6,8 +6,8 @@ use lib.ListN.{length}
 use lib.Dec.{eqb}
 use Rattle.lists.specs.Lists.{text, begins, all, through}
 use Rattle.characters.specs.Characters.{upper, digit}
-use Rattle.reading.specs.Tokens.{Token, Segment, ends}
-use Rattle.reading.specs.Values.{bytesOf, endedBy}
+use Rattle.values.specs.Tokens.{Token, Segment, ends}
+use Rattle.values.specs.Values.{bytesOf, endedBy}
 use Rattle.segments.specs.declared.Kind.{Kind}
 use Rattle.segments.specs.declared.Kind.the-variants.{User}
 use Rattle.segments.specs.Kinds.{is, kindNamed}

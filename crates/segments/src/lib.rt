@@ -1,6 +1,6 @@
 // Segments (paper 01, the tag rule and "Order of segments"): the kind that a tag names, the rule for
 // tags, where the check stands as it walks, which segment is allowed there, and the three counters.
-// The definitions are in specs/. What trailers must say is left to `control`.
+// The definitions are in specs/. What trailers must say is left to `control_elements`.
 
 // The service segments, and every other one.
 pub enum Kind {
@@ -15,14 +15,14 @@ pub enum Kind {
 }
 
 // Where the check stands: before UNB, outside every group and message, inside a group,
-// inside a message of a group or of none, and behind UNZ.
+// inside a message of a group or of none, and after UNZ.
 pub enum Standing {
     BeforeInterchange,
     BetweenGroups,
     InGroup,
     InGroupMessage,
     InMessage,
-    BehindInterchange,
+    AfterInterchange,
 }
 
 // Three counters that the standard keeps apart.

@@ -6,10 +6,10 @@ ghost use Prim.Native.Nat.{_+_, _≤_};
 ghost use lib.ListN.{length, replicate, drop};
 ghost use lib.Seq.{sets};
 ghost use Rattle.characters.specs.Characters.{isService, adviceOf};
-ghost use Rattle.reading.specs.Spelling.{spellByte};
+ghost use Rattle.values.specs.Spelling.{spellByte};
 use characters::Characters;
 
-// Stores a byte so many times, from a place on.
+// Stores a byte `count` times, from a place on.
 pub fn fill(buffer: &mut [u8], from: usize, count: usize, b: u8)
     requires { ⌜ from + count ≤ length (now buffer) ⌝ }
     ensures { λ _. ⌜ now (buffer .exit) ≡ sets (now (buffer .entry)) from (replicate count b) ⌝ }
@@ -35,39 +35,32 @@ pub fn copy(buffer: &mut [u8], from: usize, s: &[u8], start: usize)
     }
 }
 
+// A byte that is released inside a value. Nothing here branches on what the byte is, nor in the two
+// functions after it: on mixed bytes such a branch is often mispredicted.
 pub fn is_service(c: Characters, b: u8) -> bool
     ensures { λ r. ⌜ r ≡ isService c b ⌝ }
 {
-    if b == c.component {
-        return true;
-    }
-    if b == c.element {
-        return true;
-    }
-    if b == c.terminator {
-        return true;
-    }
-    if c.release == 32 {
-        return false;
-    }
-    if b == c.release {
-        return true;
-    }
-    false
+    let others = (b == c.terminator) | ((c.release != 32) & (b == c.release));
+    (b == c.component) | ((b == c.element) | others)
 }
 
-// Stores a byte of a value as it is spelled, and answers the place behind it.
+// How many bytes a byte of a value takes as it is spelled.
+pub fn byte_length(c: Characters, b: u8) -> usize
+    ensures { λ r. ⌜ r ≡ length (spellByte c b) ⌝ }
+{
+    1 + is_service(c, b) as usize
+}
+
+// Stores a byte of a value as it is spelled, and returns the place after it. The release character is
+// stored first, and where there is none to store, the byte takes its place.
 pub fn put_byte(buffer: &mut [u8], at: usize, c: Characters, b: u8) -> usize
     requires { ⌜ at + length (spellByte c b) ≤ length (now buffer) ⌝ }
     ensures { λ r. ⌜ (now (buffer .exit) ≡ sets (now (buffer .entry)) at (spellByte c b)) × (r ≡ at + length (spellByte c b)) ⌝ }
 {
-    if is_service(c, b) {
-        buffer[at] = c.release;
-        buffer[at + 1] = b;
-        return at + 2;
-    }
-    buffer[at] = b;
-    at + 1
+    let last = at + is_service(c, b) as usize;
+    buffer[at] = c.release;
+    buffer[last] = b;
+    last + 1
 }
 
 // Stores an advice at the front.

@@ -1,4 +1,4 @@
--- The structs that the functions make are those that the answers come to. Assumes nothing.
+-- The structs that the functions make are those that the definitions give for the answers. Assumes nothing.
 use Prim.Native.Nat.{ℕ}
 use mathlib.Core.Path.{_≡_, refl}
 use mathlib.Core.Bool.{false}
@@ -13,7 +13,6 @@ use Rattle.surface.specs.Answered.{writtenOf, comparisonOf, locationOf, 
 
 -- no refusal has the number 0
 refusal-numbered : (f : Fault) → eqb (number f) 0 ≡ false
-unfolding number
 refusal-numbered TooLong = refl
 refusal-numbered UnusableAdvice = refl
 refusal-numbered NoOpening = refl
@@ -31,7 +30,7 @@ refusal-numbered BufferShort = refl
 refusal-numbered BadList = refl
 refusal-numbered NeedsRelease = refl
 
--- ---- what a refusal comes to, from its number and its place
+-- ---- the struct of a refusal, from its number and its place
 
 module _ (r : Refusal) {n : ℕ} (e : n ≡ number (r .fault)) where
   pub refused-verdict :

@@ -1,3 +1,4 @@
 pub mod Verdicts
 pub mod Answered
 pub mod Parts
+pub mod Rules

@@ -12,13 +12,13 @@ use crate::Location;
 use crate::Verdict;
 use crate::Written;
 use answers::Compared;
-use answers::Interchange;
+use answers::Figures;
 use answers::Judged;
 use answers::Listed;
 use answers::Located;
 use answers::Stored;
 use refusals::Refusal;
-use reporting::number_of;
+use refusing::number_of;
 
 fn refusal_number(refusal: Refusal) -> u32
     ensures { λ r. ⌜ r ≡ number (refusal .fault) ⌝ }
@@ -27,7 +27,7 @@ fn refusal_number(refusal: Refusal) -> u32
     number_of(fault) as u32
 }
 
-fn verdict_accepted(i: Interchange) -> Verdict
+fn verdict_accepted(i: Figures) -> Verdict
     ensures { λ r. ⌜ r ≡ verdictOf (accepted i) ⌝ }
 {
     let c = i.characters;

@@ -11,6 +11,7 @@ ghost use Rattle.operations.specs.Write.{write as writeOf, writeOutput};
 ghost use Rattle.surface.specs.Verdicts.{verdictOf};
 ghost use Rattle.surface.specs.Answered.{writtenOf, comparisonOf, locationOf, listingOf};
 ghost use Rattle.surface.specs.Parts.{keptOf, partOf};
+ghost use Rattle.surface.specs.Rules.{rules};
 use laying::comparison_of;
 use laying::listing_of;
 use laying::location_of;
@@ -91,50 +92,51 @@ pub struct Listing {
     pub numbers: usize,
 }
 
+// Which rules the answers follow: a caller holds it against the number of the header that it was built with.
+#[no_mangle]
+pub extern "C" fn hverolda_rules() -> u32
+    ensures { λ r. ⌜ r ≡ rules ⌝ }
+{
+    1
+}
+
 #[no_mangle]
 pub extern "C" fn hverolda_judge(input: &[u8]) -> Verdict
     ensures { λ r. ⌜ r ≡ verdictOf (judgeOf (now (input .entry))) ⌝ }
 {
-    verdict_of(judging::judge(input))
+    verdict_of(judge::judge(input))
 }
 
 #[no_mangle]
 pub extern "C" fn hverolda_normalise(buffer: &mut [u8], input: &[u8]) -> Written
     ensures { λ r. ⌜ (r ≡ writtenOf (normaliseOf (now (buffer .entry)) (now (input .entry)))) × (now (buffer .exit) ≡ normaliseBuffer (now (buffer .entry)) (now (input .entry))) ⌝ }
 {
-    written_of(normalising::normalise(buffer, input))
+    written_of(normalise::normalise(buffer, input))
 }
 
 #[no_mangle]
 pub extern "C" fn hverolda_compare(first: &[u8], second: &[u8]) -> Comparison
     ensures { λ r. ⌜ r ≡ comparisonOf (compareOf (now (first .entry)) (now (second .entry))) ⌝ }
 {
-    comparison_of(comparing::compare(first, second))
+    comparison_of(compare::compare(first, second))
 }
 
-// A slice that is handed back cannot cross, so the part is named: `comparing::keep`'s choice.
+// A slice that is handed back cannot cross, so the part is named.
 #[no_mangle]
 pub extern "C" fn hverolda_keep(first: &[u8], second: &[u8]) -> Kept
     ensures { λ r. ⌜ r ≡ keptOf (keepOf (now (first .entry)) (now (second .entry))) ⌝ }
 {
-    if !comparing::are_same(first, second) {
-        return Kept {
+    match compare::kept_part(first, second) {
+        compare::Kept::First(length) => Kept {
             input: 1,
             offset: 0,
-            length: 0,
-        };
-    }
-    if second.len() < first.len() {
-        return Kept {
+            length,
+        },
+        compare::Kept::Second(length) => Kept {
             input: 2,
             offset: 0,
-            length: second.len(),
-        };
-    }
-    Kept {
-        input: 1,
-        offset: 0,
-        length: first.len(),
+            length,
+        },
     }
 }
 
@@ -147,10 +149,10 @@ pub extern "C" fn hverolda_locate(
 ) -> Location
     ensures { λ r. ⌜ r ≡ locationOf (locateOf (now (input .entry)) segment element component) ⌝ }
 {
-    location_of(locating::locate(input, segment, element, component))
+    location_of(locate::locate(input, segment, element, component))
 }
 
-// Where the value is absent or the input refused, a location's offset and length are 0 too.
+// A slice that is handed back cannot cross, so the part is named: `run_locate::part` hands back the same.
 #[no_mangle]
 pub extern "C" fn hverolda_part(
     input: &[u8],
@@ -160,10 +162,10 @@ pub extern "C" fn hverolda_part(
 ) -> Part
     ensures { λ r. ⌜ r ≡ partOf (now (input .entry)) segment element component ⌝ }
 {
-    let location = location_of(locating::locate(input, segment, element, component));
+    let part = locate::part_of(input, segment, element, component);
     Part {
-        offset: location.offset,
-        length: location.length,
+        offset: part.offset,
+        length: part.length,
     }
 }
 
@@ -171,7 +173,7 @@ pub extern "C" fn hverolda_part(
 pub extern "C" fn hverolda_read(bytes: &mut [u8], table: &mut [u32], input: &[u8]) -> Listing
     ensures { λ r. ⌜ (r ≡ listingOf (readOf (now (bytes .entry)) (now (table .entry)) (now (input .entry)))) × (now (bytes .exit) ≡ readBytes (now (bytes .entry)) (now (table .entry)) (now (input .entry))) × (now (table .exit) ≡ readTable (now (bytes .entry)) (now (table .entry)) (now (input .entry))) ⌝ }
 {
-    listing_of(reading_out::read(bytes, table, input))
+    listing_of(read::read(bytes, table, input))
 }
 
 #[no_mangle]
@@ -183,5 +185,5 @@ pub extern "C" fn hverolda_write(
 ) -> Written
     ensures { λ r. ⌜ (r ≡ writtenOf (writeOf (now (service .entry)) (now (bytes .entry)) (now (table .entry)) (now (output .entry)))) × (now (output .exit) ≡ writeOutput (now (service .entry)) (now (bytes .entry)) (now (table .entry)) (now (output .entry))) ⌝ }
 {
-    written_of(writing::write(service, bytes, table, output))
+    written_of(write::write(service, bytes, table, output))
 }

@@ -18,10 +18,11 @@ use Rattle.refusals.specs.declared.Fault.the-variants.{BadList}
 use Rattle.refusals.specs.declared.Refusal.{Refusal}
 use Rattle.refusals.specs.Refusals.{met, placeIf, isLower, lowerOf, lowest}
 use Rattle.refusals.proofs.Order.{key, not-lower}
-use Rattle.machines.specs.Walks.{refuse}
+use Rattle.stage_walks.specs.Walks.{refuse}
 use Rattle.operations.specs.ValueList.{Entry, entries}
 use Rattle.operations.specs.Write.{numbersWhere, badTable, badEntry, badList}
 use Rattle.value_lists.specs.Records.{recordAt, firstRecord, wellListed}
+use Rattle.refusals.specs.Limits.{mostNumbers}
 
 -- ---- the next record
 
@@ -128,26 +129,26 @@ module _ (bytes table : List ℕ) where
 
 -- a table is bad as a whole by its length, or by the kind of its first record
 module _ (table : List ℕ) where
-  pub bad-length : 96000 < length table → badTable table ≡ true
+  pub bad-length : mostNumbers < length table → badTable table ≡ true
   unfolding badTable
-  bad-length h = ap (λ (t : Bool). t || not (eqb (length table % 3) 0) || maybe false (λ e. not (eqb (e .kind) 0)) (at (entries table) 0)) (lt-ltb 96000 (length table) h)
+  bad-length h = ap (λ (t : Bool). t || not (eqb (length table % 3) 0) || maybe false (λ e. not (eqb (e .kind) 0)) (at (entries table) 0)) (lt-ltb mostNumbers (length table) h)
 
   pub bad-rest : (length table % 3 ≡ 0 → ⊥) → badTable table ≡ true
   unfolding badTable
   bad-rest h =
-      step (ltb 96000 (length table)) (maybe false (λ e. not (eqb (e .kind) 0)) (at (entries table) 0)) (ap not (ne-eqb (length table % 3) 0 h))
+      step (ltb mostNumbers (length table)) (maybe false (λ e. not (eqb (e .kind) 0)) (at (entries table) 0)) (ap not (ne-eqb (length table % 3) 0 h))
     where
       step : (a c : Bool) {b : Bool} → b ≡ true → (a || b || c) ≡ true
       step true c e = refl
       step false c e = ap (λ (t : Bool). t || c) e
 
-  module _ (short : length table ≤ 96000) (thirds : length table % 3 ≡ 0) where
+  module _ (short : length table ≤ mostNumbers) (thirds : length table % 3 ≡ 0) where
     -- what is left to ask of its first record
     first-asked : {es : List Entry} → entries table ≡ es → badTable table ≡ maybe false (λ e. not (eqb (e .kind) 0)) (at es 0)
     unfolding badTable
     first-asked d =
         ap₂ (λ (a b : Bool). a || b || maybe false (λ e. not (eqb (e .kind) 0)) (at (entries table) 0))
-        (le-ltb 96000 (length table) short)
+        (le-ltb mostNumbers (length table) short)
         (ap not (eq-eqb (length table % 3) 0 thirds))
         ∙ ap (λ (l : List Entry). maybe false (λ e. not (eqb (e .kind) 0)) (at l 0)) d
 
@@ -184,7 +185,7 @@ module _ (bytes : List ℕ) where
       step true k ih = absurd (Option·some-ne-none (record { fault = BadList; place = n }) k)
       step false k ih = ih k
 
-  -- a good list's next record is good, and so is the list behind it
+  -- a good list's next record is good, and so is the list after it
   module _ (table rest : List ℕ) {e : Entry} (d : entries table ≡ e ∷ entries rest) (h : wellListed bytes table ≡ true) where
     next-good : (passes e && wellListed bytes rest) ≡ true
     unfolding wellListed all

@@ -7,7 +7,7 @@ use lib.ListN.{getD}
 use Rattle.lists.specs.Lists.{if_then_else_, all}
 use Rattle.refusals.specs.declared.Fault.{Fault}
 use Rattle.refusals.specs.declared.Refusal.{Refusal}
-use Rattle.machines.specs.Walks.{refuse}
+use Rattle.stage_walks.specs.Walks.{refuse}
 use Rattle.operations.specs.ValueList.{Entry, entries}
 use Rattle.operations.specs.Write.{badEntry}
 use Rattle.value_lists.specs.declared.Record.{Record}

@@ -15,7 +15,7 @@ ghost use Rattle.value_lists.specs.Records.{entryOf, recordAt, firstReco
 use characters::Characters;
 use refusals::Fault;
 use refusals::Outcome;
-use refusals::failed;
+use refusing::failed;
 
 // ---- records
 
@@ -75,11 +75,11 @@ fn check_records(bytes: &[u8], table: &[u32]) -> Outcome
     Outcome::Passed
 }
 
-// What refusal 15 comes to.
+// What refusal 15 answers.
 pub fn check_list(bytes: &[u8], table: &[u32]) -> Outcome
     ensures { λ r. ⌜ r ≡ outcome (lowest (met BadList (badList (now (bytes .entry)) (now (table .entry))))) ⌝ }
 {
-    if 96000 < table.len() {
+    if refusals::MOST_NUMBERS < table.len() {
         return failed(Fault::BadList, 0);
     }
     if table.len() % 3 != 0 {
@@ -118,7 +118,7 @@ fn lacks_release(c: Characters, value: &[u8]) -> bool
     holds_service(c, value)
 }
 
-// What refusal 16 comes to, for a list that refusal 15 passed.
+// What refusal 16 answers, for a list that refusal 15 does not refuse.
 pub fn check_release(c: Characters, bytes: &[u8], table: &[u32]) -> Outcome
     requires { ⌜ wellListed (now bytes) (now table) ≡ true ⌝ }
     ensures { λ r. ⌜ r ≡ outcome (lowest (met NeedsRelease (numbersWhere (λ e. lacksRelease c (valueIn (now (bytes .entry)) e)) 0 (entries (now (table .entry)))))) ⌝ }

@@ -1,211 +1,175 @@
--- A body that passes the test, and in which no fault 4 lies, is emitted as it stands. Assumes nothing.
-use Prim.Native.Nat.{ℕ, _+_}
-use mathlib.Core.Path.{_≡_, refl, sym, ap, ap₂, subst, _∙_}
+-- A body that passes the test, and in which no fault 4 lies, is emitted unchanged. Assumes nothing.
+use Prim.Native.Nat.{ℕ, zero, suc, _+_}
+use mathlib.Core.Path.{_≡_, refl, sym, ap, ap₂, _∙_}
 use mathlib.Core.Bool.{Bool, true, false, not, _&&_, _||_, false≢true}
-use mathlib.Core.List.{List, [], _∷_, _++_, append-assoc}
+use mathlib.Core.List.{List, [], _∷_, _++_, append-nil, append-assoc}
 use mathlib.Core.Option.{Option, none, some}
+use native.Mathlib.Omega.{arith}
 use lib.Dec.{eqb}
 use lib.ListN.{drop, replicate, replicate-append-replicate}
-use borrow.Author.Tests.{eqb-true}
-use Rattle.lists.specs.Lists.{if_then_else_, member, all}
-use Rattle.lists.proofs.Texts.{and-left, and-right, if-true, if-false}
+use borrow.Author.Tests.{eq-eqb}
+use Rattle.lists.specs.Lists.{if_then_else_, all}
+use Rattle.lists.proofs.Texts.{and-left, and-right, if-true, if-false, same-eq}
 use Rattle.characters.specs.declared.Characters.{Characters}
 use Rattle.characters.specs.declared.Role.{Role}
-use Rattle.characters.specs.declared.Role.the-variants.{Separator, Release, Plain}
-use Rattle.characters.specs.Characters.{role, released, isService, serviceCharacters, sixBytes}
-use Rattle.reading.specs.Tokens.{Token, byte, separator, fault, unreleased, releasing, taken, tokensFrom, tokens, tokensAt}
-use Rattle.reading.specs.Values.{isFault}
-use Rattle.reading.specs.Spelling.{spellByte}
-use Rattle.verdict.specs.Contents.{normalCharacters}
-use Rattle.emission.specs.Emission.{letOut, emitted}
-use Rattle.verbatim.specs.Verbatim.{normalService, idle, clean, verbatim, faultless}
+use Rattle.characters.specs.Characters.{role, isService, sixBytes, spelledOut}
+use Rattle.values.specs.Tokens.{Token, byte, separator, fault, unreleased, releasing, taken, tokensFrom, tokens, tokensAt}
+use Rattle.values.specs.Values.{isFault}
+use Rattle.values.specs.Spelling.{spellByte}
+use Rattle.stages.specs.Contents.{normalCharacters}
+use Rattle.spelling_laws.proofs.Service.{serves, Part, separates, releases, plain, part, service-serves}
+use Rattle.emission_laws.specs.declared.Held.{Held}
+use Rattle.emission_laws.specs.Emission.{nothing, separated, heldNext, letOut, spelledNext, emitted}
+use Rattle.emission_laws.proofs.Steps.{let-out-runs, byte-first}
+use Rattle.verbatim.specs.Verbatim.{isNormal, idle, clean, verbatim, faultless}
 
--- ---- the part that a byte plays
+module _ (c : Characters) where
+  -- ---- what is held back
 
--- the four service characters are a normal form's
-record Normal (c : Characters) : Type 0 where
-  component : c .component ≡ 58
-  element : c .element ≡ 43
-  release : c .release ≡ 63
-  terminator : c .terminator ≡ 39
+  -- What may be held back after a byte: component separators only after one of them, element separators only after one of either rank.
+  record Follows (before : ℕ) (h : Held) : Type 0 where
+    no-components : eqb before (c .component) ≡ false → h .components ≡ 0
+    no-elements : eqb before (c .component) ≡ false → eqb before (c .element) ≡ false → h .elements ≡ 0
 
-normal : (c : Characters) → normalService c ≡ true → Normal c
-unfolding normalService
-normal c h =
-    let three = and-left (eqb (c .component) 58 && eqb (c .element) 43 && eqb (c .release) 63) (eqb (c .terminator) 39) h in
-    let two = and-left (eqb (c .component) 58 && eqb (c .element) 43) (eqb (c .release) 63) three in
-    record {
-      component = eqb-true (c .component) 58 (and-left (eqb (c .component) 58) (eqb (c .element) 43) two);
-      element = eqb-true (c .element) 43 (and-right (eqb (c .component) 58) (eqb (c .element) 43) two);
-      release = eqb-true (c .release) 63 (and-right (eqb (c .component) 58 && eqb (c .element) 43) (eqb (c .release) 63) three);
-      terminator = eqb-true (c .terminator) 39 (and-right (eqb (c .component) 58 && eqb (c .element) 43 && eqb (c .release) 63) (eqb (c .terminator) 39) h);
-    }
+  none-held : (before : ℕ) → Follows before nothing
+  none-held before = record { no-components = λ p. refl; no-elements = λ p q. refl }
 
--- what holds of each of the four, and of every byte that is none of them, holds of any byte in the part that it plays
-module _ (P : ℕ → Role → Type 0) (terminates : P 39 (Separator 0)) (element : P 43 (Separator 1)) (component : P 58 (Separator 2))
-    (releases : P 63 Release) (plain : (b : ℕ) → member b (58 ∷ 43 ∷ 39 ∷ 63 ∷ []) ≡ false → P b Plain) where
-  by-byte : (b : ℕ) → P b (if eqb b 39 then Separator 0 else if eqb b 43 then Separator 1 else if eqb b 58 then Separator 2 else if eqb b 63 then Release else Plain)
-  unfolding member
-  by-byte b = step (eqb b 39) (eqb b 43) (eqb b 58) (eqb b 63) (eqb-true b 39) (eqb-true b 43) (eqb-true b 58) (eqb-true b 63) (plain b)
-    where
-      step : (t e k r : Bool) → (t ≡ true → b ≡ 39) → (e ≡ true → b ≡ 43) → (k ≡ true → b ≡ 58) → (r ≡ true → b ≡ 63)
-          → ((k || (e || (t || (r || false)))) ≡ false → P b Plain)
-          → P b (if t then Separator 0 else if e then Separator 1 else if k then Separator 2 else if r then Release else Plain)
-      step true e k r t′ e′ k′ r′ p = subst (λ (x : ℕ). P x (Separator 0)) (sym (t′ refl)) terminates
-      step false true k r t′ e′ k′ r′ p = subst (λ (x : ℕ). P x (Separator 1)) (sym (e′ refl)) element
-      step false false true r t′ e′ k′ r′ p = subst (λ (x : ℕ). P x (Separator 2)) (sym (k′ refl)) component
-      step false false false true t′ e′ k′ r′ p = subst (λ (x : ℕ). P x Release) (sym (r′ refl)) releases
-      step false false false false t′ e′ k′ r′ p = p refl
+  after-element : (h : Held) (b : ℕ) → b ≡ c .element → Follows b (separated h 1)
+  unfolding separated
+  after-element h b e = record { no-components = λ p. refl; no-elements = λ p q. absurd (false≢true (sym q ∙ eq-eqb b (c .element) e)) }
 
-  by-role : (c : Characters) → Normal c → (b : ℕ) → P b (role c b)
-  unfolding role released
-  by-role c q b = subst (P b) (sym same) (by-byte b)
-    where
-      same : role c b ≡ (if eqb b 39 then Separator 0 else if eqb b 43 then Separator 1 else if eqb b 58 then Separator 2 else if eqb b 63 then Release else Plain)
-      same = simp (q .component, q .element, q .release, q .terminator)
+  after-component : (h : Held) (b : ℕ) → b ≡ c .component → Follows b (separated h 2)
+  after-component h b e =
+      let same = eq-eqb b (c .component) e in
+      record { no-components = λ p. absurd (false≢true (sym p ∙ same)); no-elements = λ p q. absurd (false≢true (sym p ∙ same)) }
 
--- ---- what is held back
+  -- what is not idle: an element separator is not after a component separator, a terminator not after either
+  module _ (a b : ℕ) where
+    before-element : b ≡ c .element → not (idle c a b) ≡ true → eqb a (c .component) ≡ false
+    unfolding idle
+    before-element e = step (eqb a (c .component)) (eqb a (c .element)) (eqb b (c .element)) (eqb b (c .terminator)) (eq-eqb b (c .element) e)
+      where
+        step : (t u v w : Bool) → v ≡ true → not ((t && (v || w)) || (u && w)) ≡ true → t ≡ false
+        step true u true w p h = absurd (false≢true h)
+        step true u false w p h = absurd (false≢true p)
+        step false u v w p h = refl
 
--- What may be held back behind a byte: component separators only behind one of them, element separators only behind one of either kind.
-record Fits (before elements components : ℕ) : Type 0 where
-  no-components : eqb before 58 ≡ false → components ≡ 0
-  no-elements : eqb before 58 ≡ false → eqb before 43 ≡ false → elements ≡ 0
+    before-terminator : b ≡ c .terminator → not (idle c a b) ≡ true → (eqb a (c .component) ≡ false) × (eqb a (c .element) ≡ false)
+    unfolding idle
+    before-terminator e = step (eqb a (c .component)) (eqb a (c .element)) (eqb b (c .element)) (eqb b (c .terminator)) (eq-eqb b (c .terminator) e)
+      where
+        step : (t u v w : Bool) → w ≡ true → not ((t && (v || w)) || (u && w)) ≡ true → (t ≡ false) × (u ≡ false)
+        step t u v false p h = absurd (false≢true p)
+        step true u true true p h = absurd (false≢true h)
+        step true u false true p h = absurd (false≢true h)
+        step false true v true p h = absurd (false≢true h)
+        step false false v true p h = (refl, refl)
 
-nothing-held : (before : ℕ) → Fits before 0 0
-nothing-held before = record { no-components = λ h. refl; no-elements = λ h k. refl }
+  -- before a terminator nothing is held back
+  none-dropped : (a b : ℕ) {h : Held} → Follows a h → b ≡ c .terminator → not (idle c a b) ≡ true → [] ≡ letOut c h
+  unfolding letOut
+  none-dropped a b f e i =
+      let (p, q) = before-terminator a b e i in
+      sym (ap₂ (λ (x y : ℕ). replicate x (c .element) ++ replicate y (c .component)) (f .no-elements p q) (f .no-components p))
 
-behind-element : (e : ℕ) → Fits 43 e 0
-behind-element e = record { no-components = λ h. refl; no-elements = λ h k. absurd (false≢true (sym k)) }
+  -- one more in front of a text
+  more : (k x : ℕ) (text : List ℕ) → replicate (k + 1) x ++ text ≡ replicate k x ++ (x ∷ text)
+  more k x text =
+      ap (λ (l : List ℕ). l ++ text) (sym (replicate-append-replicate k 1 x)) ∙ append-assoc (replicate k x) (x ∷ []) text
 
-behind-component : (e k : ℕ) → Fits 58 e k
-behind-component e k = record { no-components = λ h. absurd (false≢true (sym h)); no-elements = λ h k. absurd (false≢true (sym h)) }
+  one-element : (h : Held) (text : List ℕ) → h .components ≡ 0 → letOut c (separated h 1) ++ text ≡ letOut c h ++ (c .element ∷ text)
+  unfolding separated
+  one-element h text z =
+      let-out-runs c (separated h 1) text
+      ∙ more (h .elements) (c .element) text
+      ∙ sym (let-out-runs c h (c .element ∷ text)
+      ∙ ap (λ (k : ℕ). replicate (h .elements) (c .element) ++ (replicate k (c .component) ++ (c .element ∷ text))) z)
 
--- one more in front of a text
-more : (k x : ℕ) (text : List ℕ) → replicate (k + 1) x ++ text ≡ replicate k x ++ (x ∷ text)
-more k x text =
-    ap (λ (l : List ℕ). l ++ text) (sym (replicate-append-replicate k 1 x)) ∙ append-assoc (replicate k x) (x ∷ []) text
+  one-component : (h : Held) (text : List ℕ) → letOut c (separated h 2) ++ text ≡ letOut c h ++ (c .component ∷ text)
+  unfolding separated
+  one-component h text =
+      let-out-runs c (separated h 2) text
+      ∙ ap (λ (l : List ℕ). replicate (h .elements) (c .element) ++ l) (more (h .components) (c .component) text)
+      ∙ sym (let-out-runs c h (c .component ∷ text))
 
--- what is not idle: an element separator is not behind a component separator, a terminator not behind either
-module _ (a : ℕ) where
-  before-element : not (idle a 43) ≡ true → eqb a 58 ≡ false
-  unfolding idle
-  before-element = step (eqb a 58) (eqb a 43)
-    where
-      step : (t u : Bool) → not ((t && (eqb 43 43 || eqb 43 39)) || (u && eqb 43 39)) ≡ true → t ≡ false
-      step true u h = absurd (false≢true h)
-      step false u h = refl
+  -- ---- what is emitted
 
-  before-terminator : not (idle a 39) ≡ true → (eqb a 58 ≡ false) × (eqb a 43 ≡ false)
-  unfolding idle
-  before-terminator = step (eqb a 58) (eqb a 43)
-    where
-      step : (t u : Bool) → not ((t && (eqb 39 43 || eqb 39 39)) || (u && eqb 39 39)) ≡ true → (t ≡ false) × (u ≡ false)
-      step true u h = absurd (false≢true h)
-      step false true h = absurd (false≢true h)
-      step false false h = (refl, refl)
+  -- a release character that stands directly before the bytes
+  unfoldable afterRelease : Option ℕ → List ℕ → List ℕ
+  afterRelease none bs = bs
+  afterRelease (some from) bs = c .release ∷ bs
 
--- ---- what is emitted
+  -- after a release character anything may be held back
+  unfoldable FollowsHere : Option ℕ → ℕ → Held → Type 0
+  FollowsHere none before h = Follows before h
+  FollowsHere (some from) before h = Unit {0}
 
--- a release character that stands directly before the bytes
-unfoldable behindRelease : Option ℕ → List ℕ → List ℕ
-behindRelease none bs = bs
-behindRelease (some from) bs = 63 ∷ bs
-
--- behind a release character anything may be held back
-unfoldable FitsBehind : Option ℕ → ℕ → ℕ → ℕ → Type 0
-FitsBehind none before e k = Fits before e k
-FitsBehind (some from) before e k = Unit {0}
-
-module _ (mark e k : ℕ) (ts : List Token) (bs : List ℕ) where
-  -- a terminator, with nothing to drop
-  at-terminator : (before place : ℕ) → Fits before e k → not (idle before 39) ≡ true → emitted (normalCharacters mark) 0 0 ts ≡ bs
-      → emitted (normalCharacters mark) e k (separator 0 place ∷ ts) ≡ letOut (normalCharacters mark) e k (39 ∷ bs)
-  unfolding emitted normalCharacters sixBytes
-  at-terminator before place f i r =
-      let (p, q) = before-terminator before i in
-      ap (λ (l : List ℕ). 39 ∷ l) r
-      ∙ sym (ap₂ (λ (x y : ℕ). letOut (normalCharacters mark) x y (39 ∷ bs)) (f .no-elements p q) (f .no-components p))
-
-  -- an element separator, with no component separator to drop
-  at-element : (before place : ℕ) → Fits before e k → not (idle before 43) ≡ true
-      → emitted (normalCharacters mark) (e + 1) 0 ts ≡ letOut (normalCharacters mark) (e + 1) 0 bs
-      → emitted (normalCharacters mark) e k (separator 1 place ∷ ts) ≡ letOut (normalCharacters mark) e k (43 ∷ bs)
-  unfolding emitted normalCharacters sixBytes
-  at-element before place f i r =
-      r
-      ∙ more e 43 bs
-      ∙ sym (ap (λ (y : ℕ). letOut (normalCharacters mark) e y (43 ∷ bs)) (f .no-components (before-element before i)))
-
-  at-component : (place : ℕ) → emitted (normalCharacters mark) e (k + 1) ts ≡ letOut (normalCharacters mark) e (k + 1) bs
-      → emitted (normalCharacters mark) e k (separator 2 place ∷ ts) ≡ letOut (normalCharacters mark) e k (58 ∷ bs)
-  unfolding emitted normalCharacters sixBytes
-  at-component place r = r ∙ ap (λ (l : List ℕ). replicate e 43 ++ l) (more k 58 bs)
-
-  -- a byte of a value lets out what is held back
-  at-plain : (b from place : ℕ) → member b (58 ∷ 43 ∷ 39 ∷ 63 ∷ []) ≡ false → emitted (normalCharacters mark) 0 0 ts ≡ bs
-      → emitted (normalCharacters mark) e k (byte b from place ∷ ts) ≡ letOut (normalCharacters mark) e k (b ∷ bs)
-  unfolding emitted spellByte isService serviceCharacters released normalCharacters sixBytes
-  at-plain b from place i r =
-      ap₂ (λ (l m : List ℕ). letOut (normalCharacters mark) e k (l ++ m)) (if-false (isService (normalCharacters mark) b) (63 ∷ b ∷ []) (b ∷ []) i) r
-
-  -- a service character is spelled behind a release character again
-  at-released : (b from place : ℕ) → member b (58 ∷ 43 ∷ 39 ∷ 63 ∷ []) ≡ true → emitted (normalCharacters mark) 0 0 ts ≡ bs
-      → emitted (normalCharacters mark) e k (byte b from place ∷ ts) ≡ letOut (normalCharacters mark) e k (63 ∷ b ∷ bs)
-  unfolding emitted spellByte isService serviceCharacters released normalCharacters sixBytes
-  at-released b from place i r =
-      ap₂ (λ (l m : List ℕ). letOut (normalCharacters mark) e k (l ++ m)) (if-true (isService (normalCharacters mark) b) (63 ∷ b ∷ []) (b ∷ []) i) r
-
-module _ (c : Characters) (q : Normal c) (mark : ℕ) where
-  -- what is read of bytes in which nothing is idle is emitted as they stand, behind what is held back
-  as-they-stand : (bs : List ℕ) (release : Option ℕ) (place before e k : ℕ) → clean before bs ≡ true → FitsBehind release before e k
+  -- what is read of bytes in which nothing is idle is emitted as they stand, after what is held back
+  abbrev Stands : List ℕ → Type 0
+  Stands bs = (release : Option ℕ) (place before : ℕ) (h : Held) → clean c before bs ≡ true → FollowsHere release before h
       → faultless (tokensFrom c release place bs) ≡ true
-      → emitted (normalCharacters mark) e k (tokensFrom c release place bs) ≡ letOut (normalCharacters mark) e k (behindRelease release bs)
-  unfolding clean faultless all isFault tokensFrom unreleased releasing taken emitted behindRelease FitsBehind member
-  as-they-stand [] none place before e k h f s =
-      let (p, r) = before-terminator before h in
-      sym (ap₂ (λ (x y : ℕ). letOut (normalCharacters mark) x y []) (f .no-elements p r) (f .no-components p))
-  as-they-stand [] (some from) place before e k h f s = absurd (false≢true s)
-  as-they-stand (b ∷ bs) none place before e k h f s =
-      let rest = tokensFrom c none (place + 1) bs in
-      by-role
-      (λ (x : ℕ) (r : Role). not (idle before x) ≡ true → clean x bs ≡ true
-      → all (λ t. not (isFault t)) (unreleased r x place (tokensFrom c (releasing r place) (place + 1) bs)) ≡ true
-      → emitted (normalCharacters mark) e k (unreleased r x place (tokensFrom c (releasing r place) (place + 1) bs))
-      ≡ letOut (normalCharacters mark) e k (x ∷ bs))
-      (λ i h s. at-terminator mark e k rest bs before place f i (as-they-stand bs none (place + 1) 39 0 0 h (nothing-held 39) s))
-      (λ i h s. at-element mark e k rest bs before place f i (as-they-stand bs none (place + 1) 43 (e + 1) 0 h (behind-element (e + 1)) s))
-      (λ i h s. at-component mark e k rest bs place (as-they-stand bs none (place + 1) 58 e (k + 1) h (behind-component e (k + 1)) s))
-      (λ i h s. as-they-stand bs (some place) (place + 1) 63 e k h tt s)
-      (λ x p i h s. at-plain mark e k rest bs x place place p (as-they-stand bs none (place + 1) x 0 0 h (nothing-held x) s))
-      c
-      q
-      b
-      (and-left (not (idle before b)) (clean b bs) h)
-      (and-right (not (idle before b)) (clean b bs) h)
-      s
-  as-they-stand (b ∷ bs) (some from) place before e k h f s =
-      let rest = tokensFrom c none (place + 1) bs in
-      by-role
-      (λ (x : ℕ) (r : Role). clean x bs ≡ true
-      → all (λ t. not (isFault t)) (taken r x from place (tokensFrom c none (place + 1) bs)) ≡ true
-      → emitted (normalCharacters mark) e k (taken r x from place (tokensFrom c none (place + 1) bs))
-      ≡ letOut (normalCharacters mark) e k (63 ∷ x ∷ bs))
-      (λ h s. at-released mark e k rest bs 39 from place refl (as-they-stand bs none (place + 1) 39 0 0 h (nothing-held 39) s))
-      (λ h s. at-released mark e k rest bs 43 from place refl (as-they-stand bs none (place + 1) 43 0 0 h (nothing-held 43) s))
-      (λ h s. at-released mark e k rest bs 58 from place refl (as-they-stand bs none (place + 1) 58 0 0 h (nothing-held 58) s))
-      (λ h s. at-released mark e k rest bs 63 from place refl (as-they-stand bs none (place + 1) 63 0 0 h (nothing-held 63) s))
-      (λ x p h s. absurd (false≢true s))
-      c
-      q
-      b
-      (and-right (not (idle before b)) (clean b bs) h)
-      s
+      → emitted c h (tokensFrom c release place bs) ≡ letOut c h ++ afterRelease release bs
 
--- a verbatim body, emitted with a normal form's characters, is that body
-pub emitted-verbatim : (mark : ℕ) (c : Characters) (s : List ℕ) (start : ℕ) → verbatim c (drop start s) ≡ true
-    → faultless (tokensAt c s start) ≡ true → emitted (normalCharacters mark) 0 0 (tokensAt c s start) ≡ drop start s
-unfolding verbatim tokensAt tokens behindRelease FitsBehind
-emitted-verbatim mark c s start v f =
-    let bs = drop start s in
-    as-they-stand c (normal c (and-left (normalService c) (clean 0 bs) v)) mark bs none start 0 0 0
-    (and-right (normalService c) (clean 0 bs) v) (nothing-held 0) f
+  -- a byte of a value, spelled so, lets out what is held back
+  lets-out : (b at place : ℕ) (h : Held) (ts : List Token) (spelled bs : List ℕ) → spellByte c b ≡ spelled → emitted c nothing ts ≡ bs
+      → emitted c h (byte b at place ∷ ts) ≡ letOut c h ++ (spelled ++ bs)
+  lets-out b at place h ts spelled bs e r = byte-first c h b at place ts ∙ ap₂ (λ (l m : List ℕ). letOut c h ++ (l ++ m)) e r
+
+  module _ (b : ℕ) (bs : List ℕ) (go : Stands bs) (place : ℕ) (h : Held) (l : clean c b bs ≡ true) where
+    -- after this byte nothing is held back
+    rest : faultless (tokensFrom c none (place + 1) bs) ≡ true → emitted c nothing (tokensFrom c none (place + 1) bs) ≡ bs
+    unfolding afterRelease FollowsHere letOut
+    rest s = go none (place + 1) b nothing l (none-held b) s
+
+    unreleased-stands : (before : ℕ) → Follows before h → not (idle c before b) ≡ true → {r : Role} → Part c b r → isService c b ≡ serves r
+        → faultless (unreleased r b place (tokensFrom c (releasing r place) (place + 1) bs)) ≡ true
+        → emitted c h (unreleased r b place (tokensFrom c (releasing r place) (place + 1) bs)) ≡ letOut c h ++ (b ∷ bs)
+    unfolding faultless all isFault unreleased releasing emitted spelledNext heldNext separated spellByte afterRelease FollowsHere
+    unreleased-stands before f i (separates zero q e) v s =
+        ap₂ (λ (x : ℕ) (t : List ℕ). x ∷ t) (sym e) (rest s) ∙ ap (λ (t : List ℕ). t ++ (b ∷ bs)) (none-dropped before b f e i)
+    unreleased-stands before f i (separates (suc zero) q e) v s =
+        go none (place + 1) b (separated h 1) l (after-element h b e) s
+        ∙ one-element h bs (f .no-components (before-element before b e i))
+        ∙ ap (λ (x : ℕ). letOut c h ++ (x ∷ bs)) (sym e)
+    unreleased-stands before f i (separates (suc (suc zero)) q e) v s =
+        go none (place + 1) b (separated h 2) l (after-component h b e) s ∙ one-component h bs ∙ ap (λ (x : ℕ). letOut c h ++ (x ∷ bs)) (sym e)
+    unreleased-stands before f i (separates (suc (suc (suc rank))) q e) v s = absurd (omega arith)
+    unreleased-stands before f i (releases e q) v s =
+        go (some place) (place + 1) b h l tt s ∙ ap (λ (x : ℕ). letOut c h ++ (x ∷ bs)) (sym e)
+    unreleased-stands before f i plain v s =
+        lets-out b place place h (tokensFrom c none (place + 1) bs) (b ∷ []) bs (if-false (isService c b) (c .release ∷ b ∷ []) (b ∷ []) v) (rest s)
+
+    -- a service character is spelled after a release character again
+    released-stands : (from : ℕ) → isService c b ≡ true → faultless (tokensFrom c none (place + 1) bs) ≡ true
+        → emitted c h (byte b from place ∷ tokensFrom c none (place + 1) bs) ≡ letOut c h ++ (c .release ∷ b ∷ bs)
+    unfolding spellByte
+    released-stands from v s =
+        lets-out b from place h (tokensFrom c none (place + 1) bs) (c .release ∷ b ∷ []) bs (if-true (isService c b) (c .release ∷ b ∷ []) (b ∷ []) v) (rest s)
+
+    -- and another byte is a fault there
+    taken-stands : (from : ℕ) {r : Role} → Part c b r → isService c b ≡ serves r → faultless (taken r b from place (tokensFrom c none (place + 1) bs)) ≡ true
+        → emitted c h (taken r b from place (tokensFrom c none (place + 1) bs)) ≡ letOut c h ++ (c .release ∷ b ∷ bs)
+    unfolding faultless all isFault taken
+    taken-stands from (separates rank q e) v s = released-stands from v s
+    taken-stands from (releases e q) v s = released-stands from v s
+    taken-stands from plain v s = absurd (false≢true s)
+
+  as-they-stand : (bs : List ℕ) → Stands bs
+  unfolding clean faultless all isFault tokensFrom emitted afterRelease FollowsHere
+  as-they-stand [] none place before h l f s = none-dropped before (c .terminator) f refl l ∙ sym (append-nil (letOut c h))
+  as-they-stand [] (some from) place before h l f s = absurd (false≢true s)
+  as-they-stand (b ∷ bs) none place before h l f s =
+      unreleased-stands b bs (as-they-stand bs) place h (and-right (not (idle c before b)) (clean c b bs) l) before f
+      (and-left (not (idle c before b)) (clean c b bs) l) (part c b) (service-serves c b) s
+  as-they-stand (b ∷ bs) (some from) place before h l f s =
+      taken-stands b bs (as-they-stand bs) place h (and-right (not (idle c before b)) (clean c b bs) l) from (part c b) (service-serves c b) s
+
+  -- a verbatim body, emitted with a normal form's characters, is that body
+  pub emitted-verbatim : (s : List ℕ) (start : ℕ) → verbatim c (drop start s) ≡ true → faultless (tokensAt c s start) ≡ true
+      → emitted (normalCharacters (c .mark)) nothing (tokensAt c s start) ≡ drop start s
+  unfolding verbatim isNormal sixBytes spelledOut tokensAt tokens afterRelease FollowsHere letOut
+  emitted-verbatim s start v f =
+      let bs = drop start s in
+      let normal : normalCharacters (c .mark) ≡ c = sym (ap sixBytes (same-eq (spelledOut c) (spelledOut (normalCharacters (c .mark))) (and-left (isNormal c) (clean c 0 bs) v))) in
+      ap (λ (n : Characters). emitted n nothing (tokensAt c s start)) normal
+      ∙ as-they-stand bs none start 0 nothing (and-right (isNormal c) (clean c 0 bs) v) (none-held 0) f

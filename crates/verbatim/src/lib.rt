@@ -1,47 +1,65 @@
-// A body that stands as its normal form spells it (paper 01, "Normal form"): the service characters
+// A body that is already spelled as in its normal form (paper 01, "Normal form"): the service characters
 // are the normal form's, and there is nothing to trim. It promises the answer of the test in
 // specs/, which says so of no other body and misses one only at a released separator.
 ghost use mathlib.Core.Path.{_≡_};
 ghost use lib.ListN.{drop};
-ghost use Rattle.verbatim.specs.Verbatim.{normalService, idle, clean, verbatim};
+ghost use Rattle.stages.specs.Contents.{normalCharacters};
+ghost use Rattle.verbatim.specs.Verbatim.{isNormal, idle, clean, verbatim};
 use characters::Characters;
 
-// The four service characters are those of a normal form, whichever the mark.
-fn is_normal(c: Characters) -> bool
-    ensures { λ r. ⌜ r ≡ normalService c ⌝ }
+// The service characters of a normal form.
+pub fn normal_characters(mark: u8) -> Characters
+    ensures { λ r. ⌜ r ≡ normalCharacters mark ⌝ }
 {
-    (c.component == 58) & (c.element == 43) & (c.release == 63) & (c.terminator == 39)
+    Characters {
+        component: b':',
+        element: b'+',
+        mark,
+        release: b'?',
+        reserved: b' ',
+        terminator: b'\'',
+    }
+}
+
+fn is_normal(c: Characters) -> bool
+    ensures { λ r. ⌜ r ≡ isNormal c ⌝ }
+{
+    let n = normal_characters(c.mark);
+    let others = (c.release == n.release)
+        & ((c.reserved == n.reserved) & (c.terminator == n.terminator));
+    (c.component == n.component) & ((c.element == n.element) & ((c.mark == n.mark) & others))
 }
 
 // An empty end may stand between two bytes. Nothing here branches, so that many bytes are asked at once.
-fn is_idle(a: u8, b: u8) -> bool
-    ensures { λ r. ⌜ r ≡ idle a b ⌝ }
+fn is_idle(c: Characters, a: u8, b: u8) -> bool
+    ensures { λ r. ⌜ r ≡ idle c a b ⌝ }
 {
-    ((a == 58) & ((b == 43) | (b == 39))) | ((a == 43) & (b == 39))
+    ((a == c.component) & ((b == c.element) | (b == c.terminator)))
+        | ((a == c.element) & (b == c.terminator))
 }
 
-// The bytes from a place on are clean. No byte ends the loop: what is idle is gathered.
-fn is_clean(s: &[u8], start: usize) -> bool
-    ensures { λ r. ⌜ r ≡ clean 0 (drop start (now (s .entry))) ⌝ }
+// The bytes from a place on are clean. The loop never ends early: what is idle is gathered.
+fn is_clean(s: &[u8], c: Characters, start: usize) -> bool
+    ensures { λ r. ⌜ r ≡ clean c 0 (drop start (now (s .entry))) ⌝ }
 {
     let mut before: u8 = 0;
     let mut found = false;
     let mut at = start;
     while at < s.len() {
         let b = s[at];
-        found = found | is_idle(before, b);
+        found = found | is_idle(c, before, b);
         before = b;
         at += 1;
     }
-    !(found | is_idle(before, 39))
+    !(found | is_idle(c, before, c.terminator))
 }
 
-// The body that begins at `start` stands as its normal form spells it.
+// The body that begins at `start` is already spelled as in its normal form.
 pub fn is_verbatim(s: &[u8], c: Characters, start: usize) -> bool
     ensures { λ r. ⌜ r ≡ verbatim c (drop start (now (s .entry))) ⌝ }
 {
     if is_normal(c) {
-        return is_clean(s, start);
+        return is_clean(s, c, start);
     }
     false
 }

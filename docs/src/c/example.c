@@ -131,6 +131,10 @@ int main(int count, char **names)
         fprintf(stderr, "usage: mailbox FIRST SECOND\n");
         return 2;
     }
+    if (hverolda_rules() != HVEROLDA_RULES) {
+        fprintf(stderr, "mailbox: the archive does not follow the header's rules\n");
+        return 2;
+    }
     if (!load(&first, names[1]) || !load(&second, names[2]))
         return 2;
     same = check();

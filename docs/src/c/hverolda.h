@@ -26,8 +26,15 @@
  * Threads. The functions have no state: no globals, no heap, no errno, no input or output. Calls may
  * run at the same time as long as each keeps to what is owed above.
  *
- * Stack. Compare and Keep hold two arrays of 32,000 bytes each, and take some 65,000 bytes in all.
+ * Stack. Compare and Keep hold two arrays of 32,000 bytes each, and take some 65,300 bytes in all.
  * The other functions take less than 2,000. There is no recursion.
+ *
+ * Cost. What a function does with an input is a few steps a byte, and of an input over 32,000 bytes
+ * none. Write looks at every value that its table names, and these may overlap. Under a release
+ * character it stops where the text is over 32,000 bytes. Without one it first looks for service
+ * characters in all values (refusal 16): 32,000 records that name the same N bytes cost 32,000 * N
+ * steps, some 2 s for N = 32,000 and ten times as long for ten times as many. Who takes tables from
+ * strangers adds up the lengths first: more than 32,000 bytes in values are refused in any case.
  *
  * Limits. An input, a written text and a normal form have at most 32,000 bytes. So a normal form or a
  * written text fits 32,000 bytes, and what Read stores fits 32,000 bytes and 96,000 numbers, since
@@ -51,6 +58,14 @@ extern "C" {
 /* The most bytes of an input, a text and a normal form; the most numbers of a table for Write. */
 #define HVEROLDA_LONGEST 32000
 #define HVEROLDA_LONGEST_TABLE 96000
+
+/*
+ * The number of the rules that this header is for. It rises with each change of an answer, so that
+ * whoever stores verdicts or normal forms, and this number beside them, sees when they are old.
+ * hverolda_rules tells the archive's: where the two differ, the archive is not this header's, and a
+ * number that it answers may be one that is not in it.
+ */
+#define HVEROLDA_RULES 1
 
 /*
  * Refusals by number, and the place that goes with each. 0 is no refusal.
@@ -178,6 +193,9 @@ typedef struct hverolda_listing {
     size_t bytes;
     size_t numbers;
 } hverolda_listing;
+
+/* Which rules the archive follows: HVEROLDA_RULES where it is this header's. Nothing is refused. */
+uint32_t hverolda_rules(void);
 
 /*
  * Judge: is this an interchange by the rules?

@@ -6,7 +6,7 @@ use native.Mathlib.Omega.{arith}
 use lib.ListN.{length}
 use borrow.Author.Needs.{needs}
 use borrow.Author.Tests.{le-leb, lt-leb}
-use Rattle.reading.specs.Tokens.{tokensAt}
+use Rattle.values.specs.Tokens.{tokensAt}
 use Rattle.scanner.proofs.Lexing.{lexes-as}
 use Rattle.elements.specs.Elements.{holdsByte}
 use Rattle.elements.proofs.Elements.{holds-byte, holds-over, holds-separator, holds-stray, holds-end}
@@ -33,22 +33,22 @@ returns c =
     let l = lexes-as _ _ _ (c .before .before .lex .ensures) (c .enum-told .given .1) in
     sym (c .before .before .before .loop .inv ∙ holds-byte _ (l .0))
 
-enum-known-kind : tie.Need-enum-known-kind Inv-loop μ-loop
-enum-known-kind c = search needs
+enum-known-found : tie.Need-enum-known-found Inv-loop μ-loop
+enum-known-found c = search needs
 
 returns-2 : tie.Need-returns-2 Inv-loop μ-loop
 returns-2 c =
-    let l = lexes-as _ _ _ (c .before .before .before .before .lex .ensures) (c .before .before .kind .given .1) in
+    let l = lexes-as _ _ _ (c .before .before .before .before .lex .ensures) (c .before .before .found .given .1) in
     sym (c .before .before .before .before .before .loop .inv ∙ holds-over _ (l .0) (le-leb _ _ (c .if1 .taken)))
 
 loop-less : tie.Need-loop-less Inv-loop μ-loop
 loop-less c =
-    let l = lexes-as _ _ _ (c .before .before .before .before .lex .ensures) (c .before .before .kind .given .1) in
+    let l = lexes-as _ _ _ (c .before .before .before .before .lex .ensures) (c .before .before .found .given .1) in
     omega arith
 
 loop-again : tie.Need-loop-again Inv-loop μ-loop
 loop-again c =
-    let l = lexes-as _ _ _ (c .before .before .before .before .lex .ensures) (c .before .before .kind .given .1) in
+    let l = lexes-as _ _ _ (c .before .before .before .before .lex .ensures) (c .before .before .found .given .1) in
     c .before .before .before .before .before .loop .inv ∙ holds-separator _ (l .0) (lt-leb _ _ (c .if1 .left))
 
 enum-known-next : tie.Need-enum-known-next Inv-loop μ-loop
@@ -82,7 +82,7 @@ holds-byte-spec =
     lex-requires
     enum-told
     returns
-    enum-known-kind
+    enum-known-found
     returns-2
     loop-less
     loop-again

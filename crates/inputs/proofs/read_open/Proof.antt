@@ -2,8 +2,10 @@
 -- The measure is the room that is left; each turn takes a byte of it, or stops. Assumes nothing.
 use Prim.Native.Nat.{_≤_, _-_}
 use mathlib.Core.Path.{_≡_}
+use native.Mathlib.Omega.{arith}
 use lib.ListN.{length}
 use borrow.Author.Needs.{needs}
+use Rattle.io.proofs.Counting.{counts}
 use Rattle.inputs.proofs.read_open.Statement.{statement}
 use Rattle.inputs.proofs.read_open.Tie as tie
 
@@ -35,7 +37,7 @@ same-length : tie.Need-same-length Inv-loop μ-loop
 same-length c = search needs
 
 returns : tie.Need-returns Inv-loop μ-loop
-returns c = search needs
+returns c = search (needs, counts)
 
 sub-count : tie.Need-sub-count Inv-loop μ-loop
 sub-count c = search needs
@@ -53,7 +55,7 @@ same-length-2 : tie.Need-same-length-2 Inv-loop μ-loop
 same-length-2 c = search needs
 
 returns-2 : tie.Need-returns-2 Inv-loop μ-loop
-returns-2 c = search needs
+returns-2 c = counts _ _ (omega arith)
 
 add-done : tie.Need-add-done Inv-loop μ-loop
 add-done c = search needs
@@ -68,7 +70,7 @@ same-length-3 : tie.Need-same-length-3 Inv-loop μ-loop
 same-length-3 c = search needs
 
 returns-3 : tie.Need-returns-3 Inv-loop μ-loop
-returns-3 c = search needs
+returns-3 c = search (needs, counts)
 
 pub read-open-spec : {M : Type 1} → statement M
 read-open-spec =

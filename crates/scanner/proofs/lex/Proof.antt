@@ -28,8 +28,8 @@ role-of-requires : tie.Need-role-of-requires
 role-of-requires c κs = search needs
 
 -- src/lib.rt:56:25
-enum-known-kind : tie.Need-enum-known-kind
-enum-known-kind c = search needs
+enum-known-rank : tie.Need-enum-known-rank
+enum-known-rank c = search needs
 
 -- src/lib.rt:57:24
 enum-told : tie.Need-enum-told
@@ -59,8 +59,8 @@ taken-requires c κs = search needs
 returns-2 : tie.Need-returns-2
 unfolding lexRole
 returns-2 c =
-    lex-role (c .before .before .before .before .before .before .before .args .c) _ _ (Separator (c .before .kind .given .0 .0)) (search needs)
-    (sym (c .before .before .before .role-of .ensures) ∙ c .before .kind .given .1)
+    lex-role (c .before .before .before .before .before .before .before .args .c) _ _ (Separator (c .before .rank .given .0 .0)) (search needs)
+    (sym (c .before .before .before .role-of .ensures) ∙ c .before .rank .given .1)
 
 -- src/lib.rt:47:1
 returns-3 : tie.Need-returns-3
@@ -87,7 +87,7 @@ lex-spec =
     shared-slice-read-b
     add-next
     role-of-requires
-    enum-known-kind
+    enum-known-rank
     enum-told
     enum-told-2
     shared-slice-read-d

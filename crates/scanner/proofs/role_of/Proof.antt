@@ -1,6 +1,6 @@
 -- `scanner::role_of` meets its contract: it asks the definition's tests in the definition's order. Assumes nothing.
 use borrow.Author.Tests.{eq-eqb, ne-eqb}
-use Rattle.characters.specs.Characters.{role, released}
+use Rattle.characters.specs.Characters.{role, hasRelease}
 use Rattle.scanner.proofs.role_of.Statement.{statement}
 use Rattle.scanner.proofs.role_of.Tie as tie
 
@@ -22,7 +22,7 @@ returns-3 c =
     )
 
 returns-4 : tie.Need-returns-4
-unfolding role released
+unfolding role hasRelease
 returns-4 c =
     simp (
       ne-eqb _ _ (c .before .before .before .before .before .before .if1 .left),
@@ -32,7 +32,7 @@ returns-4 c =
     )
 
 returns-5 : tie.Need-returns-5
-unfolding role released
+unfolding role hasRelease
 returns-5 c =
     simp (
       ne-eqb _ _ (c .before .before .before .before .before .before .before .before .if1 .left),
@@ -43,7 +43,7 @@ returns-5 c =
     )
 
 returns-6 : tie.Need-returns-6
-unfolding role released
+unfolding role hasRelease
 returns-6 c =
     simp (
       ne-eqb _ _ (c .before .before .before .before .before .before .before .before .if1 .left),

@@ -5,7 +5,7 @@ use mathlib.Core.Path.{_≡_, refl, _∙_}
 use native.Mathlib.Omega.{arith}
 use lib.ListN.{length}
 use borrow.Author.Needs.{needs}
-use Rattle.reading.specs.Tokens.{tokensAt}
+use Rattle.values.specs.Tokens.{tokensAt}
 use Rattle.scanner.specs.Scan.{scanned}
 use Rattle.scanner.proofs.Lexing.{lexes-as}
 use Rattle.scanner.proofs.Scanning.{scan-byte, scan-terminator, scan-separator, scan-stray, scan-end}
@@ -33,17 +33,17 @@ loop-less c = let l = lexes-as _ _ _ (c .before .before .before .lex .ensures) (
 loop-again : tie.Need-loop-again Inv-loop μ-loop
 loop-again c = let l = lexes-as _ _ _ (c .before .before .before .lex .ensures) (c .before .next .given .1) in (omega arith, c .before .before .before .before .loop .inv .1 ∙ scan-byte _ _ _ l)
 
-enum-known-kind : tie.Need-enum-known-kind Inv-loop μ-loop
-enum-known-kind c = search needs
+enum-known-rank : tie.Need-enum-known-rank Inv-loop μ-loop
+enum-known-rank c = search needs
 
 returns : tie.Need-returns Inv-loop μ-loop
-returns c = let l = lexes-as _ _ _ (c .before .before .before .before .lex .ensures) (c .before .before .kind .given .1) in (c .before .before .before .before .before .loop .inv .1 ∙ scan-terminator _ _ _ l (c .if1 .taken), omega arith, omega arith)
+returns c = let l = lexes-as _ _ _ (c .before .before .before .before .lex .ensures) (c .before .before .rank .given .1) in (c .before .before .before .before .before .loop .inv .1 ∙ scan-terminator _ _ _ l (c .if1 .taken), omega arith, omega arith)
 
 loop-less-2 : tie.Need-loop-less-2 Inv-loop μ-loop
-loop-less-2 c = let l = lexes-as _ _ _ (c .before .before .before .before .lex .ensures) (c .before .before .kind .given .1) in omega arith
+loop-less-2 c = let l = lexes-as _ _ _ (c .before .before .before .before .lex .ensures) (c .before .before .rank .given .1) in omega arith
 
 loop-again-2 : tie.Need-loop-again-2 Inv-loop μ-loop
-loop-again-2 c = let l = lexes-as _ _ _ (c .before .before .before .before .lex .ensures) (c .before .before .kind .given .1) in (omega arith, c .before .before .before .before .before .loop .inv .1 ∙ scan-separator _ _ _ l (c .if1 .left))
+loop-again-2 c = let l = lexes-as _ _ _ (c .before .before .before .before .lex .ensures) (c .before .before .rank .given .1) in (omega arith, c .before .before .before .before .before .loop .inv .1 ∙ scan-separator _ _ _ l (c .if1 .left))
 
 enum-told : tie.Need-enum-told Inv-loop μ-loop
 enum-told c = search needs
@@ -68,7 +68,7 @@ scan-spec =
     enum-known-next
     loop-less
     loop-again
-    enum-known-kind
+    enum-known-rank
     returns
     loop-less-2
     loop-again-2

@@ -8,8 +8,8 @@ use borrow.Author.Needs.{needs}
 use native.Mathlib.Nat.{le-of-eq, pos-of-ne-zero}
 use Rattle.lists.specs.Lists.{beyond}
 use Rattle.lists.proofs.Pieces.{beyond-hit, beyond-miss}
-use Rattle.reading.specs.Tokens.{ends, tokensAt}
-use Rattle.reading.proofs.Steps.{ends-yes, ends-no}
+use Rattle.values.specs.Tokens.{ends, tokensAt}
+use Rattle.values.proofs.Steps.{ends-yes, ends-no}
 use Rattle.scanner.proofs.Lexing.{lexes-as}
 use Rattle.scanner.proofs.segment_end_past.Statement.{statement}
 use Rattle.scanner.proofs.segment_end_past.Tie as tie
@@ -39,12 +39,12 @@ loop-again c =
     let l = lexes-as _ _ _ (c .before .before .before .lex .ensures) (c .before .next .given .1) in
     (omega arith, c .before .before .before .before .loop .inv .1 ∙ beyond-miss (ends 0) (l .0) refl, λ h. omega arith)
 
-enum-known-kind : tie.Need-enum-known-kind Inv-loop μ-loop
-enum-known-kind c = search needs
+enum-known-rank : tie.Need-enum-known-rank Inv-loop μ-loop
+enum-known-rank c = search needs
 
 returns : tie.Need-returns Inv-loop μ-loop
 returns c =
-    let l = lexes-as _ _ _ (c .before .before .before .before .lex .ensures) (c .before .before .kind .given .1) in (
+    let l = lexes-as _ _ _ (c .before .before .before .before .lex .ensures) (c .before .before .rank .given .1) in (
       sym (c .before .before .before .before .before .loop .inv .1 ∙ beyond-hit (ends 0) (l .0) (ends-yes 0 _ (le-of-eq (c .if1 .taken)))),
       omega arith,
       λ h. omega arith,
@@ -52,11 +52,11 @@ returns c =
     )
 
 loop-less-2 : tie.Need-loop-less-2 Inv-loop μ-loop
-loop-less-2 c = let l = lexes-as _ _ _ (c .before .before .before .before .lex .ensures) (c .before .before .kind .given .1) in omega arith
+loop-less-2 c = let l = lexes-as _ _ _ (c .before .before .before .before .lex .ensures) (c .before .before .rank .given .1) in omega arith
 
 loop-again-2 : tie.Need-loop-again-2 Inv-loop μ-loop
 loop-again-2 c =
-    let l = lexes-as _ _ _ (c .before .before .before .before .lex .ensures) (c .before .before .kind .given .1) in
+    let l = lexes-as _ _ _ (c .before .before .before .before .lex .ensures) (c .before .before .rank .given .1) in
     (omega arith, c .before .before .before .before .before .loop .inv .1 ∙ beyond-miss (ends 0) (l .0) (ends-no 0 _ (pos-of-ne-zero (c .if1 .left))), λ h. omega arith)
 
 enum-known-next-2 : tie.Need-enum-known-next-2 Inv-loop μ-loop
@@ -91,7 +91,7 @@ segment-end-past-spec =
     enum-known-next
     loop-less
     loop-again
-    enum-known-kind
+    enum-known-rank
     returns
     loop-less-2
     loop-again-2

@@ -1,5 +1,5 @@
 -- `verbatim::is_clean` meets its contract. The loop's invariant: the bytes from the start are clean just where nothing idle was found so far
--- and those from `at` on are clean, behind the byte before them. What is left of the input falls. Assumes nothing.
+-- and those from `at` on are clean, after the byte before them. What is left of the input falls. Assumes nothing.
 use Prim.Native.Nat.{ℕ, _-_}
 use mathlib.Core.Path.{_≡_, refl, sym, _∙_}
 use native.Mathlib.Omega.{arith}
@@ -11,10 +11,10 @@ use Rattle.verbatim.proofs.is_clean.Statement.{statement}
 use Rattle.verbatim.proofs.is_clean.Tie as tie
 
 abbrev Inv-loop : tie.InvT-loop
-Inv-loop s start before₀ found₀ at₀ before found at = clean 0 (drop start s) ≡ cleanFrom found before s at
+Inv-loop s c start before₀ found₀ at₀ before found at = clean c 0 (drop start s) ≡ cleanFrom c found before s at
 
 abbrev μ-loop : tie.MeasureT-loop
-μ-loop s start before₀ found₀ at₀ before found at = length s - at
+μ-loop s c start before₀ found₀ at₀ before found at = length s - at
 
 loop-holds : tie.Need-loop-holds Inv-loop μ-loop
 loop-holds c = refl
@@ -35,7 +35,7 @@ loop-again : tie.Need-loop-again Inv-loop μ-loop
 loop-again c =
     let s = c .before .before .before .before .before .args .s .now in
     let state = c .before .before .before .loop in
-    state .inv ∙ clean-next (state .found) (state .before) s (state .at) (c .is-idle .ensures) (omega arith)
+    state .inv ∙ clean-next (c .before .before .before .before .before .args .c) (state .found) (state .before) s (state .at) (c .is-idle .ensures) (omega arith)
 
 is-idle-requires-2 : tie.Need-is-idle-requires-2 Inv-loop μ-loop
 is-idle-requires-2 c κs = search needs
@@ -44,7 +44,7 @@ returns : tie.Need-returns Inv-loop μ-loop
 returns c =
     let s = c .before .before .before .before .args .s .now in
     let state = c .before .before .loop in
-    sym (state .inv ∙ clean-end (state .found) (state .before) s (state .at) (c .is-idle2 .ensures) (omega arith))
+    sym (state .inv ∙ clean-end (c .before .before .before .before .args .c) (state .found) (state .before) s (state .at) (c .is-idle2 .ensures) (omega arith))
 
 pub is-clean-spec : {M : Type 1} → statement M
 is-clean-spec =

@@ -16,13 +16,13 @@ is-clean-requires c κs = search needs
 returns : tie.Need-returns
 unfolding verbatim
 returns c =
-    let rest : Bool = clean 0 (drop (c .before .before .before .before .args .start) (c .before .before .before .before .args .s .now)) in
+    let rest : Bool = clean (c .before .before .before .before .args .c) 0 (drop (c .before .before .before .before .args .start) (c .before .before .before .before .args .s .now)) in
     c .is-clean .ensures ∙ sym (ap (λ (t : Bool). t && rest) (sym (c .before .before .is-normal .ensures) ∙ c .before .if1 .taken))
 
 returns-2 : tie.Need-returns-2
 unfolding verbatim
 returns-2 c =
-    let rest : Bool = clean 0 (drop (c .before .before .before .args .start) (c .before .before .before .args .s .now)) in
+    let rest : Bool = clean (c .before .before .before .args .c) 0 (drop (c .before .before .before .args .start) (c .before .before .before .args .s .now)) in
     sym (ap (λ (t : Bool). t && rest) (sym (c .before .is-normal .ensures) ∙ c .if1 .left))
 
 pub is-verbatim-spec : {M : Type 1} → statement M

@@ -1,10 +1,11 @@
-//! Times the proved Judge and Normalise against the second program's, in one
+//! Times the proved Judge, Normalise and Compare against the second program's, in one
 //! run: nanoseconds a byte of the input. A benchmark, not a test.
 //!
 //! `bench [ROUNDS]`: each round runs the four functions on every interchange,
 //! one after the other, in an order that moves on with each round.
 
 mod orders;
+mod pairs;
 mod passes;
 mod surface;
 
@@ -50,6 +51,7 @@ fn main() {
     );
     report(&measured(&interchanges, rounds, &mut ours, &mut theirs), bytes);
     report_passes(&interchanges[..INTERCHANGES / 4], rounds);
+    pairs::report(&interchanges[..INTERCHANGES / 4], rounds);
 }
 
 /// How many are accepted, after both have answered the same on all, with the

@@ -30,7 +30,21 @@ struct NormaliseNumbers {
     length: usize,
 }
 
+#[repr(C)]
+struct CompareNumbers {
+    number: u32,
+    input: u32,
+    same: u32,
+    place: usize,
+}
+
 extern "C" {
+    fn hverolda_compare(
+        first: *const u8,
+        first_length: usize,
+        second: *const u8,
+        second_length: usize,
+    ) -> CompareNumbers;
     fn hverolda_judge(input: *const u8, length: usize) -> JudgeNumbers;
     fn hverolda_normalise(
         buffer: *mut u8,
@@ -74,4 +88,14 @@ pub fn normalise(input: &[u8], buffer: &mut [u8]) -> Answer<usize> {
         0 => Ok(told.length),
         number => Err(Refusal { place: told.place, number }),
     }
+}
+
+/// Compare, of two that are accepted.
+pub fn is_same(first: &[u8], second: &[u8]) -> bool {
+    // SAFETY: as in `judge`.
+    let told = unsafe {
+        hverolda_compare(first.as_ptr(), first.len(), second.as_ptr(), second.len())
+    };
+    assert_eq!((told.number, told.input, told.place), (0, 0, 0));
+    told.same == 1
 }

@@ -28,9 +28,8 @@ impl Which {
     /// The input that a struct of the surface names by 1 or 2.
     fn told(input: u32) -> Which {
         match input {
-            1 => Which::First,
             2 => Which::Second,
-            other => unreachable!("the surface names input {other} of two"),
+            _ => Which::First,
         }
     }
 }
@@ -155,6 +154,14 @@ mod tests {
         let copy = X.to_vec();
         assert_eq!(keep(&copy, X).as_ptr(), copy.as_ptr());
         assert_eq!(keep(&copy, X), X);
+    }
+
+    #[test]
+    fn a_small_stack_is_enough() {
+        let asked = || (compare(X, RESPELLED), keep(RESPELLED, X).len());
+        let small = std::thread::Builder::new().stack_size(96 * 1024);
+        let answered = small.spawn(asked).unwrap().join().unwrap();
+        assert_eq!(answered, (Ok(Comparison::Same), X.len()));
     }
 
     #[test]

@@ -27,9 +27,14 @@
 //! assert_eq!(hverolda::keep(first, second), first);
 //! ```
 //!
+//! [`compare`] and [`keep`] take some 65,300 bytes of stack, all others less than
+//! 2,000, and none recurses: a stack of 96 KB is enough for a thread that calls
+//! them. What [`write()`] can cost stands there.
+//!
 //! To build it, run `rt staticlib surface` in the root of the project: that
 //! proves the library and writes the archive that this crate links. Where the
-//! archive stands elsewhere, `SURFACE_FOLDER` names its folder.
+//! archive stands elsewhere, `SURFACE_FOLDER` names its folder. The archive is
+//! for x86-64 Linux, and a build for another target stops and says so.
 
 #![deny(missing_docs)]
 #![deny(unsafe_code)]
@@ -62,6 +67,22 @@ pub const LONGEST: usize = 32_000;
 
 /// The longest table that [`write()`] takes, in numbers (refusal 15).
 pub const LONGEST_TABLE: usize = 96_000;
+
+/// The number of the rules that this crate was written for. It rises with each
+/// change of an answer: whoever stores verdicts or normal forms stores it beside
+/// them, and sees when they are old. See [`rules()`].
+pub const RULES: u32 = 1;
+
+/// The number of the rules that the linked archive follows. Where it is above
+/// [`RULES`], a [`Fault`] or a [`Kind`] may be one that this crate does not know.
+///
+/// ```
+/// assert_eq!(hverolda::rules(), hverolda::RULES);
+/// ```
+#[must_use]
+pub fn rules() -> u32 {
+    surface::rules()
+}
 
 /// The example of the paper and its neighbours, for the tests.
 #[cfg(test)]

@@ -8,100 +8,89 @@ use std::fmt;
 /// More may come, with higher numbers.
 #[derive(Clone, Copy, Debug, PartialEq, Eq, PartialOrd, Ord, Hash)]
 #[non_exhaustive]
-#[repr(u32)]
 pub enum Fault {
     /// 1: the input or the text has more than 32,000 bytes.
-    OverLength = 1,
+    OverLength,
     /// 2: the service string advice is unusable or cut short.
-    Advice = 2,
+    Advice,
     /// 3: the body does not begin `UNB` and the element separator.
-    Beginning = 3,
+    Beginning,
     /// 4: the release character stands before no service character.
-    Release = 4,
+    Release,
     /// 5: the body ends inside a segment.
-    InsideSegment = 5,
+    InsideSegment,
     /// 6: a segment's tag breaks the tag rule.
-    Tag = 6,
+    Tag,
     /// 7: the level or its version is not one of ours.
-    Level = 7,
+    Level,
     /// 8: a byte is outside the level.
-    Byte = 8,
+    Byte,
     /// 9: a segment is not allowed where it stands, or the end comes before UNZ.
-    Order = 9,
+    Order,
     /// 10: a count or a reference is not as it must be.
-    Control = 10,
+    Control,
     /// 11: a trailer's reference differs from its header's.
-    Reference = 11,
+    Reference,
     /// 12: a trailer's count is wrong.
-    Count = 12,
+    Count,
     /// 13: the normal form has more than 32,000 bytes.
-    NormalLength = 13,
+    NormalLength,
     /// 14: a lent buffer is too short.
-    Buffer = 14,
+    Buffer,
     /// 15: a value list's table is malformed.
-    List = 15,
+    List,
     /// 16: a value holds a service character and there is no release character.
-    NoRelease = 16,
+    NoRelease,
+    /// A number above these, by which only an archive that is newer than this
+    /// crate refuses; see [`rules`](crate::rules()).
+    Unknown(u32),
 }
 
-const FAULTS: [Fault; 16] = [
-    Fault::OverLength,
-    Fault::Advice,
-    Fault::Beginning,
-    Fault::Release,
-    Fault::InsideSegment,
-    Fault::Tag,
-    Fault::Level,
-    Fault::Byte,
-    Fault::Order,
-    Fault::Control,
-    Fault::Reference,
-    Fault::Count,
-    Fault::NormalLength,
-    Fault::Buffer,
-    Fault::List,
-    Fault::NoRelease,
+/// The faults in the order of their numbers, from 1, with what is wrong as the
+/// end of a sentence.
+const FAULTS: [(Fault, &str); 16] = [
+    (Fault::OverLength, "there are more than 32000 bytes"),
+    (Fault::Advice, "the service string advice is not usable"),
+    (Fault::Beginning, "the body does not begin with UNB and the element separator"),
+    (Fault::Release, "the release character is followed by no service character"),
+    (Fault::InsideSegment, "the body ends inside a segment"),
+    (Fault::Tag, "the segment's tag is not one"),
+    (Fault::Level, "the level or its version is not one that is judged"),
+    (Fault::Byte, "the byte is outside the level"),
+    (Fault::Order, "no such segment is allowed here, or the end comes before UNZ"),
+    (Fault::Control, "a count or a reference is missing or malformed"),
+    (Fault::Reference, "the trailer's reference is not its header's"),
+    (Fault::Count, "the trailer's count is wrong"),
+    (Fault::NormalLength, "the normal form has more than 32000 bytes"),
+    (Fault::Buffer, "a lent buffer is too short"),
+    (Fault::List, "the value list's table is malformed"),
+    (Fault::NoRelease, "a service character stands in a value, with none to release it"),
 ];
 
 impl Fault {
     /// The number of the paper's table.
     #[must_use]
     pub fn number(self) -> u32 {
-        self as u32
+        match self {
+            Fault::Unknown(number) => number,
+            known => FAULTS.iter().take_while(|(fault, _)| *fault != known).count() as u32 + 1,
+        }
     }
 
-    /// The fault with this number, where there is one.
+    /// The fault with this number; 0 is none.
     #[must_use]
     pub fn of_number(number: u32) -> Option<Fault> {
-        FAULTS.into_iter().find(|fault| fault.number() == number)
-    }
-
-    /// What is wrong, as the end of a sentence.
-    fn sentence(self) -> &'static str {
-        match self {
-            Fault::OverLength => "there are more than 32000 bytes",
-            Fault::Advice => "the service string advice is not usable",
-            Fault::Beginning => "the body does not begin with UNB and the element separator",
-            Fault::Release => "the release character is followed by no service character",
-            Fault::InsideSegment => "the body ends inside a segment",
-            Fault::Tag => "the segment's tag is not one",
-            Fault::Level => "the level or its version is not one that is judged",
-            Fault::Byte => "the byte is outside the level",
-            Fault::Order => "no such segment is allowed here, or the end comes before UNZ",
-            Fault::Control => "a count or a reference is missing or malformed",
-            Fault::Reference => "the trailer's reference is not its header's",
-            Fault::Count => "the trailer's count is wrong",
-            Fault::NormalLength => "the normal form has more than 32000 bytes",
-            Fault::Buffer => "a lent buffer is too short",
-            Fault::List => "the value list's table is malformed",
-            Fault::NoRelease => "a service character stands in a value, with none to release it",
-        }
+        let place = number.checked_sub(1)? as usize;
+        Some(FAULTS.get(place).map_or(Fault::Unknown(number), |(fault, _)| *fault))
     }
 }
 
 impl fmt::Display for Fault {
     fn fmt(&self, f: &mut fmt::Formatter) -> fmt::Result {
-        f.write_str(self.sentence())
+        let told = FAULTS.iter().find(|(fault, _)| fault == self);
+        f.write_str(
+            told.map_or("the archive is newer, and this crate does not know why", |(_, why)| why),
+        )
     }
 }
 
@@ -135,13 +124,7 @@ impl Refusal {
 
     /// The refusal that a struct of the surface tells, if it tells one.
     pub(crate) fn told(number: u32, place: usize) -> Result<(), Refusal> {
-        match Fault::of_number(number) {
-            Some(fault) => Err(Refusal { fault, place }),
-            None => {
-                assert_eq!(number, 0, "the surface answers with a number that no refusal has");
-                Ok(())
-            }
-        }
+        Fault::of_number(number).map_or(Ok(()), |fault| Err(Refusal { fault, place }))
     }
 }
 
@@ -157,6 +140,7 @@ impl fmt::Display for Refusal {
             Fault::List | Fault::NoRelease => {
                 write!(f, "refused {number} at record {place}: {fault}")
             }
+            Fault::Unknown(_) => write!(f, "refused {number}, place {place}: {fault}"),
             _ => write!(f, "refused {number} at byte {place}: {fault}"),
         }
     }
@@ -174,10 +158,21 @@ mod tests {
 
     #[test]
     fn the_numbers_are_one_to_sixteen() {
-        let numbers: Vec<u32> = FAULTS.iter().map(|fault| fault.number()).collect();
+        let numbers: Vec<u32> = FAULTS.iter().map(|(fault, _)| fault.number()).collect();
         assert_eq!(numbers, (1..=16).collect::<Vec<u32>>());
         assert_eq!(Fault::of_number(0), None);
-        assert_eq!(Fault::of_number(17), None);
+        assert_eq!(Fault::of_number(12), Some(Fault::Count));
+    }
+
+    #[test]
+    fn a_number_of_a_newer_archive_is_told() {
+        for number in [17, u32::MAX] {
+            let fault = Fault::of_number(number).unwrap();
+            assert_eq!((fault, fault.number()), (Fault::Unknown(number), number));
+            assert!(Fault::NoRelease < fault);
+        }
+        let newer = "refused 17, place 64: the archive is newer, and this crate does not know why";
+        assert_eq!(sentence(17, 64), newer);
     }
 
     #[test]
@@ -206,7 +201,8 @@ mod tests {
 
     #[test]
     fn every_fault_has_its_own_sentence() {
-        let mut sentences: Vec<String> = FAULTS.iter().map(Fault::to_string).collect();
+        let mut sentences: Vec<String> =
+            FAULTS.iter().map(|(fault, _)| fault.to_string()).collect();
         sentences.sort();
         sentences.dedup();
         assert_eq!(sentences.len(), FAULTS.len());

@@ -12,6 +12,9 @@ mod layout;
 pub use layout::{Comparison, Kept, Listing, Location, Part, Verdict, Written};
 
 extern "C" {
+    /// Says which rules the archive follows.
+    pub fn hverolda_rules() -> u32;
+
     /// Judges one interchange.
     pub fn hverolda_judge(input: *const u8, length: usize) -> Verdict;
 
@@ -83,6 +86,12 @@ extern "C" {
 // Each function below passes on the pointer and the length of slices that are
 // lent for the call. The functions are proved, for any bytes and any lengths,
 // to read and write nothing but these slices and to keep no pointer.
+
+/// Says which rules the archive follows.
+pub fn rules() -> u32 {
+    // SAFETY: nothing is lent.
+    unsafe { hverolda_rules() }
+}
 
 /// Judges one interchange.
 pub fn judge(input: &[u8]) -> Verdict {

@@ -5,20 +5,30 @@ use std::fmt;
 use std::slice::ChunksExact;
 
 /// How a value goes on from the one before it.
+///
+/// More may come, with higher numbers.
 #[derive(Clone, Copy, Debug, PartialEq, Eq, Hash)]
-#[repr(u32)]
+#[non_exhaustive]
 pub enum Kind {
     /// 0: it begins a segment; it is the tag.
-    NewSegment = 0,
+    NewSegment,
     /// 1: it begins an element of the segment.
-    NewElement = 1,
+    NewElement,
     /// 2: it is the next component of the element.
-    NextComponent = 2,
+    NextComponent,
+    /// A number above these, which only an archive that is newer than this crate
+    /// reads; see [`rules`](crate::rules()).
+    Unknown(u32),
 }
 
 impl From<Kind> for u32 {
     fn from(kind: Kind) -> u32 {
-        kind as u32
+        match kind {
+            Kind::NewSegment => 0,
+            Kind::NewElement => 1,
+            Kind::NextComponent => 2,
+            Kind::Unknown(number) => number,
+        }
     }
 }
 
@@ -180,7 +190,7 @@ impl<'a> Iterator for Values<'a> {
     fn next(&mut self) -> Option<(Kind, &'a [u8])> {
         let record = self.records.next()?;
         let (start, length) = (record[1] as usize, record[2] as usize);
-        let kind = Kind::try_from(record[0]).expect("a list's kinds are 0 to 2");
+        let kind = Kind::try_from(record[0]).unwrap_or_else(|unknown| Kind::Unknown(unknown.0));
         Some((kind, &self.bytes[start..][..length]))
     }
 
@@ -228,6 +238,13 @@ mod tests {
         twice.extend(&list);
         assert_eq!(twice.len(), 6);
         assert_eq!(twice.bytes(), b"UNBAUNBA");
+    }
+
+    #[test]
+    fn a_kind_of_a_newer_archive_is_told() {
+        let list = ValueList::of_parts(b"UNBA".to_vec(), vec![0, 0, 3, 3, 3, 1]);
+        assert_eq!(list.iter().last(), Some((Kind::Unknown(3), &b"A"[..])));
+        assert_eq!(list.iter().collect::<ValueList>(), list);
     }
 
     #[test]

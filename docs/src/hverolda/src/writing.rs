@@ -14,6 +14,12 @@ use crate::{surface, LONGEST};
 /// [`read`](crate::read) stores them; the values may stand anywhere in the
 /// bytes.
 ///
+/// Values may overlap, and all that the table names are looked at: without a
+/// release character 32,000 records of the same N bytes cost 32,000 * N steps
+/// before they are refused, some 2 s for N = 32,000. Who takes tables from
+/// strangers adds up the lengths first: more than 32,000 bytes in values are
+/// refused in any case.
+///
 /// # Errors
 ///
 /// In this order: 15 where the table is malformed, 2 where the service bytes

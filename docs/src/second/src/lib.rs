@@ -14,6 +14,7 @@ pub mod level;
 pub mod normal_form;
 pub mod operations;
 pub mod order;
+pub mod program_lines;
 pub mod reading;
 pub mod refusal;
 pub mod report_lines;

@@ -1,14 +1,17 @@
-//! The command line: `second judge|respell|answers|generate|cases|selftest`.
+//! The command line:
+//! `second judge|compare|locate|respell|answers|generate|cases|selftest`.
 
 use std::fs::{self, File};
 use std::io::{self, BufReader, BufWriter, Read, Write};
 use std::path::Path;
 use std::process::ExitCode;
 
-use second::{cases, generator, operations, report_lines, request_stream, respelling, selftest};
+use second::operations::{self, Numbers};
+use second::{cases, generator, program_lines, report_lines, request_stream, respelling, selftest};
 
-const USAGE: &str = "usage: second judge [FILE] | respell SERVICE FILE.. | answers [FILE] | \
-                     generate SEED COUNT [KINDS] | cases DIR | selftest";
+const USAGE: &str = "usage: second judge [FILE] | compare FIRST SECOND .. | \
+                     locate SEGMENT ELEMENT COMPONENT FILE.. | respell SERVICE FILE.. | \
+                     answers [FILE] | generate SEED COUNT [KINDS] | cases DIR | selftest";
 
 fn main() -> ExitCode {
     let arguments: Vec<String> = std::env::args().skip(1).collect();
@@ -16,6 +19,10 @@ fn main() -> ExitCode {
     let done = match words[..] {
         ["judge"] => judge(None),
         ["judge", file] => judge(Some(file)),
+        ["compare", ref files @ ..] if files.len() % 2 == 0 => compare(files),
+        ["locate", segment, element, component, ref files @ ..] => {
+            locate([segment, element, component], files)
+        }
         ["respell", service, ref files @ ..] => respell(service, files),
         ["answers"] => answers(None),
         ["answers", file] => answers(Some(file)),
@@ -51,6 +58,33 @@ fn judge(file: Option<&str>) -> io::Result<ExitCode> {
     source(file)?.read_to_end(&mut input)?;
     let answer = operations::judge(&input);
     writeln!(io::stdout(), "{}", report_lines::judge_line(&answer))?;
+    Ok(ExitCode::SUCCESS)
+}
+
+fn compare(files: &[&str]) -> io::Result<ExitCode> {
+    let mut out = BufWriter::new(io::stdout());
+    for pair in files.chunks(2) {
+        out.write_all(&program_lines::compared_line(&fs::read(pair[0])?, &fs::read(pair[1])?))?;
+        out.write_all(b"\n")?;
+    }
+    out.flush()?;
+    Ok(ExitCode::SUCCESS)
+}
+
+fn locate(words: [&str; 3], files: &[&str]) -> io::Result<ExitCode> {
+    let number = |word: &str| word.parse().map_err(|_| fault("no number"));
+    let [segment, element, component] = words;
+    let numbers = Numbers {
+        segment: number(segment)?,
+        element: number(element)?,
+        component: number(component)?,
+    };
+    let mut out = BufWriter::new(io::stdout());
+    for file in files {
+        out.write_all(&program_lines::located_line(&fs::read(file)?, numbers))?;
+        out.write_all(b"\n")?;
+    }
+    out.flush()?;
     Ok(ExitCode::SUCCESS)
 }
 

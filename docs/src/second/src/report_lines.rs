@@ -55,7 +55,7 @@ pub fn length_line(answer: &Answer<usize>, buffer: &[u8]) -> String {
     }
 }
 
-fn number_of(which: Which) -> u32 {
+pub fn number_of(which: Which) -> u32 {
     match which {
         Which::First => 1,
         Which::Second => 2,

@@ -5,18 +5,20 @@
 //! and its neighbours".
 
 use crate::operations::{compare, read, write};
-use crate::refusal::{Answer, LONGEST};
-use crate::report_lines::{compare_line, refusal_line};
+use crate::refusal::{Refusal, LONGEST};
+use crate::report_lines::compare_line;
 
 /// Every value is ended by a byte of the input, and takes three numbers.
 const NUMBERS: usize = 3 * LONGEST;
 
-fn respelled(service: &[u8], input: &[u8]) -> Answer<Vec<u8>> {
+/// The text; or what is refused, the input or the text, and why.
+fn respelled(service: &[u8], input: &[u8]) -> Result<Vec<u8>, (&'static str, Refusal)> {
     let mut values = vec![0; LONGEST];
     let mut table = vec![0; NUMBERS];
-    let counts = read(input, &mut values, &mut table)?;
+    let counts = read(input, &mut values, &mut table).map_err(|refusal| ("input", refusal))?;
     let mut text = vec![0; LONGEST];
-    let length = write(service, &values[..counts.bytes], &table[..counts.numbers], &mut text)?;
+    let length = write(service, &values[..counts.bytes], &table[..counts.numbers], &mut text)
+        .map_err(|refusal| ("text", refusal))?;
     text.truncate(length);
     Ok(text)
 }
@@ -31,7 +33,7 @@ pub fn respelled_lines(service: &[u8], input: &[u8]) -> Vec<u8> {
             lines.push(b'\n');
             compare_line(&compare(input, &text))
         }
-        Err(refusal) => refusal_line(&refusal),
+        Err((which, refusal)) => format!("refused {which} {} {}", refusal.number, refusal.place),
     };
     lines.extend(last.bytes());
     lines.push(b'\n');

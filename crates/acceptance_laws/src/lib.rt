@@ -1,0 +1,7 @@
+// Which inputs are accepted, and what is answered (paper 01): the rules of an accepted interchange as one record,
+// and the rule of refusals as another, neither of them a computation. It promises that an input is accepted exactly
+// where it is allowed, that it is refused with a number at a place exactly where the paper says so, that one of the
+// two holds and never both, that the counts answered are those of the contents, and that "same" is an equivalence of
+// accepted interchanges of which Keep hands back the shorter. The records are in specs/; the theorems are the `pub`
+// ones of proofs/Acceptance, Stages, Judged, Same and Fakes. How each rule is read off an input is left to the
+// crates below.

@@ -1,0 +1,352 @@
+-- What the definitions say in numbers: which bytes are usable, which six an input uses, where its body begins, and what part a byte
+-- plays. Assumes nothing.
+use Prim.Native.Nat.{ℕ, _≤_, _<_}
+use mathlib.Core.Path.{_≡_, refl, sym, ap, _∙_}
+use mathlib.Core.Bool.{Bool, true, false, not, _&&_, _||_, false≢true}
+use mathlib.Core.List.{List, [], _∷_, _++_}
+use mathlib.Core.Logic.{_⊎_, inl, inr, ⊎-elim}
+use native.Mathlib.Omega.{arith}
+use lib.Dec.{eqb, leb}
+use lib.ListN.{length}
+use borrow.Author.Tests.{eq-eqb, ne-eqb, le-ltb, lt-ltb}
+use Rattle.lists.specs.Lists.{if_then_else_, text, begins, member, allDiffer, all}
+use Rattle.lists.proofs.Texts.{and-left, and-both}
+use Rattle.lists.proofs.Tests.{Says, says-eq, says-le, says-both, says-either, says-not, says-as, fails, says-begins}
+use Rattle.characters.specs.declared.Characters.{Characters}
+use Rattle.characters.specs.declared.Role.the-variants.{Separator, Release, Plain}
+use Rattle.characters.specs.Characters.{between, upper, lower, digit, separates, hasRelease, serviceCharacters, isService, usable, sixBytes, spelledOut, advised, adviceOf, plusCharacters, controlCharacters, charactersOf, bodyStart, body, badAdvice, opens, role}
+
+-- ---- bytes
+
+abbrev pub Between : ℕ → ℕ → ℕ → Type 0
+Between low high b = (low ≤ b) × (b ≤ high)
+
+pub between-says : (low high b : ℕ) → Says (between low high b) (Between low high b)
+unfolding between
+between-says low high b = says-both (leb low b) (leb b high) (says-le low b) (says-le b high)
+
+pub upper-says : (b : ℕ) → Says (upper b) ((65 ≤ b) × (b ≤ 90))
+unfolding upper
+upper-says b = between-says 65 90 b
+
+pub lower-says : (b : ℕ) → Says (lower b) ((97 ≤ b) × (b ≤ 122))
+unfolding lower
+lower-says b = between-says 97 122 b
+
+pub digit-says : (b : ℕ) → Says (digit b) ((48 ≤ b) × (b ≤ 57))
+unfolding digit
+digit-says b = between-says 48 57 b
+
+-- one of a few, by number
+one-of : {P : Type 0} (b n : ℕ) (rest : Bool) → Says rest P → Says (eqb b n || rest) ((b ≡ n) ⊎ P)
+one-of b n rest p = says-either (eqb b n) rest (says-eq b n) p
+
+one : (b n : ℕ) → Says (eqb b n || false) (b ≡ n)
+one b n = says-as (says-either (eqb b n) false (says-eq b n) (λ h. absurd (false≢true h), λ (h : ⊥). absurd h)) (⊎-elim (λ e. e) (λ h. absurd h)) inl
+
+-- "a byte 33 to 126 that is no letter or digit, or one of 28, 29, 31"
+abbrev pub SeparatorByte : ℕ → Type 0
+SeparatorByte b =
+    ((33 ≤ b) × (b ≤ 126) × ((65 ≤ b) × (b ≤ 90) → ⊥) × ((97 ≤ b) × (b ≤ 122) → ⊥) × ((48 ≤ b) × (b ≤ 57) → ⊥))
+    ⊎ ((b ≡ 28) ⊎ (b ≡ 29) ⊎ (b ≡ 31))
+
+pub separates-says : (b : ℕ) → Says (separates b) (SeparatorByte b)
+unfolding separates member
+separates-says b =
+    let letters : Bool = upper b || lower b in
+    says-as
+    (says-either (between 33 126 b && not (letters || digit b)) (member b (28 ∷ 29 ∷ 31 ∷ []))
+    (says-both (between 33 126 b) (not (letters || digit b)) (between-says 33 126 b)
+    (says-not (letters || digit b)
+    (says-either letters (digit b) (says-either (upper b) (lower b) (upper-says b) (lower-says b)) (digit-says b))))
+    (one-of b 28 (member b (29 ∷ 31 ∷ [])) (one-of b 29 (member b (31 ∷ [])) (one b 31))))
+    (⊎-elim (λ h. inl (h .0 .0, h .0 .1, λ k. h .1 (inl (inl k)), λ k. h .1 (inl (inr k)), λ k. h .1 (inr k))) inr)
+    (⊎-elim (λ h. inl ((h .0, h .1), ⊎-elim (⊎-elim (h .2) (h .3)) (h .4))) inr)
+
+-- ---- service characters
+
+-- what follows the terminator among them: the release character, unless it is a space
+module _ (release : ℕ) where
+  abbrev optional : Bool → List ℕ
+  optional none = if not none then release ∷ [] else []
+
+  abbrev Released : ℕ → Type 0
+  Released b = (release ≡ 32 → ⊥) × (b ≡ release)
+
+  in-optional : (b : ℕ) (none : Bool) → Says none (release ≡ 32) → Says (member b (optional none)) (Released b)
+  unfolding member
+  in-optional b true s = (λ h. absurd (false≢true h), λ h. absurd (h .0 (s .0 refl)))
+  in-optional b false s = says-as (one b release) (λ e. (fails false s .0 refl, e)) (λ h. h .1)
+
+  all-optional : (none : Bool) → Says none (release ≡ 32) → Says (all separates (optional none)) ((release ≡ 32) ⊎ SeparatorByte release)
+  unfolding all
+  all-optional true s = (λ h. inl (s .0 refl), λ h. refl)
+  all-optional false s = (
+    λ h. inr (separates-says release .0 (and-left (separates release) true h)),
+    ⊎-elim (λ e. absurd (false≢true (s .1 e))) (λ h. and-both (separates release) true (separates-says release .1 h) refl),
+  )
+
+  one-optional : (none : Bool) → Says (allDiffer (optional none)) (Unit {0})
+  unfolding allDiffer member
+  one-optional true = (λ h. tt, λ h. refl)
+  one-optional false = (λ h. tt, λ h. refl)
+
+-- "a service character is one of these four (three)"
+pub service-says : (c : Characters) (b : ℕ)
+    → Says (isService c b)
+    ((b ≡ c .component) ⊎ (b ≡ c .element) ⊎ (b ≡ c .terminator) ⊎ ((c .release ≡ 32 → ⊥) × (b ≡ c .release)))
+unfolding isService serviceCharacters hasRelease member
+service-says c b =
+    let none : Bool = eqb (c .release) 32 in
+    let last : List ℕ = optional (c .release) none in
+    one-of b (c .component) (member b (c .element ∷ c .terminator ∷ last))
+    (one-of b (c .element) (member b (c .terminator ∷ last))
+    (one-of b (c .terminator) (member b last) (in-optional (c .release) b none (says-eq (c .release) 32))))
+
+-- "They are usable when"
+abbrev pub Usable : Characters → Type 0
+Usable c =
+    (c .reserved ≡ 32)
+    × ((c .mark ≡ 46) ⊎ (c .mark ≡ 44))
+    × SeparatorByte (c .component)
+    × SeparatorByte (c .element)
+    × SeparatorByte (c .terminator)
+    × ((c .release ≡ 32) ⊎ SeparatorByte (c .release))
+    × ((c .mark ≡ c .component) ⊎ (c .mark ≡ c .element) ⊎ (c .mark ≡ c .terminator) ⊎ (c .mark ≡ c .release) → ⊥)
+    × ((c .component ≡ c .element) ⊎ (c .component ≡ c .terminator) ⊎ (c .component ≡ c .release) → ⊥)
+    × ((c .element ≡ c .terminator) ⊎ (c .element ≡ c .release) → ⊥)
+    × (c .terminator ≡ c .release → ⊥)
+
+not-space : {b : ℕ} → SeparatorByte b → b ≡ 32 → ⊥
+not-space (inl h) e = omega arith
+not-space (inr (inl h)) e = omega arith
+not-space (inr (inr (inl h))) e = omega arith
+not-space (inr (inr (inr h))) e = omega arith
+
+-- the same, in the order of the tests
+abbrev Parts : Characters → Type 0
+Parts c =
+    (((c .reserved ≡ 32) × ((c .mark ≡ 46) ⊎ (c .mark ≡ 44)))
+    × (SeparatorByte (c .component) × (SeparatorByte (c .element) × (SeparatorByte (c .terminator) × ((c .release ≡ 32) ⊎ SeparatorByte (c .release))))))
+    × (((c .mark ≡ c .component) ⊎ (c .mark ≡ c .element) ⊎ (c .mark ≡ c .terminator) ⊎ Released (c .release) (c .mark) → ⊥)
+    × (((c .component ≡ c .element) ⊎ (c .component ≡ c .terminator) ⊎ Released (c .release) (c .component) → ⊥)
+    × (((c .element ≡ c .terminator) ⊎ Released (c .release) (c .element) → ⊥) × ((Released (c .release) (c .terminator) → ⊥) × Unit {0}))))
+
+pub usable-says : (c : Characters) → Says (usable c) (Usable c)
+unfolding usable serviceCharacters hasRelease all allDiffer member
+usable-says c =
+    let none : Bool = eqb r 32 in
+    let last : List ℕ = optional r none in
+    let rest : (b : ℕ) → Says (member b last) (Released r b) = λ b. in-optional r b none (says-eq r 32) in
+    says-as
+    (says-both
+    (eqb (c .reserved) 32 && member m (46 ∷ 44 ∷ []) && all separates (k ∷ e ∷ t ∷ last))
+    (allDiffer (m ∷ k ∷ e ∷ t ∷ last))
+    (says-both (eqb (c .reserved) 32 && member m (46 ∷ 44 ∷ [])) (all separates (k ∷ e ∷ t ∷ last))
+    (says-both (eqb (c .reserved) 32) (member m (46 ∷ 44 ∷ [])) (says-eq (c .reserved) 32) (one-of m 46 (member m (44 ∷ [])) (one m 44)))
+    (says-both (separates k) (all separates (e ∷ t ∷ last)) (separates-says k)
+    (says-both (separates e) (all separates (t ∷ last)) (separates-says e)
+    (says-both (separates t) (all separates last) (separates-says t) (all-optional r none (says-eq r 32))))))
+    (says-both (not (member m (k ∷ e ∷ t ∷ last))) (allDiffer (k ∷ e ∷ t ∷ last))
+    (says-not (member m (k ∷ e ∷ t ∷ last))
+    (one-of m k (member m (e ∷ t ∷ last)) (one-of m e (member m (t ∷ last)) (one-of m t (member m last) (rest m)))))
+    (says-both (not (member k (e ∷ t ∷ last))) (allDiffer (e ∷ t ∷ last))
+    (says-not (member k (e ∷ t ∷ last)) (one-of k e (member k (t ∷ last)) (one-of k t (member k last) (rest k))))
+    (says-both (not (member e (t ∷ last))) (allDiffer (t ∷ last))
+    (says-not (member e (t ∷ last)) (one-of e t (member e last) (rest e)))
+    (says-both (not (member t last)) (allDiffer last) (says-not (member t last) (rest t)) (one-optional r none))))))
+    there
+    back
+  where
+    m : ℕ
+    m = c .mark
+
+    k : ℕ
+    k = c .component
+
+    e : ℕ
+    e = c .element
+
+    t : ℕ
+    t = c .terminator
+
+    r : ℕ
+    r = c .release
+
+    -- what is no space is the release character only where there is one
+    apart : (b : ℕ) → (b ≡ 32 → ⊥) → (Released r b → ⊥) → b ≡ r → ⊥
+    apart b n h q = h (λ z. n (q ∙ z), q)
+
+    mark-no-space : (m ≡ 46) ⊎ (m ≡ 44) → m ≡ 32 → ⊥
+    mark-no-space (inl h) q = omega arith
+    mark-no-space (inr h) q = omega arith
+
+    there : Parts c → Usable c
+    there (((z, mk), (sk, (se, (st, sr)))), (nm, (nk, (ne, (nt, u))))) = (
+      z,
+      mk,
+      sk,
+      se,
+      st,
+      sr,
+      ⊎-elim (λ q. nm (inl q)) (⊎-elim (λ q. nm (inr (inl q)))
+          (⊎-elim (λ q. nm (inr (inr (inl q)))) (apart m (mark-no-space mk) (λ q. nm (inr (inr (inr q))))))),
+      ⊎-elim (λ q. nk (inl q)) (⊎-elim (λ q. nk (inr (inl q))) (apart k (not-space sk) (λ q. nk (inr (inr q))))),
+      ⊎-elim (λ q. ne (inl q)) (apart e (not-space se) (λ q. ne (inr q))),
+      apart t (not-space st) nt,
+    )
+
+    back : Usable c → Parts c
+    back (z, mk, sk, se, st, sr, nm, nk, ne, nt) = (
+      ((z, mk), (sk, (se, (st, sr)))),
+      (
+        ⊎-elim (λ q. nm (inl q)) (⊎-elim (λ q. nm (inr (inl q))) (⊎-elim (λ q. nm (inr (inr (inl q)))) (λ q. nm (inr (inr (inr (q .1))))))),
+        (
+          ⊎-elim (λ q. nk (inl q)) (⊎-elim (λ q. nk (inr (inl q))) (λ q. nk (inr (inr (q .1))))),
+          (⊎-elim (λ q. ne (inl q)) (λ q. ne (inr (q .1))), (λ q. nt (q .1), tt)),
+        ),
+      ),
+    )
+
+-- ---- the opening
+
+-- six bytes in the advice's order
+pub six-are : (component element mark release reserved terminator : ℕ)
+    → sixBytes (component ∷ element ∷ mark ∷ release ∷ reserved ∷ terminator ∷ [])
+    ≡ record { component = component; element = element; mark = mark; release = release; reserved = reserved; terminator = terminator }
+unfolding sixBytes
+six-are component element mark release reserved terminator = refl
+
+-- an advice is `UNA` and the six
+pub advice-is : (c : Characters)
+    → adviceOf c
+    ≡ 85 ∷ 78 ∷ 65 ∷ c .component ∷ c .element ∷ c .mark ∷ c .release ∷ c .reserved ∷ c .terminator ∷ []
+unfolding adviceOf spelledOut
+advice-is c = refl
+
+-- an input that begins with one
+module _ (c : Characters) (rest : List ℕ) where
+  abbrev pub advising : List ℕ
+  advising = 85 ∷ 78 ∷ 65 ∷ c .component ∷ c .element ∷ c .mark ∷ c .release ∷ c .reserved ∷ c .terminator ∷ rest
+
+  pub advised-opening : (charactersOf advising ≡ c) × (bodyStart advising ≡ 9) × (body advising ≡ rest)
+  unfolding charactersOf advised begins sixBytes bodyStart body
+  advised-opening = (refl, refl, refl)
+
+  -- 2 is met by six bytes that are not usable,
+  pub advised-bad : Says (badAdvice advising) (Usable c → ⊥)
+  unfolding badAdvice charactersOf advised begins sixBytes
+  advised-bad = rw (le-ltb (length advising) 9 (omega arith)) (says-not (usable c) (usable-says c))
+
+  -- 3 where the body does not begin `UNB` and the element separator
+  pub advised-opens : Says (opens advising) ((more : List ℕ) × (rest ≡ 85 ∷ 78 ∷ 66 ∷ c .element ∷ more))
+  unfolding opens charactersOf advised begins sixBytes bodyStart body
+  advised-opens = says-begins (85 ∷ 78 ∷ 66 ∷ c .element ∷ []) rest
+
+-- "shorter than its 9 bytes"
+pub short-bad : (rest : List ℕ) → length rest < 6 → badAdvice (85 ∷ 78 ∷ 65 ∷ rest) ≡ true
+unfolding badAdvice advised begins
+short-bad rest h = rw (lt-ltb (length (85 ∷ 78 ∷ 65 ∷ rest)) 9 (omega arith))
+
+-- "input that begins `UNB+` uses `:` `+` `.` `?` `'`"
+pub plus-opening : (rest : List ℕ)
+    → let s : List ℕ = 85 ∷ 78 ∷ 66 ∷ 43 ∷ rest in
+    (charactersOf s ≡ record { component = 58; element = 43; mark = 46; release = 63; reserved = 32; terminator = 39 })
+    × (bodyStart s ≡ 0)
+    × (body s ≡ s)
+unfolding charactersOf advised begins plusCharacters sixBytes bodyStart body
+plus-opening rest = (refl, refl, refl)
+
+-- "input that begins `UNB` and byte 29 uses 31, 29, `.`, no release, terminator 28"
+pub control-opening : (rest : List ℕ)
+    → let s : List ℕ = 85 ∷ 78 ∷ 66 ∷ 29 ∷ rest in
+    (charactersOf s ≡ record { component = 31; element = 29; mark = 46; release = 32; reserved = 32; terminator = 28 })
+    × (bodyStart s ≡ 0)
+    × (body s ≡ s)
+unfolding charactersOf advised begins controlCharacters sixBytes bodyStart body
+control-opening rest = (refl, refl, refl)
+
+-- without an advice
+module _ (s : List ℕ) (none : (rest : List ℕ) → s ≡ 85 ∷ 78 ∷ 65 ∷ rest → ⊥) where
+  not-advised : advised s ≡ false
+  unfolding advised
+  not-advised = fails (begins (text "UNA") s) (says-begins (text "UNA") s) .1 (λ h. none (h .0) (h .1))
+
+  -- the body is the whole input, and 2 is not met
+  pub plain-opening : (bodyStart s ≡ 0) × (body s ≡ s) × (badAdvice s ≡ false)
+  unfolding bodyStart body badAdvice
+  plain-opening = (rw not-advised, rw not-advised, rw not-advised)
+
+  -- 3 is met by "neither beginning above"
+  pub plain-opens : Says (opens s)
+      (((rest : List ℕ) × (s ≡ 85 ∷ 78 ∷ 66 ∷ 43 ∷ rest)) ⊎ ((rest : List ℕ) × (s ≡ 85 ∷ 78 ∷ 66 ∷ 29 ∷ rest)))
+  unfolding opens charactersOf bodyStart body plusCharacters controlCharacters sixBytes
+  plain-opens = rw not-advised (step (begins (text "UNB+") s) (says-begins (text "UNB+") s))
+    where
+      Plus : Type 0
+      Plus = (rest : List ℕ) × (s ≡ 85 ∷ 78 ∷ 66 ∷ 43 ∷ rest)
+
+      Control : Type 0
+      Control = (rest : List ℕ) × (s ≡ 85 ∷ 78 ∷ 66 ∷ 29 ∷ rest)
+
+      step : (t : Bool) → Says t Plus
+          → Says (begins (text "UNB" ++ (if t then plusCharacters else controlCharacters) .element ∷ []) s) (Plus ⊎ Control)
+      step true p = (λ h. inl (p .0 refl), λ h. says-begins (text "UNB+") s .1 (p .0 refl))
+      step false p =
+          says-as (says-begins (85 ∷ 78 ∷ 66 ∷ 29 ∷ []) s) inr (⊎-elim (λ h. absurd (false≢true (p .1 h))) (λ h. h))
+
+-- ---- what part a byte plays
+
+module _ (c : Characters) (u : Usable c) where
+  pub terminator-role : role c (c .terminator) ≡ Separator 0
+  unfolding role
+  terminator-role = rw (eq-eqb (c .terminator) (c .terminator) refl)
+
+  pub element-role : role c (c .element) ≡ Separator 1
+  unfolding role
+  element-role = rw (ne-eqb (c .element) (c .terminator) (λ e. u .8 (inl e)), eq-eqb (c .element) (c .element) refl)
+
+  pub component-role : role c (c .component) ≡ Separator 2
+  unfolding role
+  component-role =
+      rw (
+        ne-eqb (c .component) (c .terminator) (λ e. u .7 (inr (inl e))),
+        ne-eqb (c .component) (c .element) (λ e. u .7 (inl e)),
+        eq-eqb (c .component) (c .component) refl,
+      )
+
+  pub release-role : (c .release ≡ 32 → ⊥) → role c (c .release) ≡ Release
+  unfolding role hasRelease
+  release-role n =
+      rw (
+        ne-eqb (c .release) (c .terminator) (λ e. u .9 (sym e)),
+        ne-eqb (c .release) (c .element) (λ e. u .8 (inr (sym e))),
+        ne-eqb (c .release) (c .component) (λ e. u .7 (inr (inr (sym e)))),
+        ne-eqb (c .release) 32 n,
+        eq-eqb (c .release) (c .release) refl,
+      )
+
+-- every other byte plays none
+pub plain-role : (c : Characters) (b : ℕ) → isService c b ≡ false → role c b ≡ Plain
+unfolding role hasRelease
+plain-role c b h =
+    let none = fails (isService c b) (service-says c b) .0 h in
+    rw (
+      ne-eqb b (c .terminator) (λ e. none (inr (inr (inl e)))),
+      ne-eqb b (c .element) (λ e. none (inr (inl e))),
+      ne-eqb b (c .component) (λ e. none (inl e)),
+    ) (last (eqb (c .release) 32) (says-eq (c .release) 32) (λ n e. none (inr (inr (inr (n, e))))))
+  where
+    last : (r : Bool) → Says r (c .release ≡ 32) → ((c .release ≡ 32 → ⊥) → b ≡ c .release → ⊥)
+        → (if not r && eqb b (c .release) then Release else Plain) ≡ Plain
+    last true s n = refl
+    last false s n = rw (ne-eqb b (c .release) (n (fails false s .0 refl)))
+
+-- every service character plays one
+pub service-role : (c : Characters) → Usable c → (b : ℕ) → isService c b ≡ true
+    → ((rank : ℕ) × (role c b ≡ Separator rank)) ⊎ (role c b ≡ Release)
+service-role c u b h =
+    ⊎-elim (λ e. inl (2, ap (role c) e ∙ component-role c u))
+    (⊎-elim (λ e. inl (1, ap (role c) e ∙ element-role c u))
+    (⊎-elim (λ e. inl (0, ap (role c) e ∙ terminator-role c u)) (λ e. inr (ap (role c) (e .1) ∙ release-role c u (e .0)))))
+    (service-says c b .0 h)

@@ -1,4 +1,0 @@
-pub mod Tokens
-pub mod Composed
-pub mod Lengths
-pub mod Stored

@@ -1,0 +1,66 @@
+// Where the count and the reference of a service segment stand (paper 01, "Control elements"). It
+// promises that the constant table is the paper's.
+ghost use mathlib.Core.Path.{_≡_};
+ghost use Rattle.segments.specs.Kinds.{index};
+ghost use Rattle.control_elements.specs.Positions.{positionsOf};
+use control_elements::Positions;
+use segments::Kind;
+
+// By kind of segment: UNB, UNG, UNH, UNS, UNT, UNE, UNZ, any other.
+const POSITIONS: [Positions; 8] = [
+    Positions {
+        count: 0,
+        reference: 5,
+    },
+    Positions {
+        count: 0,
+        reference: 5,
+    },
+    Positions {
+        count: 0,
+        reference: 1,
+    },
+    Positions {
+        count: 0,
+        reference: 0,
+    },
+    Positions {
+        count: 1,
+        reference: 2,
+    },
+    Positions {
+        count: 1,
+        reference: 2,
+    },
+    Positions {
+        count: 1,
+        reference: 2,
+    },
+    Positions {
+        count: 0,
+        reference: 0,
+    },
+];
+
+// A kind's place in the table.
+fn index_of(kind: Kind) -> usize
+    ensures { λ r. ⌜ r ≡ index kind ⌝ }
+{
+    match kind {
+        Kind::Unb => 0,
+        Kind::Ung => 1,
+        Kind::Unh => 2,
+        Kind::Uns => 3,
+        Kind::Unt => 4,
+        Kind::Une => 5,
+        Kind::Unz => 6,
+        Kind::User => 7,
+    }
+}
+
+pub fn positions_of(kind: Kind) -> Positions
+    ensures { λ r. ⌜ r ≡ positionsOf kind ⌝ }
+{
+    let at = index_of(kind);
+    POSITIONS[at]
+}

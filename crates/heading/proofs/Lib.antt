@@ -1,3 +1,0 @@
-pub mod Trimmed
-pub mod Values
-pub mod Heading

@@ -1,3 +1,0 @@
-pub mod Judging
-pub mod Stages
-pub mod Told

@@ -1,4 +1,0 @@
-pub mod Ends
-pub mod Trimmed
-pub mod Values
-pub mod Locating

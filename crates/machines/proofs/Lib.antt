@@ -1,6 +1,0 @@
-pub mod Rows
-pub mod Rising
-pub mod Segments
-pub mod Walks
-pub mod Worded
-pub mod Stages

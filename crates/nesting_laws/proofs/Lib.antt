@@ -1,0 +1,10 @@
+pub mod Shape
+pub mod Trimmed
+pub mod Again
+pub mod Ends
+pub mod Ranks
+pub mod Reading
+pub mod Writing
+pub mod Flat
+pub mod Splits
+pub mod Positions

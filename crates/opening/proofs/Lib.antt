@@ -1,3 +1,0 @@
-pub mod Beginnings
-pub mod Openings
-pub mod Usable

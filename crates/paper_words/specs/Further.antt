@@ -1,0 +1,97 @@
+-- Further cases, computed as the starred ones are: numbers, places and characters that no starred case answers. Assumes nothing.
+use Prim.Native.Nat.{ℕ}
+use Prim.Native.String.{String}
+use mathlib.Core.List.{List, [], _∷_, _++_}
+use mathlib.Core.Bool.{Bool}
+use lib.ListN.{take, replicate}
+use Rattle.lists.specs.Lists.{text}
+use Rattle.answers.specs.Answers.{Answer}
+use Rattle.operations.specs.Judge.{judge, normalise}
+use Rattle.operations.specs.Compare.{compare}
+use Rattle.operations.specs.Locate.{locate}
+use Rattle.operations.specs.Read.{read}
+use Rattle.operations.specs.Write.{write}
+use Rattle.starred_cases.specs.Cases.{unb, unh, bgm, unt, unz, with, x, says}
+
+-- an answer, and the number and the values that it has
+pub record Row : Type 0 where
+  pub answer : Answer
+  pub number : ℕ
+  pub values : List ℕ
+
+abbrev row : Answer → ℕ → List ℕ → Row
+row answer number values = record { answer = answer; number = number; values = values }
+
+-- X with another UNB or UNH
+abbrev headed : String → String → List ℕ
+headed first second = text first ++ text second ++ text bgm ++ text unt ++ text unz
+
+-- X in a group, with this UNE and this UNZ
+abbrev grouped : String → String → List ℕ
+grouped une last =
+    text unb ++ text "UNG+ORDERS+AA+BB+260105:0930+G1+UN+1:901'" ++ text unh ++ text bgm ++ text unt ++ text une ++ text last
+
+-- X under 31, 29 and 28, without a release character
+abbrev controlled : List ℕ
+controlled =
+    text "UNB" ++ 29 ∷ text "UNOA" ++ 31 ∷ text "1" ++ 29 ∷ text "AA" ++ 29 ∷ text "BB" ++ 29 ∷ text "260105" ++ 31 ∷ text "0930"
+    ++ 29 ∷ text "R1" ++ 28 ∷ text "UNH" ++ 29 ∷ text "1" ++ 29 ∷ text "ORDERS" ++ 31 ∷ text "1" ++ 31 ∷ text "901" ++ 31 ∷ text "UN"
+    ++ 28 ∷ text "BGM" ++ 29 ∷ text "220" ++ 29 ∷ text "A+B" ++ 28 ∷ text "UNT" ++ 29 ∷ text "3" ++ 29 ∷ text "1"
+    ++ 28 ∷ text "UNZ" ++ 29 ∷ text "1" ++ 29 ∷ text "R1" ++ 28 ∷ []
+
+-- Write's six bytes, and a value list of `AB` and `C`
+abbrev six : List ℕ
+six = text ":+.? '"
+
+unfoldable pub rows : List Row
+rows =
+    -- 6: the tag rule
+    row (judge (with "bGM+220'" unt unz)) 6 (54 ∷ [])
+    ∷ row (judge (with "BGMM+220'" unt unz)) 6 (54 ∷ [])
+    ∷ row (judge (with "UNX+220'" unt unz)) 6 (54 ∷ [])
+    ∷ row (judge (with "UNS:1+220'" unt unz)) 6 (54 ∷ [])
+    -- 7: level and version
+    ∷ row (judge (headed "UNB+UNOC:1+AA+BB+260105:0930+R1'" unh)) 7 (0 ∷ [])
+    ∷ row (judge (headed "UNB+UNOA:3+AA+BB+260105:0930+R1'" unh)) 7 (0 ∷ [])
+    ∷ row (judge (headed "UNA:+.? 'UNB+UNOA:3+AA+BB+260105:0930+R1'" unh)) 7 (9 ∷ [])
+    -- 10: references of 1 to 14 bytes, counts of 1 to 6 digits
+    ∷ row (judge (headed "UNB+UNOA:1+AA+BB+260105:0930'" unh)) 10 (0 ∷ [])
+    ∷ row (judge (headed "UNB+UNOA:1+AA+BB+260105:0930+123456789012345'" unh)) 10 (0 ∷ [])
+    ∷ row (judge (headed unb "UNH+1:1+ORDERS:1:901:UN'")) 10 (32 ∷ [])
+    ∷ row (judge (with bgm "UNT+A+1'" unz)) 10 (67 ∷ [])
+    ∷ row (judge (with bgm "UNT+0000003+1'" unz)) 10 (67 ∷ [])
+    ∷ row (judge (with bgm "UNT+000003+1'" unz)) 0 (text ":+.? '" ++ 5 ∷ 1 ∷ 0 ∷ 98 ∷ [])
+    -- 1
+    ∷ row (judge (replicate 32001 65)) 1 (0 ∷ [])
+    -- groups, and their counts
+    ∷ row (judge (grouped "UNE+1+G1'" "UNZ+1+R1'")) 0 (text ":+.? '" ++ 7 ∷ 1 ∷ 1 ∷ 143 ∷ [])
+    ∷ row (judge (grouped "UNE+1+G2'" "UNZ+1+R1'")) 11 (116 ∷ [])
+    ∷ row (judge (grouped "UNE+2+G1'" "UNZ+1+R1'")) 12 (116 ∷ [])
+    -- 9: a group without a message is refused at its UNE
+    ∷ row (judge (text unb ++ text "UNG+ORDERS+AA+BB+260105:0930+G1+UN+1:901'" ++ text "UNE+0+G1'" ++ text unz)) 9 (73 ∷ [])
+    -- the other opening without advice
+    ∷ row (judge controlled) 0 (31 ∷ 29 ∷ 46 ∷ 32 ∷ 32 ∷ 28 ∷ 5 ∷ 1 ∷ 0 ∷ 93 ∷ [])
+    ∷ row (compare x controlled) 0 (1 ∷ [])
+    ∷ row (compare x (take 3 x)) 3 (2 ∷ 0 ∷ [])
+    -- where a value is spelled
+    ∷ row (locate x 2 2 0) 0 (62 ∷ 4 ∷ [])
+    ∷ row (locate x 2 3 0) 0 []
+    -- 14: of Normalise and Read
+    ∷ row (normalise (replicate 92 0) x) 14 (93 ∷ [])
+    ∷ row (read (replicate 59 0) (replicate 68 0) x) 14 (60 ∷ [])
+    ∷ row (read (replicate 60 0) (replicate 68 0) x) 14 (69 ∷ [])
+    ∷ row (read (replicate 60 0) (replicate 69 0) x) 0 (60 ∷ 69 ∷ [])
+    -- Write: 15, 2, 16, 14
+    ∷ row (write six (text "AB") (0 ∷ 0 ∷ []) []) 15 (0 ∷ [])
+    ∷ row (write six (text "AB") (1 ∷ 0 ∷ 1 ∷ []) []) 15 (0 ∷ [])
+    ∷ row (write six (text "AB") (0 ∷ 0 ∷ 1 ∷ 3 ∷ 0 ∷ 0 ∷ 1 ∷ 2 ∷ 1 ∷ []) []) 15 (1 ∷ [])
+    ∷ row (write six (text "AB") (0 ∷ 0 ∷ 1 ∷ 1 ∷ 0 ∷ 2 ∷ 1 ∷ 2 ∷ 1 ∷ []) []) 15 (2 ∷ [])
+    ∷ row (write (text ":+.?.'") (text "AB") (0 ∷ 0 ∷ 1 ∷ []) []) 2 (0 ∷ [])
+    ∷ row (write (text ":+.? '!") (text "AB") (0 ∷ 0 ∷ 1 ∷ []) []) 2 (0 ∷ [])
+    ∷ row (write (text ":+.  '") (text "A'B:") (0 ∷ 0 ∷ 1 ∷ 1 ∷ 1 ∷ 2 ∷ 2 ∷ 3 ∷ 1 ∷ []) []) 16 (1 ∷ [])
+    ∷ row (write six (text "AB") (0 ∷ 0 ∷ 1 ∷ 1 ∷ 1 ∷ 1 ∷ []) []) 14 (13 ∷ [])
+    ∷ row (write six (text "AB") (0 ∷ 0 ∷ 1 ∷ 1 ∷ 1 ∷ 1 ∷ []) (replicate 13 7)) 3 (9 ∷ [])
+    ∷ []
+
+unfoldable pub right : Row → Bool
+right r = says (r .answer) 0 (r .number) (r .values)

@@ -1,0 +1,3 @@
+pub mod Relations
+pub mod PaperWords
+pub mod Further

@@ -1,0 +1,4 @@
+pub mod Service
+pub mod Tokens
+pub mod Listing
+pub mod Laws

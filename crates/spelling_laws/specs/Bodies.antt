@@ -1,0 +1,65 @@
+-- Paper 01, "From bytes to values": what a body reads as, when it passes refusals 4 and 5, and which lists can be spelled.
+-- Assumes nothing.
+use Prim.Native.Nat.{ℕ, zero, suc}
+use mathlib.Core.Path.{_≡_}
+use mathlib.Core.Bool.{Bool, true, false, not}
+use mathlib.Core.List.{List, map}
+use Rattle.lists.specs.Lists.{all}
+use Rattle.nesting.specs.Nesting.{shaped, every, byDepth}
+use Rattle.characters.specs.declared.Characters.{Characters}
+use Rattle.characters.specs.Characters.{hasRelease, isService}
+use Rattle.values.specs.Tokens.{Token, Segment, ends, segments, tokens}
+use Rattle.values.specs.Values.{elementsOf, isFault, endsInside}
+use Rattle.values.specs.Spelling.{Bytes, SegmentList, spell}
+
+-- ---- by depth: a value is of depth 0, an element of depth 1, a segment of depth 2
+
+-- the token ends a part of this depth
+abbrev pub endsPart : ℕ → Token → Bool
+endsPart depth t = byDepth 2 ends depth t
+
+-- the character that ends a part of this depth
+abbrev pub separatorOf : Characters → ℕ → ℕ
+separatorOf c zero = c .component
+separatorOf c (suc zero) = c .element
+separatorOf c (suc (suc depth)) = c .terminator
+
+-- ---- lists of segments
+
+-- the values of a segment, untrimmed and without places
+unfoldable pub wordsOf : Segment → List (List Bytes)
+wordsOf segment = map (map (λ v. v .bytes)) (elementsOf segment)
+
+-- the list of segments that the tokens hold
+unfoldable pub listed : List Token → SegmentList
+listed ts = map wordsOf (segments ts)
+
+-- the list of segments that a body reads as; its first byte stands at the place
+unfoldable pub readList : Characters → ℕ → Bytes → SegmentList
+readList c place body = listed (tokens c place body)
+
+-- neither refusal 4 nor refusal 5 is met: no token is a fault, and the tokens do not end inside a segment
+unfoldable pub Sound : List Token → Type 0
+Sound ts = (all (λ t. not (isFault t)) ts ≡ true) × (endsInside ts ≡ false)
+
+-- the body, whose first byte stands at the place, passes refusals 4 and 5
+unfoldable pub Passes : Characters → ℕ → Bytes → Type 0
+Passes c place body = Sound (tokens c place body)
+
+-- "A segment is one or more elements, an element one or more values"
+unfoldable pub shapedSegment : List (List Bytes) → Bool
+shapedSegment segment = shaped Bytes 2 segment
+
+unfoldable pub Shaped : SegmentList → Type 0
+Shaped list = all shapedSegment list ≡ true
+
+-- where there is no release character, no value of the list holds a service character
+unfoldable pub Releasable : Characters → SegmentList → Type 0
+Releasable c list = hasRelease c ≡ false → every (all (λ b. not (isService c b))) 3 list ≡ true
+
+-- "some list of segments is spelled by it, each service character inside a value being released and nothing else"
+pub record Spelled (c : Characters) (body : Bytes) : Type 0 where
+  pub list : SegmentList
+  pub shaped : Shaped list
+  pub releasable : Releasable c list
+  pub spelled : spell c list ≡ body

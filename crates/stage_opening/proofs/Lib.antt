@@ -1,0 +1,4 @@
+pub mod Beginnings
+pub mod Openings
+pub mod Runs
+pub mod Usable

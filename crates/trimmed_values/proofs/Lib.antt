@@ -1,0 +1,5 @@
+pub mod Trimmed
+pub mod Contents
+pub mod Ends
+pub mod Places
+pub mod Same

@@ -1,5 +1,0 @@
-pub mod Trimmed
-pub mod Again
-pub mod Ends
-pub mod Nesting
-pub mod Tables

@@ -1,0 +1,82 @@
+//! What is read: files by name, or standard input.
+
+use std::ffi::{OsStr, OsString};
+use std::fs::File;
+use std::io::{self, Read};
+
+use crate::output::{complain, own, shown, Output, Said};
+use crate::{usage, Status, Trouble};
+
+/// A byte more than the longest interchange: enough to see that an input is
+/// longer, and all that is held of it.
+pub const ROOM: usize = hverolda::LONGEST + 1;
+
+/// An input and what it is called.
+pub struct Input {
+    pub name: String,
+    /// What its lines begin with: its name and a colon where there are several.
+    pub label: String,
+    pub bytes: Vec<u8>,
+}
+
+/// Says of each input in turn what there is to say; one that cannot be read is
+/// trouble, and the others are still answered.
+pub fn each(
+    output: &mut Output,
+    operands: &[OsString],
+    room: usize,
+    say: impl Fn(&Input) -> Said,
+) -> Result<Status, Trouble> {
+    let standard = [OsString::from("-")];
+    let names = if operands.is_empty() { &standard } else { operands };
+    once(names)?;
+    let mut worst = Status::Yes;
+    for name in names {
+        let status = match read(name, room, names.len() > 1) {
+            Some(input) => output.say(&input, say(&input))?,
+            None => Status::Trouble,
+        };
+        worst = worst.max(status);
+    }
+    Ok(worst)
+}
+
+/// Two inputs, where both can be read.
+pub fn two(operands: &[OsString]) -> Result<Option<(Input, Input)>, Trouble> {
+    match operands {
+        [first, second] => {
+            once(operands)?;
+            let (first, second) = (read(first, ROOM, false), read(second, ROOM, false));
+            Ok(first.zip(second))
+        }
+        _ => usage(&format!("two files are compared, not {}", operands.len())),
+    }
+}
+
+/// Standard input is there once: a second reading would find it empty, and that
+/// would look like an answer.
+fn once(names: &[OsString]) -> Result<(), Trouble> {
+    match names.iter().filter(|name| *name == "-").count() {
+        0 | 1 => Ok(()),
+        _ => usage("standard input can be read only once"),
+    }
+}
+
+/// So many bytes of an input, or all where it has fewer. Why it cannot be read
+/// is said.
+fn read(name: &OsStr, room: usize, several: bool) -> Option<Input> {
+    let mut bytes = Vec::new();
+    let file = if name == "-" { own(&io::stdin()) } else { File::open(name) };
+    let done = file.and_then(|file| file.take(room as u64).read_to_end(&mut bytes));
+    let name = shown(name);
+    match done {
+        Ok(_) => {
+            let label = if several { format!("{name}: ") } else { String::new() };
+            Some(Input { name, label, bytes })
+        }
+        Err(error) => {
+            complain(&format!("{name}: {error}"));
+            None
+        }
+    }
+}

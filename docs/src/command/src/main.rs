@@ -1,0 +1,144 @@
+//! The command `hverolda`: EDIFACT interchanges in files, for people and
+//! scripts. What it answers is the proved library's; this package reads files
+//! and prints. A sub-command is a file of its own and a name in the list below.
+
+#![no_main]
+#![deny(unsafe_code)]
+
+#[cfg(not(target_env = "gnu"))]
+compile_error!("the command is for Linux with the GNU C library");
+
+mod input;
+mod lines;
+mod output;
+
+use std::env;
+use std::ffi::OsString;
+
+use output::{complain, shown, Output};
+
+/// Declares the sub-commands: a module each, with its `COMMAND`.
+macro_rules! commands {
+    ($($name:ident)*) => {
+        $(mod $name;)*
+        const COMMANDS: &[Command] = &[$($name::COMMAND),*];
+    };
+}
+
+commands! { judge normalise compare keep locate read write respell }
+
+pub struct Command {
+    name: &'static str,
+    /// Its operands, as its usage shows them.
+    operands: &'static str,
+    /// What it does, in a line; and, after it, what its output means.
+    help: &'static str,
+    run: fn(&mut Output, &[OsString]) -> Result<Status, Trouble>,
+}
+
+/// The exit status; of several inputs' the worst.
+#[derive(Clone, Copy, PartialEq, Eq, PartialOrd, Ord)]
+pub enum Status {
+    /// Accepted, same, present.
+    Yes = 0,
+    /// Refused, different, absent.
+    No = 1,
+    /// There is no answer.
+    Trouble = 2,
+}
+
+/// What ends the command at once.
+pub enum Trouble {
+    /// It was not asked as its usage says.
+    Usage(String),
+    /// Standard output cannot be written.
+    Output(std::io::Error),
+}
+
+pub fn usage<T>(message: &str) -> Result<T, Trouble> {
+    Err(Trouble::Usage(message.to_string()))
+}
+
+const USAGE: &str = "\
+Usage: hverolda COMMAND [OPERAND]..
+       hverolda COMMAND --help
+       hverolda --version
+Judges, reads, writes and compares EDIFACT interchanges by the rules of ISO 9735 (1990).
+
+";
+
+const STATUSES: &str = "
+Exit status: 0 accepted, same or present; 1 refused, different or absent; 2 trouble, as a
+file that cannot be read or standard output that cannot be written. Trouble is said on
+standard error and never on standard output, so that it never looks like an answer.
+";
+
+const FILES: &str = "
+FILE is - for standard input, which is also read where no FILE is named. -- ends the
+options, for an operand that begins with -. Where several files are named, each line
+begins with the file's name and a colon.
+";
+
+/// Rust's own start is left out: it opens /dev/null for a standard stream that
+/// is closed, so that what is read or written there would seem to be right, and
+/// it ignores the signal that ends a program which writes to nobody. The words
+/// are known all the same where the C library is GNU's.
+#[allow(unsafe_code)]
+#[no_mangle]
+pub extern "C" fn main(_count: i32, _words: *const *const u8) -> i32 {
+    let words: Vec<OsString> = env::args_os().skip(1).collect();
+    let command = words.first().and_then(|word| COMMANDS.iter().find(|known| word == known.name));
+    let answer = Output::open().and_then(|mut output| match command {
+        Some(command) => run(command, &mut output, &words[1..]),
+        None => run_none(&mut output, &words),
+    });
+    match answer {
+        Ok(status) => return status as i32,
+        Err(Trouble::Output(error)) => complain(&format!("standard output: {error}")),
+        Err(Trouble::Usage(message)) => {
+            let name = command.map_or(String::new(), |command| format!(" {}", command.name));
+            complain(&format!("{message}\nTry 'hverolda{name} --help'."));
+        }
+    }
+    Status::Trouble as i32
+}
+
+/// Parts the operands from the options, of which there is one, `--help`.
+fn run(command: &Command, output: &mut Output, words: &[OsString]) -> Result<Status, Trouble> {
+    let ended = words.iter().position(|word| word == "--").unwrap_or(words.len());
+    let is_option = |word: &&OsString| word.to_string_lossy().starts_with('-') && *word != "-";
+    match words[..ended].iter().find(is_option) {
+        None => {
+            let after = words[ended..].iter().skip(1);
+            let operands: Vec<OsString> = words[..ended].iter().chain(after).cloned().collect();
+            (command.run)(output, &operands)
+        }
+        Some(option) if option == "--help" => {
+            let Command { name, operands, help, .. } = command;
+            output.write(format!("Usage: hverolda {name} {operands}\n{help}{STATUSES}").as_bytes())
+        }
+        Some(option) => usage(&format!("'{}' is no option", shown(option))),
+    }
+}
+
+/// What is said where no sub-command is named.
+fn run_none(output: &mut Output, words: &[OsString]) -> Result<Status, Trouble> {
+    match words.first() {
+        None => usage("which command?"),
+        Some(word) if word == "--help" => output.write(help().as_bytes()),
+        Some(word) if word == "--version" => {
+            let (version, rules) = (env!("CARGO_PKG_VERSION"), hverolda::rules());
+            output.write(format!("hverolda {version} rules {rules}\n").as_bytes())
+        }
+        Some(word) => usage(&format!("no command is called '{}'", shown(word))),
+    }
+}
+
+fn help() -> String {
+    let one = |command: &Command| {
+        let summary = command.help.lines().next().unwrap_or("");
+        format!("  {} {}\n      {summary}\n", command.name, command.operands)
+    };
+    let all: String = COMMANDS.iter().map(one).collect();
+    format!("{USAGE}{all}{FILES}{STATUSES}")
+}

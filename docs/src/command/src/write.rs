@@ -1,0 +1,55 @@
+use std::ffi::OsString;
+use std::os::unix::ffi::OsStrExt;
+
+use hverolda::{Fault, Refusal, LONGEST};
+
+use crate::input::each;
+use crate::lines::{parsed, ROOM};
+use crate::output::{Output, Said};
+use crate::{usage, Command, Status, Trouble};
+
+pub const COMMAND: Command = Command {
+    name: "write",
+    operands: "SERVICE [FILE]..",
+    help: "\
+Writes interchanges from values, one a line.
+
+SERVICE is six bytes as an advice has them: component separator, element separator,
+decimal mark, release character or a space, a space, segment terminator: ';*.! ~'.
+FILE has the lines that read prints. The texts stand one directly after the other, with
+no byte besides. Of a text that is refused, standard error says so: refused text NUMBER
+PLACE and why, where the places of 15 and 16 count lines from 0. A line that is not as
+read prints it is trouble.
+",
+    run,
+};
+
+fn run(output: &mut Output, operands: &[OsString]) -> Result<Status, Trouble> {
+    let (service, files) = service(operands)?;
+    each(output, files, ROOM, |input| match parsed(&input.bytes) {
+        Ok((bytes, table)) => match text(service, &bytes, &table) {
+            Ok(text) => Said::Text(text),
+            Err(refusal) => Said::BadText(refusal),
+        },
+        Err(number) => Said::Trouble(format!("line {number} is no kind and value")),
+    })
+}
+
+/// The first operand and the files after it. That it is not the service
+/// characters is said before anything is read: where they were forgotten, a
+/// file's name stands in their place.
+pub fn service(operands: &[OsString]) -> Result<(&[u8], &[OsString]), Trouble> {
+    let usable = |service| !matches!(text(service, &[], &[]), Err(r) if r.fault == Fault::Advice);
+    match operands.split_first() {
+        Some((first, files)) if usable(first.as_bytes()) => Ok((first.as_bytes(), files)),
+        _ => usage("SERVICE must be six usable bytes, as ';*.! ~'"),
+    }
+}
+
+/// The text of a value list.
+pub fn text(service: &[u8], bytes: &[u8], table: &[u32]) -> Result<Vec<u8>, Refusal> {
+    let mut text = vec![0; LONGEST];
+    let length = hverolda::write(service, bytes, table, &mut text)?;
+    text.truncate(length);
+    Ok(text)
+}

@@ -1,0 +1,184 @@
+#!/usr/bin/env bash
+# try.sh HVEROLDA PROGRAMS, at the root: tries the command and the programs in Rattle as a person would, and
+# looks at both streams and the status. It says what is not as it must be, and nothing where all is well.
+set -uo pipefail
+hverolda=$1 programs=$2 cases=docs/cases
+x=$cases/01-x.edi respelled=$cases/13-respelled.edi wrong=$cases/02-unt-count-4.edi six=';*.! ~'
+work=$(mktemp -d)
+trap 'rm -rf "$work"' EXIT
+exec </dev/null
+failures=0
+
+complain() {
+    echo "try: $*"
+    failures=$((failures + 1))
+}
+
+# expect STATUS OUT ERR COMMAND..: OUT and ERR are patterns for all of a stream
+expect() {
+    local status out err
+    "${@:4}" >"$work/out" 2>"$work/err"
+    status=$?
+    out=$(tr '\0' '?' <"$work/out") err=$(tr '\0' '?' <"$work/err")
+    # shellcheck disable=SC2053
+    if [[ $status != "$1" || $out != $2 || $err != $3 ]]; then
+        complain "${*:4}: status $status for $1"
+        printf '  output %q for %q\n  errors %q for %q\n' "$out" "$2" "$err" "$3"
+    fi
+}
+
+# lines N: how many the last command printed
+lines() {
+    local count
+    count=$(wc -l <"$work/out")
+    [[ $count == "$1" ]] || complain "$count lines for $1"
+}
+
+# operands_of NAME: what stands before the last file
+operands_of() {
+    case $1 in
+        compare | keep) operands=("$x") ;;
+        locate) operands=(2 2 0) ;;
+        write | respell) operands=("$six") ;;
+        *) operands=() ;;
+    esac
+}
+
+closed() { "$@" >&-; }
+full() { "$@" >/dev/full; }
+deaf() { "$@" 2>&-; }
+small() { (ulimit -s 512 && "$@"); }
+narrow() { (ulimit -v 100000 && "$@"); }
+# a gigabyte of one byte, of which the reader takes what it wants
+gigabyte() { head -c 1000000000 /dev/zero 2>/dev/null | tr '\0' "${1-\0}" 2>/dev/null; }
+
+accepted='accepted 5 1 0 93'
+sentence="the trailer's count is wrong"
+commands=(judge normalise compare keep locate read write respell)
+# nine in ten of its 31,900 bytes end an empty value: as many values as an interchange can have
+{
+    printf "UNB+UNOA:1+AA+BB+260105:0930+R1'UNH+1+ORDERS:1:901:UN'BGM"
+    printf '+%.0s' {1..31800}
+    printf "A'UNT+3+1'UNZ+1+R1'"
+} >"$work/wide"
+
+# ---- the command: what it answers
+
+expect 0 "$accepted" '' "$hverolda" judge "$x"
+expect 0 "$accepted" '' "$hverolda" judge <"$x"
+expect 0 "$accepted" '' "$hverolda" judge - <"$x"
+expect 1 "refused 12 67 $sentence" '' "$hverolda" judge "$wrong"
+expect 1 "$x: $accepted"$'\n'"$wrong: refused 12 67 $sentence" '' "$hverolda" judge "$x" "$wrong"
+expect 1 '*' '' "$hverolda" judge "$cases"/*.edi
+sed -E 's/(refused [0-9]+ [0-9]+) .*/\1/' "$work/out" |
+    diff <(sed "s|^|$cases/|; s/ /.edi: /" "$cases/EXPECTED") - || complain 'judge and the stored answers'
+expect 0 "UNA:+.? '$(cat "$x")" '' "$hverolda" normalise "$respelled"
+cmp -s <(printf "UNA:+.? '" && cat "$x") "$work/out" || complain 'a normal form has a byte besides'
+expect 1 '' "hverolda: $wrong: refused 12 67 $sentence" "$hverolda" normalise "$wrong"
+expect 0 same '' "$hverolda" compare "$x" "$respelled"
+expect 0 same '' "$hverolda" compare - "$respelled" <"$x"
+expect 1 different '' "$hverolda" compare "$x" "$cases/11-plain-plus.edi"
+expect 1 "refused 2 12 67 $sentence" '' "$hverolda" compare "$x" "$wrong"
+expect 0 "keep 2 $x" '' "$hverolda" keep "$respelled" "$x"
+expect 1 different '' "$hverolda" keep "$x" "$cases/11-plain-plus.edi"
+expect 0 'at 62 4 A[?]+B' '' "$hverolda" locate 2 2 0 "$x"
+expect 1 absent '' "$hverolda" locate 2 2 1 "$x"
+expect 1 absent '' "$hverolda" locate 18446744073709551615 0 0 "$x"
+expect 1 "refused 12 67 $sentence" '' "$hverolda" locate 2 2 0 "$wrong"
+expect 0 $'0 UNB\n1 UNOA\n2 1\n*1 A+B\n*' '' "$hverolda" read "$x"
+lines 23
+expect 1 '' "hverolda: $wrong: refused input 12 67 $sentence" "$hverolda" respell "$six" "$wrong"
+expect 1 '' "hverolda: $x: refused text 16 16 *" "$hverolda" respell '+*.  ~' "$x"
+for input in $(awk '$2 == "accepted" { print $1 }' "$cases/EXPECTED") ; do
+    "$hverolda" read "$cases/$input.edi" >"$work/values"
+    expect 0 '*' '' "$hverolda" respell "$six" "$cases/$input.edi"
+    cp "$work/out" "$work/text"
+    expect 0 '*' '' "$hverolda" write "$six" "$work/values"
+    cmp -s "$work/text" "$work/out" || complain "$input: write and respell differ"
+done
+expect 1 '' 'hverolda: -: refused text 8 *' "$hverolda" write "$six" <<<$'0 UNB\n1 UNOA\n2 1\n1 \\x41\\x0a'
+expect 1 '' 'hverolda: -: refused text 15 1 *' "$hverolda" write "$six" <<<$'0 UNB\n7 UNOA'
+expect 2 '' 'hverolda: -: line 2 is no kind and value' "$hverolda" write "$six" <<<$'0 UNB\n1UNOA'
+expect 2 '' 'hverolda: -: line 1 is no kind and value' "$hverolda" write "$six" <<<'0 UNB\x4'
+cp "$x" "$work/"$'a\naccepted 5 1 0 93'
+expect 0 "*/a?x0aaccepted 5 1 0 93: $accepted"$'\n'"$x: $accepted" '' "$hverolda" judge "$work/"a* "$x"
+
+# ---- the command: what goes wrong
+
+expect 2 '' 'hverolda: which command?*' "$hverolda"
+expect 2 '' "hverolda: no command is called 'frob'*" "$hverolda" frob
+expect 0 'Usage: hverolda COMMAND*Exit status: *' '' "$hverolda" --help
+expect 0 'hverolda * rules 1' '' "$hverolda" --version
+for name in "${commands[@]}"; do
+    expect 0 "Usage: hverolda $name *Exit status: *" '' "$hverolda" "$name" --help
+    expect 2 '' "hverolda: '--frob' is no option"$'\n'"Try 'hverolda $name --help'." "$hverolda" "$name" --frob
+    operands_of "$name"
+    expect 2 '' "hverolda: $work/none: No such file*" "$hverolda" "$name" "${operands[@]}" "$work/none"
+    expect 2 '' "hverolda: $work: Is a directory*" "$hverolda" "$name" "${operands[@]}" "$work"
+    expect 2 '' 'hverolda: standard output: Bad file descriptor*' closed "$hverolda" "$name" "${operands[@]}" "$x"
+    expect 2 '' 'hverolda: standard output: No space left*' full "$hverolda" "$name" --help
+    expect 2 '' "hverolda: -: Bad file descriptor*" "$hverolda" "$name" "${operands[@]}" - <&-
+done
+for name in judge normalise; do
+    expect 2 '' 'hverolda: standard output: No space left*' full "$hverolda" "$name" "$x"
+done
+expect 2 '' 'hverolda: standard output: No space left*' full "$hverolda" compare "$x" "$x"
+# an argument that was forgotten, with an interchange on standard input that is not to be read
+expect 2 '' "hverolda: SERVICE must be *" "$hverolda" respell "$x" <"$x"
+expect 2 '' "hverolda: SERVICE must be *" "$hverolda" write <"$x"
+expect 2 '' "hverolda: '$x' is no number*" "$hverolda" locate 2 2 "$x" <"$x"
+expect 2 '' "hverolda: three numbers are needed*" "$hverolda" locate "$x" <"$x"
+expect 2 '' "hverolda: two files are compared, not 1*" "$hverolda" compare "$x" <"$x"
+expect 2 '' 'hverolda: standard input can be read only once*' "$hverolda" judge - - <"$x"
+expect 2 "$x: $accepted"$'\n'"$x: $accepted" "hverolda: $work/none: *" "$hverolda" judge "$x" "$work/none" "$x"
+expect 2 "$x: $accepted" '' deaf "$hverolda" judge "$x" "$work/none"
+expect 2 '' 'hverolda: *' "$hverolda" judge -- --help
+
+# ---- both: many files, a gigabyte, a small stack
+
+mapfile -t many < <(printf "$x\n%.0s" {1..3000})
+expect 0 '*' '' "$hverolda" judge "${many[@]}"
+lines 3000
+expect 0 '*' '' "$programs/run_judge" "${many[@]}"
+lines 3000
+expect 1 'refused 1 0 *' '' narrow "$hverolda" judge < <(gigabyte)
+expect 1 '' 'hverolda: -: refused 1 0 *' narrow "$hverolda" read < <(gigabyte)
+expect 2 '' 'hverolda: -: line 1 *' narrow "$hverolda" write "$six" < <(gigabyte)
+expect 1 '' 'hverolda: -: refused text 15 0 *' narrow "$hverolda" write "$six" < <(gigabyte '\n' | sed 's/^/1 A/' 2>/dev/null)
+expect 1 '' 'hverolda: -: refused text 1 0 *' narrow "$hverolda" write "$six" < <(printf '0 ' && gigabyte A)
+expect 0 'refused 1 0' '' narrow "$programs/run_judge" < <(gigabyte)
+expect 0 'refused input 1 0' '' narrow "$programs/run_respell" "$six" < <(gigabyte)
+expect 0 'accepted 5 1 0 *' '' small "$hverolda" judge "$work/wide"
+expect 0 same '' small "$hverolda" compare "$work/wide" "$work/wide"
+expect 0 'UNA*' '' small "$hverolda" respell "$six" "$work/wide"
+expect 0 'accepted 5 1 0 *' '' small "$programs/run_judge" "$work/wide"
+expect 0 'same 1' '' small "$programs/run_compare" "$work/wide" "$work/wide"
+expect 0 $'UNA*\nsame' '' small "$programs/run_respell" "$six" "$work/wide"
+expect 0 'at 31857 1 A' '' small "$programs/run_locate" 2 31800 0 "$work/wide"
+
+# ---- the programs in Rattle: a line for each input, whatever becomes of it, and status 0
+
+trouble="$work/none: No such file or directory"$'\n'"$work: Is a directory"
+expect 0 unreadable$'\n'unreadable$'\n'"$accepted" "$trouble" "$programs/run_judge" "$work/none" "$work" "$x"
+expect 0 unreadable$'\n'unreadable$'\n'"UNA*"$'\n'same "$trouble" "$programs/run_respell" "$six" "$work/none" "$work" "$x"
+expect 0 unreadable$'\n'unreadable$'\n''at 62 4 A[?]+B' "$trouble" "$programs/run_locate" 2 2 0 "$work/none" "$work" "$x"
+expect 0 $'unreadable 2\nunreadable 1\nsame 2' "$trouble" \
+    "$programs/run_compare" "$x" "$work/none" "$work" "$x" "$respelled" "$x"
+expect 0 "$accepted" '' "$programs/run_judge" <"$x"
+expect 0 'at 62 4 A[?]+B' '' "$programs/run_locate" 2 2 0 <"$x"
+expect 0 $'UNA*\nsame' '' "$programs/run_respell" "$six" <"$x"
+expect 0 '' 'usage: run_respell *' "$programs/run_respell" <"$x"
+expect 0 '' 'usage: run_respell *' "$programs/run_respell" "$x" <"$x"
+expect 0 '' 'usage: run_respell *' "$programs/run_respell" 01.edi <"$x"
+expect 0 '' 'usage: run_locate *' "$programs/run_locate" 2 2 "$x" <"$x"
+expect 0 '' 'usage: run_locate *' "$programs/run_locate" 2 2 1234567890 "$x"
+expect 0 '' 'usage: run_compare *' "$programs/run_compare"
+expect 0 '' 'usage: run_compare *' "$programs/run_compare" "$x"
+expect 0 'refused text 16 16' '' "$programs/run_respell" '+*.  ~' "$x"
+for name in judge compare locate respell; do
+    operands_of "$name"
+    expect 0 '' 'standard output: Bad file descriptor' closed "$programs/run_$name" "${operands[@]}" "$x"
+    expect 0 '' 'standard output: No space left on device' full "$programs/run_$name" "${operands[@]}" "$x"
+done
+
+[[ $failures == 0 ]]
