@@ -55,7 +55,7 @@ gigabyte() { head -c 1000000000 /dev/zero 2>/dev/null | tr '\0' "${1-\0}" 2>/dev
 accepted='accepted 5 1 0 93'
 sentence="the trailer's count is wrong"
 commands=(judge normalise compare keep locate read write respell)
-# nine in ten of its 31,900 bytes end an empty value: as many values as an interchange can have
+# nearly all of its 31,900 bytes end an empty value: as many values as an interchange can have
 {
     printf "UNB+UNOA:1+AA+BB+260105:0930+R1'UNH+1+ORDERS:1:901:UN'BGM"
     printf '+%.0s' {1..31800}
@@ -89,7 +89,9 @@ expect 0 $'0 UNB\n1 UNOA\n2 1\n*1 A+B\n*' '' "$hverolda" read "$x"
 lines 23
 expect 1 '' "hverolda: $wrong: refused input 12 67 $sentence" "$hverolda" respell "$six" "$wrong"
 expect 1 '' "hverolda: $x: refused text 16 16 *" "$hverolda" respell '+*.  ~' "$x"
-for input in $(awk '$2 == "accepted" { print $1 }' "$cases/EXPECTED") ; do
+mapfile -t good < <(awk '$2 == "accepted" { print $1 }' "$cases/EXPECTED")
+[[ ${#good[@]} -gt 10 ]] || complain "only ${#good[@]} accepted cases"
+for input in "${good[@]}"; do
     "$hverolda" read "$cases/$input.edi" >"$work/values"
     expect 0 '*' '' "$hverolda" respell "$six" "$cases/$input.edi"
     cp "$work/out" "$work/text"
@@ -101,7 +103,9 @@ expect 1 '' 'hverolda: -: refused text 15 1 *' "$hverolda" write "$six" <<<$'0 U
 expect 2 '' 'hverolda: -: line 2 is no kind and value' "$hverolda" write "$six" <<<$'0 UNB\n1UNOA'
 expect 2 '' 'hverolda: -: line 1 is no kind and value' "$hverolda" write "$six" <<<'0 UNB\x4'
 cp "$x" "$work/"$'a\naccepted 5 1 0 93'
-expect 0 "*/a?x0aaccepted 5 1 0 93: $accepted"$'\n'"$x: $accepted" '' "$hverolda" judge "$work/"a* "$x"
+expect 0 "*/a?x0aaccepted?x205?x201?x200?x2093: $accepted"$'\n'"$x: $accepted" '' "$hverolda" judge "$work/"a* "$x"
+cp "$wrong" "$work/good.edi: accepted"
+expect 1 "*/good.edi?x3a?x20accepted: refused 12 *"$'\n'"$x: $accepted" '' "$hverolda" judge "$work/good"* "$x"
 
 # ---- the command: what goes wrong
 
@@ -129,10 +133,13 @@ expect 2 '' "hverolda: SERVICE must be *" "$hverolda" write <"$x"
 expect 2 '' "hverolda: '$x' is no number*" "$hverolda" locate 2 2 "$x" <"$x"
 expect 2 '' "hverolda: three numbers are needed*" "$hverolda" locate "$x" <"$x"
 expect 2 '' "hverolda: two files are compared, not 1*" "$hverolda" compare "$x" <"$x"
-expect 2 '' 'hverolda: standard input can be read only once*' "$hverolda" judge - - <"$x"
+expect 2 '' 'hverolda: standard input, or a pipe, can be read only once*' "$hverolda" judge - - <"$x"
+expect 2 '' 'hverolda: standard input, or a pipe, can be read only once*' "$hverolda" judge - /dev/stdin < <(cat "$x")
+expect 2 '' 'hverolda: both names are of one file*' "$hverolda" keep "$x" "./$x"
 expect 2 "$x: $accepted"$'\n'"$x: $accepted" "hverolda: $work/none: *" "$hverolda" judge "$x" "$work/none" "$x"
 expect 2 "$x: $accepted" '' deaf "$hverolda" judge "$x" "$work/none"
-expect 2 '' 'hverolda: *' "$hverolda" judge -- --help
+expect 2 '' 'hverolda: --help: No such file*' "$hverolda" judge -- --help
+expect 2 '' "hverolda: '--help' is no option*" "$hverolda" judge "$x" --help
 
 # ---- both: many files, a gigabyte, a small stack
 
@@ -143,9 +150,9 @@ expect 0 '*' '' "$programs/run_judge" "${many[@]}"
 lines 3000
 expect 1 'refused 1 0 *' '' narrow "$hverolda" judge < <(gigabyte)
 expect 1 '' 'hverolda: -: refused 1 0 *' narrow "$hverolda" read < <(gigabyte)
-expect 2 '' 'hverolda: -: line 1 *' narrow "$hverolda" write "$six" < <(gigabyte)
-expect 1 '' 'hverolda: -: refused text 15 0 *' narrow "$hverolda" write "$six" < <(gigabyte '\n' | sed 's/^/1 A/' 2>/dev/null)
-expect 1 '' 'hverolda: -: refused text 1 0 *' narrow "$hverolda" write "$six" < <(printf '0 ' && gigabyte A)
+expect 2 '' 'hverolda: -: more lines than *' narrow "$hverolda" write "$six" < <(gigabyte)
+expect 2 '' 'hverolda: -: more lines than *' narrow "$hverolda" write "$six" < <(gigabyte '\n' | sed 's/^/0 A/' 2>/dev/null)
+expect 2 '' 'hverolda: -: more lines than *' narrow "$hverolda" write "$six" < <(printf '0 ' && gigabyte A)
 expect 0 'refused 1 0' '' narrow "$programs/run_judge" < <(gigabyte)
 expect 0 'refused input 1 0' '' narrow "$programs/run_respell" "$six" < <(gigabyte)
 expect 0 'accepted 5 1 0 *' '' small "$hverolda" judge "$work/wide"

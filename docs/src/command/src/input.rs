@@ -1,8 +1,9 @@
 //! What is read: files by name, or standard input.
 
 use std::ffi::{OsStr, OsString};
-use std::fs::File;
+use std::fs::{self, File};
 use std::io::{self, Read};
+use std::os::unix::fs::{FileTypeExt, MetadataExt};
 
 use crate::output::{complain, own, shown, Output, Said};
 use crate::{usage, Status, Trouble};
@@ -53,13 +54,29 @@ pub fn two(operands: &[OsString]) -> Result<Option<(Input, Input)>, Trouble> {
     }
 }
 
-/// Standard input is there once: a second reading would find it empty, and that
-/// would look like an answer.
+/// Standard input is there once, and so is a pipe under whatever names: a second
+/// reading would find it empty, and that would look like an answer.
 fn once(names: &[OsString]) -> Result<(), Trouble> {
-    match names.iter().filter(|name| *name == "-").count() {
-        0 | 1 => Ok(()),
-        _ => usage("standard input can be read only once"),
+    let standard = OsStr::new("/dev/stdin");
+    let mut pipes = Vec::new();
+    for name in names {
+        let path = if name == "-" { standard } else { name.as_os_str() };
+        let pipe = fs::metadata(path).ok().filter(|file| file.file_type().is_fifo());
+        pipes.extend(pipe.map(|file| (file.dev(), file.ino())));
     }
+    let before = pipes.len();
+    pipes.sort_unstable();
+    pipes.dedup();
+    if names.iter().filter(|name| *name == "-").count() > 1 || pipes.len() < before {
+        return usage("standard input, or a pipe, can be read only once");
+    }
+    Ok(())
+}
+
+/// Both names are of one file.
+pub fn is_one(first: &OsStr, second: &OsStr) -> bool {
+    let identity = |name| fs::metadata(name).ok().map(|file| (file.dev(), file.ino()));
+    identity(first).is_some() && identity(first) == identity(second)
 }
 
 /// So many bytes of an input, or all where it has fewer. Why it cannot be read

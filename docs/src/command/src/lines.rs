@@ -6,9 +6,9 @@ use std::fmt::Write;
 
 use hverolda::LONGEST;
 
-/// So many bytes of lines are read. Lines that fill them are refused by Write
-/// whatever follows: a line has three bytes and at most four for each byte of
-/// its value, so there are more than 32,000 values or more than 32,000 bytes.
+/// So many bytes of lines are read. Lines that fill them are no interchange's: a
+/// line has three bytes and at most four for each byte of its value, so there are
+/// more than 32,000 values or more than 32,000 bytes.
 pub const ROOM: usize = 8 * LONGEST;
 
 pub fn escaped(value: &[u8]) -> String {
@@ -46,10 +46,6 @@ fn unescaped(text: &[u8]) -> Option<Vec<u8>> {
 /// The list that lines tell, its bytes and its table, or the number of the first
 /// line that is none.
 pub fn parsed(text: &[u8]) -> Result<(Vec<u8>, Vec<u32>), usize> {
-    // an escape that the end of the room cuts off is left out
-    let tail = if text.len() < ROOM { ROOM } else { ROOM - 3 };
-    let cut = text.iter().skip(tail).position(|&byte| byte == b'\\');
-    let text = &text[..cut.map_or(text.len(), |place| tail + place)];
     let (mut bytes, mut table) = (Vec::new(), Vec::new());
     for (number, line) in text.split_inclusive(|&byte| byte == b'\n').enumerate() {
         let (kind, value) = record(line.strip_suffix(b"\n").unwrap_or(line)).ok_or(number + 1)?;

@@ -70,13 +70,15 @@ Judges, reads, writes and compares EDIFACT interchanges by the rules of ISO 9735
 const STATUSES: &str = "
 Exit status: 0 accepted, same or present; 1 refused, different or absent; 2 trouble, as a
 file that cannot be read or standard output that cannot be written. Trouble is said on
-standard error and never on standard output, so that it never looks like an answer.
+standard error and never on standard output, so that it never looks like an answer. A
+pipe that nobody reads ends the command by its signal.
 ";
 
 const FILES: &str = "
 FILE is - for standard input, which is also read where no FILE is named. -- ends the
-options, for an operand that begins with -. Where several files are named, each line
-begins with the file's name and a colon.
+options, for an operand that begins with -: a script puts it before names that it does
+not choose. Where several files are named, each line begins with the file's name and a
+colon; what could look like another field in a name is \\x and two hexadecimal digits.
 ";
 
 /// Rust's own start is left out: it opens /dev/null for a standard stream that
@@ -91,7 +93,8 @@ pub extern "C" fn main(_count: i32, _words: *const *const u8) -> i32 {
     let answer = Output::open().and_then(|mut output| match command {
         Some(command) => run(command, &mut output, &words[1..]),
         None => run_none(&mut output, &words),
-    });
+    }
+    .and_then(|status| output.close().map(|()| status)));
     match answer {
         Ok(status) => return status as i32,
         Err(Trouble::Output(error)) => complain(&format!("standard output: {error}")),
@@ -103,7 +106,8 @@ pub extern "C" fn main(_count: i32, _words: *const *const u8) -> i32 {
     Status::Trouble as i32
 }
 
-/// Parts the operands from the options, of which there is one, `--help`.
+/// Parts the operands from the options, of which there is one, `--help`, which
+/// stands alone: a file of that name beside others is not answered by a help.
 fn run(command: &Command, output: &mut Output, words: &[OsString]) -> Result<Status, Trouble> {
     let ended = words.iter().position(|word| word == "--").unwrap_or(words.len());
     let is_option = |word: &&OsString| word.to_string_lossy().starts_with('-') && *word != "-";
@@ -113,9 +117,11 @@ fn run(command: &Command, output: &mut Output, words: &[OsString]) -> Result<Sta
             let operands: Vec<OsString> = words[..ended].iter().chain(after).cloned().collect();
             (command.run)(output, &operands)
         }
-        Some(option) if option == "--help" => {
+        Some(option) if option == "--help" && words.len() == 1 => {
             let Command { name, operands, help, .. } = command;
-            output.write(format!("Usage: hverolda {name} {operands}\n{help}{STATUSES}").as_bytes())
+            let files = if operands.contains("FILE") { FILES } else { "" };
+            let text = format!("Usage: hverolda {name} {operands}\n{help}{files}{STATUSES}");
+            output.write(text.as_bytes())
         }
         Some(option) => usage(&format!("'{}' is no option", shown(option))),
     }

@@ -4,12 +4,11 @@ use std::ffi::OsStr;
 use std::fs::File;
 use std::io::{self, Write};
 use std::os::unix::ffi::OsStrExt;
-use std::os::unix::io::{AsFd, AsRawFd};
+use std::os::unix::io::{AsFd, AsRawFd, IntoRawFd};
 
 use hverolda::Refusal;
 
 use crate::input::Input;
-use crate::lines::escaped;
 use crate::{Status, Trouble};
 
 /// What is said of an input.
@@ -42,6 +41,16 @@ impl Output {
     pub fn write(&mut self, bytes: &[u8]) -> Result<Status, Trouble> {
         self.0.write_all(bytes).map_err(Trouble::Output)?;
         Ok(Status::Yes)
+    }
+
+    /// Closes it: some file systems say only then that what was written is lost.
+    #[allow(unsafe_code)]
+    pub fn close(self) -> Result<(), Trouble> {
+        // SAFETY: the descriptor is our own, and nothing uses it afterwards.
+        match unsafe { close(self.0.into_raw_fd()) } {
+            0 => Ok(()),
+            _ => Err(Trouble::Output(io::Error::last_os_error())),
+        }
     }
 
     /// Says it of an input; a line begins with the input's label.
@@ -94,17 +103,25 @@ fn excerpt(descriptor: i32, bytes: &[u8], refusal: &Refusal) -> String {
     format!("    {line}\n    {:>1$}\n", '^', place - start + 1)
 }
 
-/// Where standard error cannot be written either, the status is all that is left.
+/// Where standard error cannot be written either, the status is all that is left;
+/// one whose reader is gone ends the command.
 pub fn complain(message: &str) {
     let _ = io::stderr().write_all(format!("hverolda: {message}\n").as_bytes());
 }
 
-/// A name as it is said: escaped as values are where it holds a control
-/// character or a backslash or is no UTF-8, so that it cannot look like a line.
+/// A name as it is said: letters and digits of any script stand for themselves, and
+/// so does what ASCII prints but for the space, the colon and the backslash. All
+/// else is `\x` and two digits a byte, so that a name looks like no field or line.
 pub fn shown(name: &OsStr) -> String {
+    let stands = |c: char| c.is_alphanumeric() || (c.is_ascii_graphic() && !"\\:".contains(c));
+    let hexadecimal = |bytes: &[u8]| bytes.iter().map(|byte| format!("\\x{byte:02x}")).collect();
+    let one = |c: char| match stands(c) {
+        true => c.to_string(),
+        false => hexadecimal(c.to_string().as_bytes()),
+    };
     match name.to_str() {
-        Some(text) if !text.contains(|c: char| c.is_control() || c == '\\') => text.to_string(),
-        _ => escaped(name.as_bytes()),
+        Some(text) => text.chars().map(one).collect(),
+        None => hexadecimal(name.as_bytes()),
     }
 }
 
@@ -121,6 +138,7 @@ pub fn own(stream: &impl AsFd) -> io::Result<File> {
 }
 
 extern "C" {
+    fn close(descriptor: i32) -> i32;
     fn isatty(descriptor: i32) -> i32;
 }
 

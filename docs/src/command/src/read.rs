@@ -14,7 +14,7 @@ Prints the values of interchanges, one a line.
 Prints KIND VALUE for each value: KIND is 0 for a new segment (VALUE is its tag), 1 for a
 new element, 2 for the next component. VALUE is without release characters; in it a byte
 that is not printable ASCII, and the backslash, is \\x and two hexadecimal digits. write
-takes these lines. Of a FILE that is refused, standard error says so: refused NUMBER PLACE
+takes the lines of one FILE. Of a FILE that is refused, standard error says so: refused NUMBER PLACE
 and why.
 ",
     run,

@@ -18,8 +18,9 @@ SERVICE is six bytes as an advice has them: component separator, element separat
 decimal mark, release character or a space, a space, segment terminator: ';*.! ~'.
 FILE has the lines that read prints. The texts stand one directly after the other, with
 no byte besides. Of a text that is refused, standard error says so: refused text NUMBER
-PLACE and why, where the places of 15 and 16 count lines from 0. A line that is not as
-read prints it is trouble.
+PLACE and why, where the places of 15 and 16 count lines from 0. A line is a digit, a
+space and a value in which \\x and two hexadecimal digits stand for a byte; any other line
+is trouble, and so are more lines than an interchange can have.
 ",
     run,
 };
@@ -27,6 +28,9 @@ read prints it is trouble.
 fn run(output: &mut Output, operands: &[OsString]) -> Result<Status, Trouble> {
     let (service, files) = service(operands)?;
     each(output, files, ROOM, |input| match parsed(&input.bytes) {
+        _ if input.bytes.len() == ROOM => {
+            Said::Trouble("more lines than an interchange can have".to_string())
+        }
         Ok((bytes, table)) => match text(service, &bytes, &table) {
             Ok(text) => Said::Text(text),
             Err(refusal) => Said::BadText(refusal),

@@ -92,8 +92,8 @@ pub fn compare(first: &[u8], second: &[u8]) -> Result<Comparison, ComparisonRefu
         return Err(ComparisonRefused { input: Which::told(comparison.input), refusal });
     }
     Ok(match comparison.same {
-        0 => Comparison::Different,
-        _ => Comparison::Same,
+        1 => Comparison::Same,
+        _ => Comparison::Different,
     })
 }
 
