@@ -107,6 +107,13 @@ expect 0 "*/a?x0aaccepted?x205?x201?x200?x2093: $accepted"$'\n'"$x: $accepted" '
 cp "$wrong" "$work/good.edi: accepted"
 expect 1 "*/good.edi?x3a?x20accepted: refused 12 *"$'\n'"$x: $accepted" '' "$hverolda" judge "$work/good"* "$x"
 
+# on a terminal, the bytes around the place and a mark under the one that is meant: UNT's first
+on_terminal() { script -qec "$*" /dev/null | tr -d '\r'; }
+expect 1 "refused 12 67 $sentence"$'\n'"    *UNT*"$'\n'"    *^" '' on_terminal "$hverolda" judge "$wrong"
+mapfile -t shown <"$work/out"
+mark=${shown[2]%^}
+[[ ${shown[1]:${#mark}:3} == UNT ]] || complain "the mark stands under '${shown[1]:${#mark}:3}'"
+
 # ---- the command: what goes wrong
 
 expect 2 '' 'hverolda: which command?*' "$hverolda"
