@@ -15,6 +15,7 @@ use Rattle.lists.proofs.Tests.{Says, says-eq, says-le, says-both, says-either, 
 use Rattle.characters.specs.declared.Characters.{Characters}
 use Rattle.characters.specs.declared.Role.the-variants.{Separator, Release, Plain}
 use Rattle.characters.specs.Characters.{between, upper, lower, digit, separates, hasRelease, serviceCharacters, isService, usable, sixBytes, spelledOut, advised, adviceOf, plusCharacters, controlCharacters, charactersOf, bodyStart, body, badAdvice, opens, role}
+pub use Rattle.characters.specs.Notions.{SeparatorByte, Usable}
 
 -- ---- bytes
 
@@ -43,12 +44,6 @@ one-of b n rest p = says-either (eqb b n) rest (says-eq b n) p
 
 one : (b n : ℕ) → Says (eqb b n || false) (b ≡ n)
 one b n = says-as (says-either (eqb b n) false (says-eq b n) (λ h. absurd (false≢true h), λ (h : ⊥). absurd h)) (⊎-elim (λ e. e) (λ h. absurd h)) inl
-
--- "a byte 33 to 126 that is no letter or digit, or one of 28, 29, 31"
-abbrev pub SeparatorByte : ℕ → Type 0
-SeparatorByte b =
-    ((33 ≤ b) × (b ≤ 126) × ((65 ≤ b) × (b ≤ 90) → ⊥) × ((97 ≤ b) × (b ≤ 122) → ⊥) × ((48 ≤ b) × (b ≤ 57) → ⊥))
-    ⊎ ((b ≡ 28) ⊎ (b ≡ 29) ⊎ (b ≡ 31))
 
 pub separates-says : (b : ℕ) → Says (separates b) (SeparatorByte b)
 unfolding separates member
@@ -102,20 +97,6 @@ service-says c b =
     one-of b (c .component) (member b (c .element ∷ c .terminator ∷ last))
     (one-of b (c .element) (member b (c .terminator ∷ last))
     (one-of b (c .terminator) (member b last) (in-optional (c .release) b none (says-eq (c .release) 32))))
-
--- "They are usable when"
-abbrev pub Usable : Characters → Type 0
-Usable c =
-    (c .reserved ≡ 32)
-    × ((c .mark ≡ 46) ⊎ (c .mark ≡ 44))
-    × SeparatorByte (c .component)
-    × SeparatorByte (c .element)
-    × SeparatorByte (c .terminator)
-    × ((c .release ≡ 32) ⊎ SeparatorByte (c .release))
-    × ((c .mark ≡ c .component) ⊎ (c .mark ≡ c .element) ⊎ (c .mark ≡ c .terminator) ⊎ (c .mark ≡ c .release) → ⊥)
-    × ((c .component ≡ c .element) ⊎ (c .component ≡ c .terminator) ⊎ (c .component ≡ c .release) → ⊥)
-    × ((c .element ≡ c .terminator) ⊎ (c .element ≡ c .release) → ⊥)
-    × (c .terminator ≡ c .release → ⊥)
 
 not-space : {b : ℕ} → SeparatorByte b → b ≡ 32 → ⊥
 not-space (inl h) e = omega arith

@@ -1,6 +1,6 @@
 -- What the definitions say in numbers: where a count and a reference stand in each service segment, what each must be, and what a trailer
 -- must say of what it closes. What passed is a list of segments, the nearest first. Assumes nothing.
-use Prim.Native.Nat.{ℕ, _+_, _*_, _-_, _≤_}
+use Prim.Native.Nat.{ℕ, _+_, _*_, _-_}
 use mathlib.Core.Path.{_≡_, refl, sym, ap, _∙_}
 use mathlib.Core.Bool.{true, false, _&&_}
 use mathlib.Core.List.{List, [], _∷_, _++_, map, map-append, List·Memᴰ, List·Memᴰ·head, List·Memᴰ·tail}
@@ -24,6 +24,7 @@ use Rattle.segments.specs.Order.{segmentsSinceHeader, messagesSinceGroup, messa
 use Rattle.segments.proofs.Words.{is-says, since-header, since-group}
 use Rattle.control_elements.specs.Positions.{positionTable, positionsOf}
 use Rattle.control_elements.specs.Control.{single, controlElement, isReference, isCount, standsWell, controlRule, headerOf, referenceOf, sameValue, referenceDiffers, decimalFrom, decimal, trueCount, countOf, countWrong}
+pub use Rattle.control_elements.specs.Notions.{Reference, Count, Nearest}
 
 -- ---- one element
 
@@ -40,27 +41,14 @@ element-is g position value = (step (at (contentsOf g) position), λ e. ap (mayb
     step (some (v ∷ w ∷ vs)) e = absurd (Option·none-ne-some value e)
 
 module _ (g : Segment) (position : ℕ) where
-  -- "A reference is one component of 1 to 14 bytes"
-  abbrev pub Reference : Type 0
-  Reference = (value : List ℕ) × (at (contentsOf g) position ≡ some (value ∷ [])) × (1 ≤ length value) × (length value ≤ 14)
-
-  pub reference-says : Says (isReference (controlElement g position)) Reference
+  pub reference-says : Says (isReference (controlElement g position)) (Reference (contentsOf g) position)
   unfolding isReference
   reference-says =
       says-as (says-maybe (λ value. between 1 14 (length value)) (λ value. between-says 1 14 (length value)) (controlElement g position))
       (λ h. (h .0, element-is g position (h .0) .0 (h .1), h .2 .0, h .2 .1))
       (λ h. (h .0, element-is g position (h .0) .1 (h .1), (h .2, h .3)))
 
-  -- "a count is one component of 1 to 6 digits"
-  abbrev pub Count : Type 0
-  Count =
-      (value : List ℕ)
-      × (at (contentsOf g) position ≡ some (value ∷ []))
-      × (1 ≤ length value)
-      × (length value ≤ 6)
-      × ((d : ℕ) → List·Memᴰ d value → (48 ≤ d) × (d ≤ 57))
-
-  pub count-says : Says (isCount (controlElement g position)) Count
+  pub count-says : Says (isCount (controlElement g position)) (Count (contentsOf g) position)
   unfolding isCount
   count-says =
       says-as
@@ -73,30 +61,30 @@ module _ (g : Segment) (position : ℕ) where
 -- ---- refusal 10, by kind of segment
 
 module _ (g : Segment) where
-  pub unb-control : kindOf g ≡ Unb → Says (controlRule g) (Reference g 5)
+  pub unb-control : kindOf g ≡ Unb → Says (controlRule g) (Reference (contentsOf g) 5)
   unfolding controlRule standsWell positionsOf positionTable
   unb-control e = rw e (reference-says g 5)
 
-  pub ung-control : kindOf g ≡ Ung → Says (controlRule g) (Reference g 5)
+  pub ung-control : kindOf g ≡ Ung → Says (controlRule g) (Reference (contentsOf g) 5)
   unfolding controlRule standsWell positionsOf positionTable
   ung-control e = rw e (reference-says g 5)
 
-  pub unh-control : kindOf g ≡ Unh → Says (controlRule g) (Reference g 1)
+  pub unh-control : kindOf g ≡ Unh → Says (controlRule g) (Reference (contentsOf g) 1)
   unfolding controlRule standsWell positionsOf positionTable
   unh-control e = rw e (reference-says g 1)
 
-  trailer-test : Says (isCount (controlElement g 1) && isReference (controlElement g 2)) (Count g 1 × Reference g 2)
+  trailer-test : Says (isCount (controlElement g 1) && isReference (controlElement g 2)) (Count (contentsOf g) 1 × Reference (contentsOf g) 2)
   trailer-test = says-both (isCount (controlElement g 1)) (isReference (controlElement g 2)) (count-says g 1) (reference-says g 2)
 
-  pub unt-control : kindOf g ≡ Unt → Says (controlRule g) (Count g 1 × Reference g 2)
+  pub unt-control : kindOf g ≡ Unt → Says (controlRule g) (Count (contentsOf g) 1 × Reference (contentsOf g) 2)
   unfolding controlRule standsWell positionsOf positionTable
   unt-control e = rw e trailer-test
 
-  pub une-control : kindOf g ≡ Une → Says (controlRule g) (Count g 1 × Reference g 2)
+  pub une-control : kindOf g ≡ Une → Says (controlRule g) (Count (contentsOf g) 1 × Reference (contentsOf g) 2)
   unfolding controlRule standsWell positionsOf positionTable
   une-control e = rw e trailer-test
 
-  pub unz-control : kindOf g ≡ Unz → Says (controlRule g) (Count g 1 × Reference g 2)
+  pub unz-control : kindOf g ≡ Unz → Says (controlRule g) (Count (contentsOf g) 1 × Reference (contentsOf g) 2)
   unfolding controlRule standsWell positionsOf positionTable
   unz-control e = rw e trailer-test
 
@@ -107,16 +95,6 @@ module _ (g : Segment) where
   no-control (inr e) = rw e
 
 -- ---- refusals 11 and 12: a trailer, and what passed before it
-
--- the nearest header of the kind, with what passed since
-abbrev pub Nearest : Kind → List Segment → Type 0
-Nearest kind past =
-    (nearer : List Segment)
-    × (header : Segment)
-    × (farther : List Segment)
-    × (past ≡ nearer ++ header ∷ farther)
-    × (kindOf header ≡ kind)
-    × ((g : Segment) → List·Memᴰ g nearer → kindOf g ≡ kind → ⊥)
 
 nearest-first : (kind : Kind) (past : List Segment) (n : Nearest kind past) → first (λ g. is kind (kindOf g)) past ≡ some (n .1)
 nearest-first kind past (nearer, header, farther, parts, own, before) =

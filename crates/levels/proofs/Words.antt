@@ -14,12 +14,9 @@ use Rattle.characters.proofs.Words.{between-says, upper-says, lower-says, digit
 use Rattle.values.specs.Tokens.{Segment}
 use Rattle.values.specs.Trimming.{valueAt, contentsOf}
 use Rattle.levels.specs.Levels.{inLevelA, inLevelB, classOf, levelNamed, inLevel, isOurVersion, levelOf}
+pub use Rattle.levels.specs.Notions.{LevelA, LevelB, Names}
 
 -- ---- bytes
-
--- "Level A: `A`-`Z`, `0`-`9`, space and `. , - ( ) / = ' + : ? ! " % & * ; < >`."
-abbrev pub LevelA : ℕ → Type 0
-LevelA b = ((32 ≤ b) × (b ≤ 34)) ⊎ ((37 ≤ b) × (b ≤ 63)) ⊎ ((65 ≤ b) × (b ≤ 90))
 
 -- the same as a test
 abbrev ranges : ℕ → Bool
@@ -46,10 +43,6 @@ level-a-says b = (
     signs : List ℕ
     signs = text " .,-()/='+:?!\"%&*;<>"
 
--- "Level B adds `a`-`z`."
-abbrev pub LevelB : ℕ → Type 0
-LevelB b = LevelA b ⊎ ((97 ≤ b) × (b ≤ 122))
-
 pub level-b-says : (b : ℕ) → Says (inLevelB b) (LevelB b)
 unfolding inLevelB
 level-b-says b = says-either (inLevelA b) (lower b) (level-a-says b) (lower-says b)
@@ -67,14 +60,6 @@ in-level-says b = step (inLevelA b) (level-a-says b) (lower b) (lower-says b)
     step false a false h = (a, says-either false false a h)
 
 -- ---- the level that UNB names
-
--- "The first component of UNB's element 1 is `UNOA` or `UNOB`, its second is `1` or `2`": of the contents, and of the name's last letter
-abbrev pub Names : List (List (List ℕ)) → ℕ → Type 0
-Names contents letter =
-    (element : List (List ℕ))
-    × (at contents 1 ≡ some element)
-    × (at element 0 ≡ some (85 ∷ 78 ∷ 79 ∷ letter ∷ []))
-    × ((at element 1 ≡ some (49 ∷ [])) ⊎ (at element 1 ≡ some (50 ∷ [])))
 
 -- 2 is the number of the one name, 1 that of the other, and no other name has a number
 named-says : (name : List ℕ) (l : ℕ) → levelNamed name ≡ some l

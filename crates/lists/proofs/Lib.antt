@@ -3,3 +3,4 @@ pub mod Tests
 pub mod Numbers
 pub mod Pieces
 pub mod Ends
+pub mod Cases

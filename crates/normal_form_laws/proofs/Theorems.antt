@@ -1,36 +1,25 @@
 -- The theorems of this crate. Assumes nothing.
 use Prim.Native.Nat.{ℕ, _+_, _*_, _≤_}
-use mathlib.Core.Path.{_≡_, refl, sym, ap, ap₂, _∙_}
-use mathlib.Core.Bool.{true, false, _&&_, false≢true}
+use mathlib.Core.Path.{_≡_, sym, ap, ap₂, _∙_}
+use mathlib.Core.Bool.{true}
 use mathlib.Core.List.{List}
-use mathlib.Core.Option.{Option, none, some, Option·some-ne-none}
+use mathlib.Core.Option.{none}
 use mathlib.Core.Logic.{_↔_}
 use native.Mathlib.Omega.{arith}
 use lib.ListN.{length, length-drop}
-use Rattle.lists.specs.Lists.{same, maybe}
-use Rattle.lists.proofs.Texts.{and-left, and-right, same-eq, same-refl}
-use Rattle.refusals.specs.declared.Refusal.{Refusal}
 use Rattle.characters.specs.declared.Characters.{Characters}
 use Rattle.characters.specs.Characters.{sixBytes, spelledOut, adviceOf, charactersOf, bodyStart, body}
 use Rattle.values.specs.Spelling.{SegmentList}
 use Rattle.stages.specs.Contents.{bodyTokens, segmentsOf, contents, normalCharacters, interchange, normalForm}
 use Rattle.stages.specs.Stages.{refusalOf}
-use Rattle.operations.specs.Compare.{isAccepted, areSame}
+use Rattle.operations.specs.Compare.{areSame}
+use Rattle.operations.proofs.Cases.{same-says}
 use Rattle.spelling_laws.specs.Bodies.{Sound, Passes}
 use Rattle.emission_laws.proofs.Theorems.{contents-bound}
 use Rattle.normal_form_laws.specs.Forms.{markOf, formCharacters, Normalised, NormalForms, endToEnd, cutForms}
 use Rattle.normal_form_laws.proofs.Normal.{accepted-passes, normal-contents, normal-characters, normal-mark, normal-again}
 use Rattle.normal_form_laws.proofs.Accepting.{normal-accepted}
 use Rattle.normal_form_laws.proofs.EndToEnd.{cut-enough, file-length}
-
--- the test of being accepted
-accepted-test : (s : List ℕ) → (isAccepted s ≡ true) ↔ (refusalOf s ≡ none)
-unfolding isAccepted maybe
-accepted-test s = step (refusalOf s)
-  where
-    step : (o : Option Refusal) → (maybe true (λ r. false) o ≡ true) ↔ (o ≡ none)
-    step none = (λ e. refl, λ e. refl)
-    step (some r) = (λ e. absurd (false≢true e), λ e. absurd (Option·some-ne-none r e))
 
 -- "For n input bytes it has at most 2n + 9."
 pub normal-length : (s : List ℕ) → refusalOf s ≡ none → length (normalForm s) ≤ 2 * length s + 9
@@ -75,19 +64,12 @@ same-normal a b h k = (
 pub same-exactly : (a b : List ℕ)
     → (areSame a b ≡ true)
     ↔ ((refusalOf a ≡ none) × (refusalOf b ≡ none) × (contents a ≡ contents b) × (markOf a ≡ markOf b))
-unfolding areSame
 same-exactly a b = (
   λ e.
-      let equalForms = same (normalForm a) (normalForm b) in
-      let both = and-left (isAccepted a && isAccepted b) equalForms e in
-      let first = accepted-test a .0 (and-left (isAccepted a) (isAccepted b) both) in
-      let second = accepted-test b .0 (and-right (isAccepted a) (isAccepted b) both) in
-      let form = same-eq (normalForm a) (normalForm b) (and-right (isAccepted a && isAccepted b) equalForms e) in
+      let (first, second, form) = same-says a b .0 e in
       let equal = same-normal a b first second .0 form in
       (first, second, equal .0, equal .1),
-  λ k.
-      let form : normalForm a ≡ normalForm b = same-normal a b (k .0) (k .1) .1 (k .2, k .3) in
-      rw (accepted-test a .1 (k .0), accepted-test b .1 (k .1), form) (same-refl (normalForm b)),
+  λ k. same-says a b .1 (k .0, k .1, same-normal a b (k .0) (k .1) .1 (k .2, k .3)),
 )
 
 -- Normal forms end to end are found again by cutting.

@@ -91,26 +91,25 @@ front-stored buffer text h =
 
 module _ (buffer s : List ℕ) where
   -- what is answered and what the buffer holds, by what is refused
-  normalise-by : (o : Option Refusal) → normaliseRefusal buffer s ≡ o
-      → (normalise buffer s ≡ maybe (given (length (normalForm s) ∷ [])) refused o)
-      × (normaliseBuffer buffer s ≡ unlessRefused o (storedIn buffer (normalForm s)) buffer)
-  unfolding normalise normaliseBuffer
-  normalise-by o e = (
-    ap (maybe (given (length (normalForm s) ∷ [])) refused) e,
-    ap (λ (p : Option Refusal). unlessRefused p (storedIn buffer (normalForm s)) buffer) e,
-  )
-
   pub normalise-refused : {r : Refusal} → normaliseRefusal buffer s ≡ some r
       → (normalise buffer s ≡ refused r) × (normaliseBuffer buffer s ≡ buffer)
-  unfolding maybe unlessRefused
-  normalise-refused {r} e = normalise-by (some r) e
+  unfolding normalise normaliseBuffer maybe unlessRefused
+  normalise-refused e = (rw e, rw e)
+
+  pub normalise-given : normaliseRefusal buffer s ≡ none
+      → (normalise buffer s ≡ given (length (normalForm s) ∷ []))
+      × (normaliseBuffer buffer s ≡ normalForm s ++ drop (length (normalForm s)) buffer)
+  unfolding normalise normaliseBuffer maybe unlessRefused storedIn
+  normalise-given e = (rw e, rw e)
+
+  normalise-passes : refusalOf s ≡ none → length (normalForm s) ≤ length buffer → normaliseRefusal buffer s ≡ none
+  unfolding normaliseRefusal answering
+  normalise-passes h fits = last-answers s (shortFor (normalForm s) buffer ∷ []) h ∙ room-answers (normalForm s) buffer [] fits
 
   pub normalises : refusalOf s ≡ none → length (normalForm s) ≤ length buffer
       → (normalise buffer s ≡ given (length (normalForm s) ∷ []))
       × (normaliseBuffer buffer s ≡ normalForm s ++ drop (length (normalForm s)) buffer)
-  unfolding maybe unlessRefused storedIn normaliseRefusal answering
-  normalises h fits =
-      normalise-by none (last-answers s (shortFor (normalForm s) buffer ∷ []) h ∙ room-answers (normalForm s) buffer [] fits)
+  normalises h fits = normalise-given (normalise-passes h fits)
 
   pub form-short : refusalOf s ≡ none → length buffer < length (normalForm s)
       → normaliseRefusal buffer s ≡ some (record { fault = BufferShort; place = length (normalForm s) })
@@ -124,28 +123,17 @@ module _ (buffer table s : List ℕ) where
   last = shortFor (valueBytes s) buffer ∷ shortFor (valueTable s) table ∷ []
 
   -- what is answered and what both buffers hold, by what is refused
-  read-by : (o : Option Refusal) → readRefusal buffer table s ≡ o
-      → (read buffer table s ≡ maybe (given (length (valueBytes s) ∷ length (valueTable s) ∷ [])) refused o)
-      × (readBytes buffer table s ≡ unlessRefused o (storedIn buffer (valueBytes s)) buffer)
-      × (readTable buffer table s ≡ unlessRefused o (storedIn table (valueTable s)) table)
-  unfolding read readBytes readTable
-  read-by o e = (
-    ap (maybe (given (length (valueBytes s) ∷ length (valueTable s) ∷ [])) refused) e,
-    ap (λ (p : Option Refusal). unlessRefused p (storedIn buffer (valueBytes s)) buffer) e,
-    ap (λ (p : Option Refusal). unlessRefused p (storedIn table (valueTable s)) table) e,
-  )
-
   pub read-refused : {r : Refusal} → readRefusal buffer table s ≡ some r
       → (read buffer table s ≡ refused r) × (readBytes buffer table s ≡ buffer) × (readTable buffer table s ≡ table)
-  unfolding maybe unlessRefused
-  read-refused {r} e = read-by (some r) e
+  unfolding read readBytes readTable maybe unlessRefused
+  read-refused e = (rw e, rw e, rw e)
 
   pub read-given : readRefusal buffer table s ≡ none
       → (read buffer table s ≡ given (length (valueBytes s) ∷ length (valueTable s) ∷ []))
       × (readBytes buffer table s ≡ valueBytes s ++ drop (length (valueBytes s)) buffer)
       × (readTable buffer table s ≡ valueTable s ++ drop (length (valueTable s)) table)
-  unfolding maybe unlessRefused storedIn
-  read-given e = read-by none e
+  unfolding read readBytes readTable maybe unlessRefused storedIn
+  read-given e = (rw e, rw e, rw e)
 
   -- the input's refusal answers,
   pub read-judged : {r : Refusal} → refusalOf s ≡ some r → readRefusal buffer table s ≡ some r

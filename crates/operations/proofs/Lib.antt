@@ -1,2 +1,4 @@
 pub mod Answered
 pub mod Words
+pub mod Located
+pub mod Cases

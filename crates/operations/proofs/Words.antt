@@ -1,6 +1,6 @@
 -- What the definitions say in numbers: the records of a table, what Write is refused with and where, and the table that Read gives.
 -- Assumes nothing.
-use Prim.Native.Nat.{ℕ, zero, suc, _+_, _*_, _%_, _≤_, _<_}
+use Prim.Native.Nat.{ℕ, zero, suc, _+_, _*_, _%_, _<_}
 use mathlib.Core.Path.{_≡_, refl, sym, ap, subst, _∙_}
 use mathlib.Core.Bool.{Bool, true, false, not, _&&_, _||_}
 use mathlib.Core.List.{List, [], _∷_, _++_, map, List·Memᴰ, List·Memᴰ·not-nil, List·Memᴰ·append-cases, Memᴰ·append-left, Memᴰ·append-right}
@@ -29,13 +29,9 @@ use Rattle.operations.specs.Judge.{shortFor}
 use Rattle.operations.specs.ValueList.{Item, rankOf, listElement, listSegment, listOf, listBytes, tableFrom, listTable, Entry, entries, valueIn, listedIn, segmentsListed, trimList}
 use Rattle.operations.specs.Read.{valueBytes, valueTable}
 use Rattle.operations.specs.Write.{numbersWhere, badTable, badEntry, badList, unusableBytes, lacksRelease, needsRelease, writtenText, writeStages, writeRefusal}
+pub use Rattle.operations.specs.Notions.{Record, BadTable, BadRecord, LacksRelease, Nowhere, Lowest}
 
 -- ---- the records of a table
-
--- "three 32-bit numbers a value: kind .., start, length"
-abbrev pub Record : List ℕ → ℕ → ℕ → ℕ → ℕ → Type 0
-Record table n kind start size =
-    (at table (3 * n) ≡ some kind) × (at table (3 * n + 1) ≡ some start) × (at table (3 * n + 2) ≡ some size)
 
 pub entry-is : (table : List ℕ) (n : ℕ) (e : Entry) → (at (entries table) n ≡ some e) ↔ Record table n (e .kind) (e .start) (e .size)
 unfolding entries at
@@ -108,11 +104,6 @@ numbers-say fails Q says table p = (
 
 -- ---- 15
 
--- "table over 96,000 numbers or not a multiple of 3; first kind not 0"
-abbrev pub BadTable : List ℕ → Type 0
-BadTable table =
-    (96000 < length table) ⊎ (length table % 3 ≡ 0 → ⊥) ⊎ ((kind : ℕ) × (at table 0 ≡ some kind) × (kind ≡ 0 → ⊥))
-
 pub table-says : (table : List ℕ) → Says (badTable table) (BadTable table)
 unfolding badTable at entries
 table-says table =
@@ -133,11 +124,6 @@ table-says table =
     kinds (a ∷ b ∷ []) kind h n = inl (inr (λ z. omega arith))
     kinds (a ∷ b ∷ c ∷ rest) kind h n =
         inr (record { kind = a; start = b; size = c }, refl, λ z. n (sym (Option·some-injective a kind h) ∙ z))
-
--- "kind above 2; start plus length above the number of bytes"
-abbrev pub BadRecord : List ℕ → List ℕ → ℕ → Type 0
-BadRecord bytes table n =
-    (kind : ℕ) × (start : ℕ) × (size : ℕ) × Record table n kind start size × ((2 < kind) ⊎ (length bytes < start + size))
 
 -- "0 for the first two, else lowest such record number"
 pub fifteen-at : (bytes table : List ℕ) (p : ℕ)
@@ -196,15 +182,6 @@ two-at service p =
     place-says (not good) 0 p (says-not good (six-says service))
 
 -- ---- 16
-
--- "a value holds a service character and there is no release"
-abbrev pub LacksRelease : Characters → List ℕ → List ℕ → ℕ → Type 0
-LacksRelease c bytes table n =
-    (kind : ℕ)
-    × (start : ℕ)
-    × (size : ℕ)
-    × Record table n kind start size
-    × ((c .release ≡ 32) × ((b : ℕ) × List·Memᴰ b (take size (drop start bytes)) × ((b ≡ c .component) ⊎ (b ≡ c .element) ⊎ (b ≡ c .terminator))))
 
 pub sixteen-at : (service bytes table : List ℕ) (p : ℕ)
     → List·Memᴰ p (needsRelease service bytes table) ↔ LacksRelease (sixBytes service) bytes table p
@@ -307,13 +284,6 @@ unfolding writtenText interchange adviceOf spelledOut sixBytes
 text-is component element mark release reserved terminator bytes table = refl
 
 -- ---- "Writer: 15, 2, 16, 1, 14"
-
--- it is met nowhere; or here, and nowhere lower
-abbrev pub Nowhere : (ℕ → Type 0) → Type 0
-Nowhere P = (p : ℕ) → P p → ⊥
-
-abbrev pub Lowest : (ℕ → Type 0) → ℕ → Type 0
-Lowest P p = P p × ((q : ℕ) → P q → p ≤ q)
 
 module _ (f : Fault) (places : List ℕ) (later : List Stage) (P : ℕ → Type 0) (are : (q : ℕ) → List·Memᴰ q places ↔ P q) where
   -- a stage of one number answers with the lowest of its places, and leaves it to the later ones where it has none

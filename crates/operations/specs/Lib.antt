@@ -4,3 +4,4 @@ pub mod Locate
 pub mod ValueList
 pub mod Read
 pub mod Write
+pub mod Notions

@@ -20,6 +20,7 @@ use Rattle.normal_form_laws.proofs.Trimmed.{contents-words}
 use Rattle.levels.specs.Levels.{levelOf, inLevel}
 use Rattle.levels.proofs.Words.{level-a-says, level-b-says, in-level-says, names-level, level-none}
 use Rattle.segments.specs.declared.Kind.{Kind}
+use Rattle.segments.proofs.Cases.{messages-follow, groups-follow}
 use Rattle.segments.proofs.Words.{kinds-are, user-kind, tag-is, tag-says, rule-says, counted, after-interchange, in-group-message, in-message, in-group, between-groups, before-interchange, kind-is, group-allows}
 use Rattle.control_elements.proofs.Words.{unb-control, ung-control, unh-control, unt-control, une-control, unz-control, no-control, unt-reference, une-reference, unz-reference, unt-count, une-count, unz-groups, unz-messages, no-trailer, decimal-digits}
 use Rattle.stages.specs.Contents.{bodyTokens, segmentsOf}
@@ -188,7 +189,7 @@ value-lists =
       read-list = values.read-list;
       record-names = values.listed-at;
       listed-table = listed-table;
-      text = values.text-is;
+      text-is = λ c. values.text-is (c .component) (c .element) (c .mark) (c .release) (c .reserved) (c .terminator);
       written-unchanged = λ service bytes table output h. written-unchanged service bytes table output (unrefused _ (writeRefusal service bytes table output) h);
     }
 
@@ -230,6 +231,7 @@ paper-words =
       service-characters = service-characters;
       bytes-to-values = bytes-to-values;
       stands = stands;
+      order = record { messages = messages-follow; groups = groups-follow };
       control-elements = control-elements;
       normal-form = record { byte-by-byte = form-is };
       told = told;

@@ -22,7 +22,7 @@ use Rattle.stages.specs.Stages.{refusalOf}
 use Rattle.answers.specs.Answers.{Answer, given, refused}
 use Rattle.operations.specs.Write.{badList, unusableBytes, needsRelease, writtenText, writeRefusal, write}
 use Rattle.operations.proofs.Words.{At15, At2, At16, At1, fifteen-at, six-says, two-at, sixteen-at, write-fifteen, write-two, write-sixteen, write-one, write-fourteen}
-use Rattle.round_trip_laws.proofs.Written.{write-given, write-refused}
+use Rattle.operations.proofs.Cases.{write-given, write-refused}
 use Rattle.acceptance_laws.proofs.Stages.{refused-exactly}
 use Rattle.theorems.proofs.Buffers.{as-judged}
 use Rattle.paper_words.specs.Relations.{BadTable, BadRecord, SixUsable, LacksRelease, Nowhere, Lowest}

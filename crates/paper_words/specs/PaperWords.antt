@@ -8,7 +8,7 @@ use mathlib.Core.List.{List, [], _∷_, _++_, map, List·Memᴰ}
 use mathlib.Core.Option.{none, some}
 use lib.ListN.{length, take, drop}
 use lib.Dec.{ltb}
-use Rattle.lists.specs.Lists.{isEmpty, at}
+use Rattle.lists.specs.Lists.{text, isEmpty, those, at}
 use Rattle.nesting.specs.Nesting.{isIdle}
 use Rattle.characters.specs.declared.Characters.{Characters}
 use Rattle.characters.specs.Characters.{isService, usable, charactersOf, bodyStart, body}
@@ -44,7 +44,7 @@ use Rattle.operations.specs.Write.{badList, writtenText, write}
 use Rattle.spelling_laws.specs.Bodies.{wordsOf, Shaped}
 use Rattle.trimming_laws.specs.Kinds.{Kinds}
 use Rattle.acceptance_laws.specs.Refused.{Refused}
-use Rattle.paper_words.specs.Relations.{Usable, Service, advised, NoAdvice, BeginsUnb, Unended, Open, LevelA, LevelB, Names, Reference, Count, Nearest, StartsAt, Record, BadTable, BadRecord, SixUsable, LacksRelease, Nowhere, Lowest}
+use Rattle.paper_words.specs.Relations.{six, Usable, Service, advised, NoAdvice, BeginsUnb, Unended, Open, LevelA, LevelB, Names, Reference, Count, Nearest, StartsAt, Record, BadTable, BadRecord, SixUsable, LacksRelease, Nowhere, Lowest}
 
 -- ---- "Service characters"
 
@@ -58,11 +58,11 @@ pub record ServiceCharacters : Type 0 where
       → (charactersOf (advised c rest) ≡ c) × (bodyStart (advised c rest) ≡ 9) × (body (advised c rest) ≡ rest)
   -- "input that begins `UNB+` uses `:` `+` `.` `?` `'`"
   pub with-plus : (rest : List ℕ)
-      → charactersOf (85 ∷ 78 ∷ 66 ∷ 43 ∷ rest)
+      → charactersOf (text "UNB+" ++ rest)
       ≡ record { component = 58; element = 43; mark = 46; release = 63; reserved = 32; terminator = 39 }
   -- "input that begins `UNB` and byte 29 uses 31, 29, `.`, no release, terminator 28"
   pub with-control : (rest : List ℕ)
-      → charactersOf (85 ∷ 78 ∷ 66 ∷ 29 ∷ rest)
+      → charactersOf (text "UNB" ++ 29 ∷ rest)
       ≡ record { component = 31; element = 29; mark = 46; release = 32; reserved = 32; terminator = 28 }
   -- "or the whole input"
   pub without-advice : (s : List ℕ) → NoAdvice s → (bodyStart s ≡ 0) × (body s ≡ s)
@@ -127,15 +127,14 @@ pub record BytesToValues : Type 0 where
       → (isTag tag ≡ true)
       ↔ ((length tag ≡ 3) × ((b : ℕ) → List·Memᴰ b tag → ((65 ≤ b) × (b ≤ 90)) ⊎ ((48 ≤ b) × (b ≤ 57))))
   -- "UNB, UNG, UNH, UNS, UNT, UNE or UNZ"; any other tag is a user segment's
-  pub service-tags : (kindNamed (85 ∷ 78 ∷ 66 ∷ []) ≡ Unb)
-      × (kindNamed (85 ∷ 78 ∷ 71 ∷ []) ≡ Ung)
-      × (kindNamed (85 ∷ 78 ∷ 72 ∷ []) ≡ Unh)
-      × (kindNamed (85 ∷ 78 ∷ 83 ∷ []) ≡ Uns)
-      × (kindNamed (85 ∷ 78 ∷ 84 ∷ []) ≡ Unt)
-      × (kindNamed (85 ∷ 78 ∷ 69 ∷ []) ≡ Une)
-      × (kindNamed (85 ∷ 78 ∷ 90 ∷ []) ≡ Unz)
-  pub user-tags : (tag : List ℕ)
-      → ((last : ℕ) → List·Memᴰ last (66 ∷ 71 ∷ 72 ∷ 83 ∷ 84 ∷ 69 ∷ 90 ∷ []) → tag ≡ 85 ∷ 78 ∷ last ∷ [] → ⊥) → kindNamed tag ≡ User
+  pub service-tags : (kindNamed (text "UNB") ≡ Unb)
+      × (kindNamed (text "UNG") ≡ Ung)
+      × (kindNamed (text "UNH") ≡ Unh)
+      × (kindNamed (text "UNS") ≡ Uns)
+      × (kindNamed (text "UNT") ≡ Unt)
+      × (kindNamed (text "UNE") ≡ Une)
+      × (kindNamed (text "UNZ") ≡ Unz)
+  pub user-tags : (tag : List ℕ) → ((last : ℕ) → List·Memᴰ last (text "BGHSTEZ") → tag ≡ text "UN" ++ last ∷ [] → ⊥) → kindNamed tag ≡ User
   -- a segment's kind is the one that its tag names
   pub kind : (g : Segment) → kindOf g ≡ kindNamed (tagOf g)
   -- "The contents are the trimmed list." of any segment, allowed or not
@@ -147,7 +146,7 @@ pub record BytesToValues : Type 0 where
   pub tag-rule : (g : Segment)
       → (tagRule g ≡ true)
       ↔ ((isTag (tagOf g) ≡ true)
-      × (((rest : List ℕ) × (tagOf g ≡ 85 ∷ 78 ∷ rest) → ⊥)
+      × (((rest : List ℕ) × (tagOf g ≡ text "UN" ++ rest) → ⊥)
       ⊎ ((kindOf g ≡ User → ⊥) × ((before : List Token) × (k : ℕ) × (q : ℕ) × (tagPiece g ≡ before ++ separator k q ∷ []) × (k ≤ 1)))))
   -- "Level A: `A`-`Z`, `0`-`9`, space and .." "Level B adds `a`-`z`."
   pub level-a : (b : ℕ) → (inLevelA b ≡ true) ↔ LevelA b
@@ -173,6 +172,27 @@ pub record Stands (past : List Kind) : Type 0 where
   pub group-allows : (allowedAt InGroup past Unh ≡ true)
       × (allowedAt InGroup past Une ≡ ltb 0 (messagesSinceGroup past))
       × (allowedAt InGroup past Unz ≡ false)
+
+-- the kinds of segments that may follow what passed, the nearest first
+abbrev next : List Kind → List Kind
+next past = those (allowed past) (Unb ∷ Ung ∷ Unh ∷ Uns ∷ Unt ∷ Une ∷ Unz ∷ User ∷ [])
+
+pub record Order : Type 0 where
+  -- "UNB; then .. one or more messages ..; then UNZ and nothing more."; "A message is UNH, any number of user segments and UNS, UNT."
+  pub messages : (next [] ≡ Unb ∷ [])
+      × (next (Unb ∷ []) ≡ Ung ∷ Unh ∷ [])
+      × (next (Unh ∷ Unb ∷ []) ≡ Uns ∷ Unt ∷ User ∷ [])
+      × (next (Unt ∷ Unh ∷ Unb ∷ []) ≡ Unh ∷ Unz ∷ [])
+      × (next (Unz ∷ Unt ∷ Unh ∷ Unb ∷ []) ≡ [])
+  -- "then one or more groups .., not both"; "A group is UNG, one or more messages, UNE.": the second one too
+  pub groups : let group : List Kind = Une ∷ Unt ∷ Unh ∷ Ung ∷ Unb ∷ [] in
+      (next (Ung ∷ Unb ∷ []) ≡ Unh ∷ [])
+      × (next (Unh ∷ Ung ∷ Unb ∷ []) ≡ Uns ∷ Unt ∷ User ∷ [])
+      × (next (Unt ∷ Unh ∷ Ung ∷ Unb ∷ []) ≡ Unh ∷ Une ∷ [])
+      × (next group ≡ Ung ∷ Unz ∷ [])
+      × (next (Ung ∷ group) ≡ Unh ∷ [])
+      × (next (Unt ∷ Unh ∷ Ung ∷ group) ≡ Unh ∷ Une ∷ [])
+      × (next (Unz ∷ group) ≡ [])
 
 -- ---- "Control elements"
 
@@ -236,17 +256,9 @@ pub record ControlElements : Type 0 where
 pub record NormalForm : Type 0 where
   -- "`UNA:+`, the mark, `? '`, then the contents spelled with those characters."
   pub byte-by-byte : (s : List ℕ)
-      → normalForm s
-      ≡ 85
-      ∷ 78
-      ∷ 65
-      ∷ 58
-      ∷ 43
-      ∷ charactersOf s .mark
-      ∷ 63
-      ∷ 32
-      ∷ 39
-      ∷ spell (record { component = 58; element = 43; mark = charactersOf s .mark; release = 63; reserved = 32; terminator = 39 }) (contents s)
+      → let mark : ℕ = charactersOf s .mark in
+      let normal : Characters = record { component = 58; element = 43; mark = mark; release = 63; reserved = 32; terminator = 39 } in
+      normalForm s ≡ text "UNA:+" ++ mark ∷ text "? '" ++ spell normal (contents s)
 
 -- ---- "Operations"
 
@@ -262,18 +274,7 @@ pub record Told (r : Refusal) : Type 0 where
   -- "service characters, counts of segments, messages and groups, length of the normal form; or a refusal"
   pub accepted : (i : Figures)
       → toldJudged (judged.Accepted i)
-      ≡ gives
-      (i .characters .component
-      ∷ i .characters .element
-      ∷ i .characters .mark
-      ∷ i .characters .release
-      ∷ i .characters .reserved
-      ∷ i .characters .terminator
-      ∷ i .segments .0
-      ∷ i .messages .0
-      ∷ i .groups .0
-      ∷ i .length
-      ∷ [])
+      ≡ gives (six (i .characters) ++ i .segments .0 ∷ i .messages .0 ∷ i .groups .0 ∷ i .length ∷ [])
   pub judge-refused : toldJudged (judged.Refused r) ≡ refuses r (r .place ∷ [])
   -- "the length"
   pub stores : (n : ℕ) → toldStored (stored.Length n) ≡ gives (n ∷ [])
@@ -318,20 +319,8 @@ pub record ValueLists : Type 0 where
       → at {A = Item} (listedIn bytes table) n ≡ some (record { kind = kind; value = take size (drop start bytes) })
   pub listed-table : (items : List Item) → listedIn (listBytes items) (listTable items) ≡ items
   -- Write's text: "always an advice, then the trimmed list"
-  pub text : (component element mark release reserved terminator : ℕ) (bytes table : List ℕ)
-      → writtenText (component ∷ element ∷ mark ∷ release ∷ reserved ∷ terminator ∷ []) bytes table
-      ≡ 85
-      ∷ 78
-      ∷ 65
-      ∷ component
-      ∷ element
-      ∷ mark
-      ∷ release
-      ∷ reserved
-      ∷ terminator
-      ∷ spell
-      (record { component = component; element = element; mark = mark; release = release; reserved = reserved; terminator = terminator })
-      (trimList (segmentsListed (listedIn bytes table)))
+  pub text-is : (c : Characters) (bytes table : List ℕ)
+      → writtenText (six c) bytes table ≡ advised c (spell c (trimList (segmentsListed (listedIn bytes table))))
   -- a list that was written with nothing to trim is read as it was, value by value
   pub written-unchanged : (service bytes table output : List ℕ) → write service bytes table output .number ≡ 0
       → trimList (segmentsListed (listedIn bytes table)) ≡ segmentsListed (listedIn bytes table)
@@ -346,7 +335,7 @@ pub record PlacesOf (p : ℕ) : Type 0 where
   pub one : (s : List ℕ) → List·Memᴰ p (tooLong s) ↔ ((32000 < length s) × (p ≡ 0))
   -- 2: "unusable advice, or shorter than its 9 bytes": 0
   pub two : (c : Characters) (rest : List ℕ) → List·Memᴰ p (unusableAdvice (advised c rest)) ↔ ((Usable c → ⊥) × (p ≡ 0))
-  pub two-short : (rest : List ℕ) → length rest < 6 → unusableAdvice (85 ∷ 78 ∷ 65 ∷ rest) ≡ 0 ∷ []
+  pub two-short : (rest : List ℕ) → length rest < 6 → unusableAdvice (text "UNA" ++ rest) ≡ 0 ∷ []
   pub two-plain : (s : List ℕ) → NoAdvice s → unusableAdvice s ≡ []
   -- 3: "the body doesn't begin `UNB` and the element separator (without advice: neither beginning above)": "0, or 9 after an advice"
   pub three : (c : Characters) (rest : List ℕ)
@@ -405,27 +394,14 @@ pub data WriteRefused (service bytes table output : List ℕ) : ℕ → ℕ → 
       → length (writtenText service bytes table) ≤ 32000 → length (writtenText service bytes table) ≤ length output
       → (f : Fault) (p : ℕ) → Refused (writtenText service bytes table) f p → WriteRefused service bytes table output (number f) p
 
+-- in the order of the table
+abbrev faults : List Fault
+faults =
+    TooLong ∷ UnusableAdvice ∷ NoOpening ∷ StrayRelease ∷ UnendedSegment ∷ BrokenTag ∷ ForeignLevel ∷ OutsideLevel ∷ MisplacedSegment
+    ∷ BadControl ∷ ReferenceDiffers ∷ CountWrong ∷ NormalTooLong ∷ BufferShort ∷ BadList ∷ NeedsRelease ∷ []
+
 pub record Refusals : Type 0 where
-  -- the numbers, in the order of the table
-  pub numbers : map number
-      (TooLong
-      ∷ UnusableAdvice
-      ∷ NoOpening
-      ∷ StrayRelease
-      ∷ UnendedSegment
-      ∷ BrokenTag
-      ∷ ForeignLevel
-      ∷ OutsideLevel
-      ∷ MisplacedSegment
-      ∷ BadControl
-      ∷ ReferenceDiffers
-      ∷ CountWrong
-      ∷ NormalTooLong
-      ∷ BufferShort
-      ∷ BadList
-      ∷ NeedsRelease
-      ∷ [])
-      ≡ 1 ∷ 2 ∷ 3 ∷ 4 ∷ 5 ∷ 6 ∷ 7 ∷ 8 ∷ 9 ∷ 10 ∷ 11 ∷ 12 ∷ 13 ∷ 14 ∷ 15 ∷ 16 ∷ []
+  pub numbers : map number faults ≡ 1 ∷ 2 ∷ 3 ∷ 4 ∷ 5 ∷ 6 ∷ 7 ∷ 8 ∷ 9 ∷ 10 ∷ 11 ∷ 12 ∷ 13 ∷ 14 ∷ 15 ∷ 16 ∷ []
   pub places : (p : ℕ) → PlacesOf p
   -- "Stages: 1, 2, 3, (4 5 6), 7, 8, 9, (10 11 12), 13": each is all that is met of what it brackets
   pub stages-are : (s : List ℕ)
@@ -452,6 +428,7 @@ pub record PaperWords : Type 0 where
   pub service-characters : ServiceCharacters
   pub bytes-to-values : BytesToValues
   pub stands : (past : List Kind) → Stands past
+  pub order : Order
   pub control-elements : ControlElements
   pub normal-form : NormalForm
   pub told : (r : Refusal) → Told r

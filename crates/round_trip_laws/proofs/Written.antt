@@ -2,20 +2,18 @@
 use Prim.Native.Nat.{ℕ, _≤_}
 use mathlib.Core.Path.{_≡_, sym, ap, ap₂, subst, _∙_}
 use mathlib.Core.Bool.{Bool, true, _&&_}
-use mathlib.Core.List.{List, [], _∷_, _++_}
-use mathlib.Core.Option.{Option, none, some}
+use mathlib.Core.List.{List, [], _∷_}
+use mathlib.Core.Option.{none}
 use mathlib.Core.Logic.{_↔_}
 use native.Mathlib.Omega.{arith}
-use lib.ListN.{length, take, drop, replicate, length-append}
+use lib.ListN.{length, take, drop, length-append}
 use lib.Seq.{take-append-seam}
 use lib.Dec.{eqb, ltb}
 use borrow.Author.Tests.{ltb-false, le-ltb, eqb-true, eq-eqb}
-use Rattle.lists.specs.Lists.{maybe}
 use Rattle.lists.proofs.Texts.{and-left, and-right, and-both}
 use Rattle.characters.specs.declared.Characters.{Characters}
-use Rattle.characters.specs.Characters.{usable, sixBytes, hasRelease, charactersOf, adviceOf, badAdvice}
+use Rattle.characters.specs.Characters.{usable, sixBytes, charactersOf, adviceOf, badAdvice}
 use Rattle.refusals.specs.declared.Fault.the-variants.{TooLong, UnusableAdvice, BadList, NeedsRelease, BufferShort}
-use Rattle.refusals.specs.declared.Refusal.{Refusal}
 use Rattle.refusals.specs.Refusals.{Stage, met, placeIf, lowest, orElse, answering}
 use Rattle.refusals.proofs.Lowest.{lowest-none}
 use Rattle.refusals.proofs.Stages.{met-none, orElse-neither, answering-append, place-none, place-none-not}
@@ -25,12 +23,12 @@ use Rattle.stages.specs.Places.{tooLong, unusableAdvice, normalTooLong}
 use Rattle.stages.specs.Stages.{laterStages, stages, refusalOf}
 use Rattle.stages.proofs.Stages.{later-answers}
 use Rattle.stages.proofs.Over.{within}
-use Rattle.answers.specs.Answers.{given, refused}
-use Rattle.operations.specs.Judge.{shortFor, storedIn, unlessRefused}
+use Rattle.operations.specs.Judge.{shortFor}
 use Rattle.operations.specs.Read.{valueBytes, valueTable, readRefusal, readBytes, readTable}
 use Rattle.operations.specs.ValueList.{Item, listOf, listBytes, listTable, listedIn, segmentsListed, trimList}
-use Rattle.operations.specs.Write.{badList, unusableBytes, needsRelease, writtenText, writeStages, writeRefusal, write, writeOutput}
+use Rattle.operations.specs.Write.{badList, unusableBytes, needsRelease, writtenText, writeStages, writeRefusal, writeOutput}
 use Rattle.operations.proofs.Answered.{read-given}
+use Rattle.operations.proofs.Cases.{write-given}
 use Rattle.spelling_laws.specs.Bodies.{Shaped, Releasable}
 use Rattle.trimming_laws.specs.Kinds.{Kinds}
 use Rattle.trimming_laws.proofs.Nesting.{shaped-listed, kinds-listOf}
@@ -177,30 +175,9 @@ module _ (service bytes table output : List ℕ) where
   unfolding writtenText interchange
   text-characters = advice-characters (sixBytes service) (spell (sixBytes service) (trimList (segmentsListed (listedIn bytes table))))
 
-  -- what is answered and left in the output buffer, by what is refused
-  write-by : (o : Option Refusal) → writeRefusal service bytes table output ≡ o
-      → (write service bytes table output ≡ maybe (given (length t ∷ [])) refused o)
-      × (writeOutput service bytes table output ≡ unlessRefused o (storedIn output t) (replicate (length output) 0))
-  unfolding write writeOutput
-  write-by o e = (
-    ap (maybe (given (length t ∷ [])) refused) e,
-    ap (λ (p : Option Refusal). unlessRefused p (storedIn output t) (replicate (length output) 0)) e,
-  )
-
-  pub write-refused : {r : Refusal} → writeRefusal service bytes table output ≡ some r
-      → (write service bytes table output ≡ refused r) × (writeOutput service bytes table output ≡ replicate (length output) 0)
-  unfolding maybe unlessRefused
-  write-refused {r} e = write-by (some r) e
-
-  pub write-given : writeRefusal service bytes table output ≡ none
-      → (write service bytes table output ≡ given (length t ∷ []))
-      × (writeOutput service bytes table output ≡ t ++ drop (length t) output)
-  unfolding maybe unlessRefused storedIn
-  write-given h = write-by none h
-
   -- the text stands in the front of the output buffer
   pub text-stored : writeRefusal service bytes table output ≡ none → take (length t) (writeOutput service bytes table output) ≡ t
-  text-stored h = ap (take (length t)) (write-given h .1) ∙ take-append-seam t (drop (length t) output)
+  text-stored h = ap (take (length t)) (write-given service bytes table output h .1) ∙ take-append-seam t (drop (length t) output)
 
 -- ---- the value list of an accepted input
 

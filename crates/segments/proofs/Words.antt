@@ -21,6 +21,7 @@ use Rattle.segments.specs.declared.Standing.the-variants.{BeforeIntercha
 use Rattle.segments.specs.Kinds.{index, is, kindNamed}
 use Rattle.segments.specs.Tags.{tagPiece, tagOf, kindOf, isTag, tagRule}
 use Rattle.segments.specs.Order.{segmentsIn, messagesIn, groupsIn, segmentsSinceHeader, messagesSinceGroup, isOpen, standing, allowedAt, walkOver}
+pub use Rattle.segments.specs.Notions.{Open}
 
 -- ---- tags
 
@@ -159,14 +160,6 @@ module _ (nearer farther : List Kind) where
           step false e = e
 
 -- ---- where the check stands
-
--- what the header opened is not closed yet: it passed, and since then neither it nor its trailer
-abbrev pub Open : Kind → Kind → List Kind → Type 0
-Open header trailer past =
-    (nearer : List Kind)
-    × (farther : List Kind)
-    × (past ≡ nearer ++ header ∷ farther)
-    × ((kind : Kind) → List·Memᴰ kind nearer → (kind ≡ header → ⊥) × (kind ≡ trailer → ⊥))
 
 pub open-says : (header trailer : Kind) (past : List Kind) → Says (isOpen header trailer past) (Open header trailer past)
 unfolding isOpen

@@ -1,3 +1,4 @@
 pub mod Kinds
 pub mod Tags
 pub mod Order
+pub mod Notions

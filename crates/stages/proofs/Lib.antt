@@ -1,3 +1,4 @@
 pub mod Over
 pub mod Stages
 pub mod Words
+pub mod Cases

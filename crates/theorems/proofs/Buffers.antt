@@ -1,6 +1,6 @@
 -- What Read and Write answer and leave in the buffers that they are lent. Assumes nothing.
 use Prim.Native.Nat.{ℕ, _≤_}
-use mathlib.Core.Path.{_≡_, sym, ap, _∙_}
+use mathlib.Core.Path.{_≡_, ap, _∙_}
 use mathlib.Core.Logic.{_↔_}
 use mathlib.Core.List.{List, [], _∷_, _++_}
 use mathlib.Core.Option.{Option, none, some}
@@ -19,11 +19,12 @@ use Rattle.operations.specs.Judge.{shortFor, normaliseRefusal}
 use Rattle.operations.specs.Read.{valueBytes, valueTable, readRefusal, read, readBytes, readTable}
 use Rattle.operations.specs.Write.{badList, unusableBytes, needsRelease, writtenText, writeStages, writeRefusal, write, writeOutput}
 use Rattle.operations.proofs.Answered.{input-answers, room-answers, read-given, read-judged, read-passes}
+use Rattle.operations.proofs.Cases.{write-given}
 use Rattle.acceptance_laws.specs.Allowed.{Allowed}
 use Rattle.acceptance_laws.proofs.Acceptance.{allowed-exactly}
 use Rattle.round_trip_laws.specs.Trips.{Rewritable}
 use Rattle.round_trip_laws.proofs.Numbers.{unrefused}
-use Rattle.round_trip_laws.proofs.Written.{short-enough, write-passed, text-advice, text-accepted, write-given, read-accepted, read-fits}
+use Rattle.round_trip_laws.proofs.Written.{short-enough, write-passed, text-advice, text-accepted, read-accepted, read-fits}
 use Rattle.round_trip_laws.proofs.Theorems.{rewritten-exactly}
 use Rattle.refusals.specs.Limits.{mostBytes}
 

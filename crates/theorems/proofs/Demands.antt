@@ -4,18 +4,12 @@ use mathlib.Core.Path.{_≡_, refl, sym, ap, _∙_}
 use mathlib.Core.Logic.{_↔_}
 use mathlib.Core.Bool.{true}
 use mathlib.Core.List.{List, [], _++_, map}
-use mathlib.Core.Option.{none, some}
-use Rattle.lists.specs.Lists.{maybe}
 use Rattle.characters.specs.Characters.{usable, adviceOf, charactersOf, bodyStart, body}
-use Rattle.refusals.specs.declared.Refusal.{Refusal}
 use Rattle.values.specs.Spelling.{spell}
 use Rattle.stages.specs.Contents.{bodyTokens, segmentsOf, contents, interchange, normalForm}
 use Rattle.stages.specs.Places.{strayReleases, unendedSegment}
-use Rattle.stages.specs.Stages.{refusalOf}
-use Rattle.answers.specs.Answers.{refusedInput}
-use Rattle.operations.specs.Compare.{compare}
 use Rattle.operations.specs.ValueList.{trimList}
-use Rattle.operations.proofs.Answered.{compare-by, normalise-refused, normalises, form-short, read-refused, bytes-short, table-short}
+use Rattle.operations.proofs.Answered.{normalise-refused, normalises, form-short, read-refused, bytes-short, table-short}
 use Rattle.spelling_laws.specs.Bodies.{Spelled, wordsOf, listed, readList}
 use Rattle.spelling_laws.proofs.Laws.{passes-exactly, only-one, spell-read, read-spelling, spelling-unique}
 use Rattle.trimming_laws.proofs.Trimmed.{trimList-trimmed, list-only, trimList-again, same-trimmed}
@@ -33,11 +27,11 @@ use Rattle.acceptance_laws.proofs.Acceptance.{allowed-exactly, list-read}
 use Rattle.acceptance_laws.proofs.Fakes.{x-allowed, empty-not-allowed}
 use Rattle.acceptance_laws.proofs.Same.{compared-same, compared-different, same-self, same-back, same-on, keep-same, keep-other}
 use Rattle.round_trip_laws.proofs.Placed.{one-placed}
-use Rattle.round_trip_laws.proofs.Written.{write-refused}
 use Rattle.round_trip_laws.proofs.Theorems.{written-back, read-back, located-contents, located-placed, located-named, part-spelled}
 use Rattle.theorems.specs.Demands.{Demands}
 use Rattle.theorems.proofs.Buffers.{judged-first, reads-exactly, reads, writes-exactly, writes, as-judged, rewrites}
-use Rattle.theorems.proofs.Located.{locate-refused, locate-absent, locate-found, part-is, part-none}
+use Rattle.operations.proofs.Cases.{first-refused, second-refused, write-refused}
+use Rattle.operations.proofs.Located.{locate-refused, locate-absent, locate-found, part-is, part-none}
 
 -- an input's body passes exactly where 4 and 5 are not met
 four-and-five : (s : List ℕ) → usable (charactersOf s) ≡ true
@@ -70,14 +64,6 @@ module _ (a b : List ℕ) where
           normal = same-normal a b (allowed-exactly a .1 (h .0)) (allowed-exactly b .1 (h .1)) .1 (h .2, h .3);
         },
   )
-
-  first-refused : {r : Refusal} → refusalOf a ≡ some r → compare a b ≡ refusedInput 1 r
-  unfolding maybe
-  first-refused {r} e = compare-by a b (some r) (refusalOf b) e refl
-
-  second-refused : {r : Refusal} → refusalOf a ≡ none → refusalOf b ≡ some r → compare a b ≡ refusedInput 2 r
-  unfolding maybe
-  second-refused {r} h e = compare-by a b none (some r) h e
 
 pub demands : Demands
 demands =

@@ -1,4 +1,3 @@
 pub mod Buffers
-pub mod Located
 pub mod Demands
 pub mod Contracts

@@ -20,6 +20,7 @@ use Rattle.values.specs.Values.{byteOf, bytesOf, isFault, endedBy, endsI
 use Rattle.values.specs.Trimming.{valueAt}
 use Rattle.values.specs.Spelling.{Bytes, SegmentList, spellByte, spellValue, spellElement, spellSegment, spell}
 use Rattle.values.proofs.Steps.{tokens-role}
+pub use Rattle.values.specs.Notions.{Unended}
 
 module _ (c : Characters) (u : Usable c) (place : ℕ) where
   pub read-end : tokens c place [] ≡ []
@@ -148,10 +149,6 @@ finished-says g =
     ))
 
 -- ---- segments
-
--- no terminator is among them
-abbrev pub Unended : List Token → Type 0
-Unended ts = (q : ℕ) → List·Memᴰ (separator 0 q) ts → ⊥
 
 unended-none : (ts : List Token) → Unended ts → all (λ t. not (ends 0 t)) ts ≡ true
 unended-none ts h =

@@ -1,0 +1,110 @@
+-- What each contract allows, case by case: which answer, which bytes in each buffer, which part of which slice. Assumes nothing.
+use Prim.Native.Nat.{ℕ, _≤_, _<_}
+use mathlib.Core.Path.{_≡_, subst, _∙_}
+use mathlib.Core.Bool.{true, false}
+use mathlib.Core.List.{List, [], _∷_, _++_}
+use mathlib.Core.Option.{none, some}
+use lib.ListN.{length, drop}
+use denote.Ref.{RefT, now}
+use Rattle.refusals.specs.declared.Refusal.{Refusal}
+use Rattle.values.specs.Values.{Value}
+use Rattle.stages.specs.Contents.{normalForm}
+use Rattle.stages.specs.Stages.{refusalOf}
+use Rattle.answers.specs.declared.Judged.{Judged}
+use Rattle.answers.specs.declared.Judged.the-variants as judged
+use Rattle.answers.specs.declared.Stored.{Stored}
+use Rattle.answers.specs.declared.Stored.the-variants as stored
+use Rattle.answers.specs.declared.Compared.{Compared}
+use Rattle.answers.specs.declared.Compared.the-variants.{FirstRefused, SecondRefused}
+use Rattle.answers.specs.declared.Located.{Located}
+use Rattle.answers.specs.declared.Located.the-variants as place
+use Rattle.answers.specs.declared.Listed.{Listed}
+use Rattle.answers.specs.declared.Listed.the-variants as listed
+use Rattle.answers.specs.Answers.{given, toldJudged, toldStored, toldCompared, toldLocated, toldListed}
+use Rattle.operations.specs.Judge.{figuresOf}
+use Rattle.operations.specs.Compare.{areSame, Part, ofFirst, ofSecond, keep}
+use Rattle.operations.specs.Locate.{located, locate, partOffset, partLength}
+use Rattle.operations.specs.Read.{valueBytes, valueTable, readRefusal}
+use Rattle.operations.specs.Write.{writtenText, writeRefusal}
+use Rattle.operations.proofs.Answered.{normalises, read-given}
+use Rattle.operations.proofs.Located.{locate-found, part-is}
+use Rattle.operations.proofs.Cases.{judge-is, first-refused, second-refused, keep-is, write-given}
+use Rattle.contracts.specs.Promises.{Judges, Normalises, Compares, Locates, Reads, Writes, IsPart, Handed, Keeps, HandsBack}
+use Rattle.contracts.proofs.Told.{judged-tells, stored-tells, compared-tells, located-tells, listed-tells}
+
+pub judges : (s : List ℕ) (r : Judged) → Judges s r
+    → (refusalOf s ≡ none → r ≡ judged.Accepted (figuresOf s)) × ((q : Refusal) → refusalOf s ≡ some q → r ≡ judged.Refused q)
+unfolding toldJudged
+judges s r h = (
+  λ e. judged-tells r (judged.Accepted (figuresOf s)) (h ∙ judge-is s .0 e),
+  λ q e. judged-tells r (judged.Refused q) (h ∙ judge-is s .1 q e),
+)
+
+-- the form goes to the front of the buffer
+pub stores-form : (buffer s : List ℕ) (r : Stored) (after : List ℕ) → Normalises buffer s r after
+    → refusalOf s ≡ none → length (normalForm s) ≤ length buffer
+    → (r ≡ stored.Length (length (normalForm s))) × (after ≡ normalForm s ++ drop (length (normalForm s)) buffer)
+unfolding toldStored
+stores-form buffer s r after h e fits =
+    let told = normalises buffer s e fits in
+    (stored-tells r (stored.Length (length (normalForm s))) (h .0 ∙ told .0), h .1 ∙ told .1)
+
+-- the first input is judged first
+pub compares : (a b : List ℕ) (r : Compared) → Compares a b r
+    → ((q : Refusal) → refusalOf a ≡ some q → r ≡ FirstRefused q)
+    × ((q : Refusal) → refusalOf a ≡ none → refusalOf b ≡ some q → r ≡ SecondRefused q)
+unfolding toldCompared
+compares a b r h = (
+  λ q e. compared-tells r (FirstRefused q) (h ∙ first-refused a b e),
+  λ q e d. compared-tells r (SecondRefused q) (h ∙ second-refused a b e d),
+)
+
+pub locates : (s : List ℕ) (segment element component : ℕ) (r : Located) → Locates s segment element component r
+    → refusalOf s ≡ none → (v : Value) → located s segment element component ≡ some v → r ≡ place.At (v .offset) (v .spelled)
+unfolding toldLocated
+locates s segment element component r h e v d =
+    located-tells r (place.At (v .offset) (v .spelled)) (h ∙ locate-found s segment element component e v d)
+
+-- the values' bytes go to the front of the first buffer, their table to the front of the second
+pub lists-values : (buffer table s : List ℕ) (r : Listed) (bytesAfter tableAfter : List ℕ) → Reads buffer table s r bytesAfter tableAfter
+    → readRefusal buffer table s ≡ none
+    → (r ≡ listed.Values (length (valueBytes s)) (length (valueTable s)))
+    × (bytesAfter ≡ valueBytes s ++ drop (length (valueBytes s)) buffer)
+    × (tableAfter ≡ valueTable s ++ drop (length (valueTable s)) table)
+unfolding toldListed
+lists-values buffer table s r bytesAfter tableAfter h e =
+    let told = read-given buffer table s e in
+    (listed-tells r (listed.Values (length (valueBytes s)) (length (valueTable s))) (h .0 ∙ told .0), h .1 ∙ told .1, h .2 ∙ told .2)
+
+-- the text goes to the front of the output buffer
+pub stores-text : (service bytes table output : List ℕ) (r : Stored) (after : List ℕ) → Writes service bytes table output r after
+    → writeRefusal service bytes table output ≡ none
+    → let text : List ℕ = writtenText service bytes table in
+    (r ≡ stored.Length (length text)) × (after ≡ text ++ drop (length text) output)
+unfolding toldStored
+stores-text service bytes table output r after h e =
+    let told = write-given service bytes table output e in
+    (stored-tells r (stored.Length (length (writtenText service bytes table))) (h .0 ∙ told .0), h .1 ∙ told .1)
+
+-- the whole of the first slice, the whole of the second, or zero bytes of the first
+pub keeps : (first second r : RefT (List ℕ)) → Keeps first second r
+    → (areSame (now first) (now second) ≡ true → length (now first) ≤ length (now second) → IsPart first 0 (length (now first)) r)
+    × (areSame (now first) (now second) ≡ true → length (now second) < length (now first) → IsPart second 0 (length (now second)) r)
+    × (areSame (now first) (now second) ≡ false → IsPart first 0 0 r)
+keeps first second r h =
+    let which = keep-is (now first) (now second) in
+    let handed : (part : Part) → keep (now first) (now second) ≡ part → Handed part first second r =
+    λ part e. subst (λ (p : Part). Handed p first second r) e h
+    in (
+      λ e l. handed (ofFirst 0 (length (now first))) (which .0 e l),
+      λ e l. handed (ofSecond 0 (length (now second))) (which .1 e l),
+      λ e. handed (ofFirst 0 0) (which .2 e),
+    )
+
+-- the part that Locate's answer names
+pub hands-back : (s : RefT (List ℕ)) (segment element component : ℕ) (r : RefT (List ℕ)) → HandsBack s segment element component r
+    → (offset size : ℕ) → locate (now s) segment element component ≡ given (offset ∷ size ∷ []) → IsPart s offset size r
+hands-back s segment element component r h offset size e =
+    let bounds = part-is (now s) segment element component offset size e in
+    subst (λ (n : ℕ). IsPart s n size r) (bounds .0)
+    (subst (λ (n : ℕ). IsPart s (partOffset (now s) segment element component) n r) (bounds .1) h)
