@@ -15,7 +15,8 @@
 # Not counted, but told: what the linker fills in, which are addresses of code (the jump tables of
 # `match`); and the compiler's operands, one number of at most 16 bytes for one instruction, which x86-64
 # cannot hold in the instruction itself (sections .rodata.cst*, labels .LCPI*; for an instruction on many
-# bytes the same byte stands there 16 times). Unwinding tables (.eh_frame) are no data of the library.
+# bytes the same byte stands there 16 times). A table of 16 bytes may be one of them, as that of the
+# positions is: the count of the source has it. Unwinding tables (.eh_frame) are no data of the library.
 #
 # Prints each size, and fails where a count is above 64.
 use strict;
