@@ -1,26 +1,31 @@
-// One step of the walk over the segments (paper 01, "Order of segments"): the walk before the first
-// segment, whether a segment of a kind is allowed where the walk stands, the walk after it, and
-// whether the walk has come to the end of an interchange. Each answers from the walk alone; that this
-// is the answer of `segments` for all that passed is said in `walk_laws`. Going through the segments
-// of an input is left to `stage_order`.
+// One step of the walk over the segments (paper 01, "Order of segments"; change request 2026-03): the
+// walk before the first segment, whether a segment of a kind is allowed where the walk stands, whether
+// the section that a UNS names may begin there, the walk after it, and whether the walk has come to the
+// end of an interchange. Each answers from the walk alone; that this is the answer of `segments` and
+// `control_elements` for all that passed is said in `walk_laws`. Going through the segments of an input
+// is left to `stage_order`.
 ghost use mathlib.Core.Path.{_≡_};
 ghost use mathlib.Core.List.{[]};
+ghost use Rattle.segments.specs.declared.Section.the-variants.{None};
 ghost use Rattle.segments.specs.Order.{walkOver};
-ghost use Rattle.walk_laws.specs.Walking.{Within, allowedBefore, allowedBetween, allowedInGroup, allowedInMessage, atPlace, allowedBy, messageOpened, messageClosed, standsAfter, afterKind, steppedBy, isAfter};
+ghost use Rattle.control_elements.specs.Sections.{place};
+ghost use Rattle.walk_laws.specs.Walking.{Within, allowedBefore, allowedBetween, allowedInGroup, allowedInMessage, atPlace, allowedBy, messageOpened, messageClosed, standsAfter, afterKind, sectionKept, steppedBy, marksBy, laterSection, begunBy, isAfter};
 ghost use Rattle.refusals.specs.Limits.{mostBytes};
 use segments::Groups;
 use segments::Kind;
 use segments::Messages;
+use segments::Section;
 use segments::Segments;
 use segments::Standing;
 use segments::Walk;
 
 // Before the first segment.
 pub fn beginning() -> Walk
-    ensures { λ r. ⌜ r ≡ walkOver [] ⌝ }
+    ensures { λ r. ⌜ r ≡ walkOver None [] ⌝ }
 {
     Walk {
         standing: Standing::BeforeInterchange,
+        section: Section::None,
         segments: Segments(0),
         messages: Messages(0),
         groups: Groups(0),
@@ -177,23 +182,98 @@ fn counted(kind: Kind, message: u32, group: u32, other: u32) -> u32
     }
 }
 
+// A message begins without a section.
+fn kept(kind: Kind, section: Section) -> Section
+    ensures { λ r. ⌜ r ≡ sectionKept kind section ⌝ }
+{
+    match kind {
+        Kind::Unh => Section::None,
+        Kind::Unb => section,
+        Kind::Ung => section,
+        Kind::Uns => section,
+        Kind::Unt => section,
+        Kind::Une => section,
+        Kind::Unz => section,
+        Kind::User => section,
+    }
+}
+
 // The walk after a segment of this kind, which is allowed there.
 pub fn stepped(w: Walk, kind: Kind) -> Walk
     requires { ⌜ Within mostBytes w ⌝ }
     ensures { λ r. ⌜ r ≡ steppedBy w kind ⌝ }
 {
     let standing = w.standing;
+    let section = w.section;
     let messages = w.messages.0;
     let groups = w.groups.0;
     let in_message = w.in_message.0 + 1;
     let in_group = w.in_group.0;
     Walk {
         standing: stands(standing, kind),
+        section: kept(kind, section),
         segments: Segments(w.segments.0 + 1),
         messages: Messages(counted(kind, messages + 1, messages, messages)),
         groups: Groups(counted(kind, groups, groups + 1, groups)),
         in_message: Segments(counted(kind, 1, in_message, in_message)),
         in_group: Messages(counted(kind, in_group + 1, 0, in_group)),
+    }
+}
+
+// Where a section stands in a message.
+fn place_of(section: Section) -> u8
+    ensures { λ r. ⌜ r ≡ place section ⌝ }
+{
+    match section {
+        Section::None => 0,
+        Section::Detail => 1,
+        Section::Summary => 2,
+    }
+}
+
+// "each at most once in a message, D before S if both stand": the section that a UNS names comes after
+// the one that began last. No other segment is asked.
+pub fn marks(w: Walk, kind: Kind, section: Section) -> bool
+    ensures { λ r. ⌜ r ≡ marksBy w kind section ⌝ }
+{
+    let last = w.section;
+    match kind {
+        Kind::Uns => place_of(last) < place_of(section),
+        Kind::Unb => true,
+        Kind::Ung => true,
+        Kind::Unh => true,
+        Kind::Unt => true,
+        Kind::Une => true,
+        Kind::Unz => true,
+        Kind::User => true,
+    }
+}
+
+// Of the section that began last and the one that begins, if any, the later.
+fn later(last: Section, section: Section) -> Section
+    ensures { λ r. ⌜ r ≡ laterSection last section ⌝ }
+{
+    match section {
+        Section::None => last,
+        Section::Detail => Section::Detail,
+        Section::Summary => Section::Summary,
+    }
+}
+
+// The walk where this section begins; `None` where no section begins.
+pub fn begun(w: Walk, section: Section) -> Walk
+    ensures { λ r. ⌜ r ≡ begunBy w section ⌝ }
+{
+    let standing = w.standing;
+    let last = w.section;
+    Walk {
+        standing,
+        section: later(last, section),
+        segments: w.segments,
+        messages: w.messages,
+        groups: w.groups,
+        in_message: w.in_message,
+        in_group: w.in_group,
     }
 }
 

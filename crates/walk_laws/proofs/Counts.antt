@@ -9,6 +9,7 @@ use lib.ListN.{length}
 use Rattle.lists.specs.Lists.{if_then_else_, those, through}
 use Rattle.segments.specs.declared.Kind.{Kind}
 use Rattle.segments.specs.declared.Kind.the-variants.{Unb, Ung, Unh, Uns, Unt, Une, Unz, User}
+use Rattle.segments.specs.declared.Section.{Section}
 use Rattle.segments.specs.declared.Walk.{Walk}
 use Rattle.segments.specs.Kinds.{is}
 use Rattle.segments.specs.Order.{segmentsIn, messagesIn, groupsIn, segmentsSinceHeader, messagesSinceGroup, walkOver}
@@ -27,9 +28,9 @@ counts-step w past Unz e = omega arith
 counts-step w past User e = omega arith
 
 -- the walk over what passed has its counts
-pub counts-walk : (past : List Kind) → Counts (walkOver past) past
+pub counts-walk : (section : Section) (past : List Kind) → Counts (walkOver section past) past
 unfolding walkOver
-counts-walk past =
+counts-walk section past =
     record { segments-are = refl; messages-are = refl; groups-are = refl; in-message-are = refl; in-group-are = refl }
 
 -- ---- no counter is higher than the number of segments that passed
