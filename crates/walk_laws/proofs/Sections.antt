@@ -25,7 +25,7 @@ use Rattle.walk_laws.proofs.Walks.{stepped-over, begun-over}
 -- ---- one segment more
 
 -- the UNS segments of the message after a segment of a kind
-abbrev markersAfter : Kind → Segment → List Segment → List Segment
+abbrev pub markersAfter : Kind → Segment → List Segment → List Segment
 markersAfter Unb g markers = markers
 markersAfter Ung g markers = markers
 markersAfter Unh g markers = []
