@@ -10,7 +10,9 @@ use lib.ListN.{length, take, drop}
 use Rattle.lists.specs.Lists.{at}
 use Rattle.characters.specs.declared.Characters.{Characters}
 use Rattle.values.specs.Tokens.{Token, separator, Segment, start}
+use Rattle.values.specs.Trimming.{contentsOf}
 use Rattle.segments.specs.declared.Kind.{Kind}
+use Rattle.segments.specs.declared.Kind.the-variants.{Uns}
 use Rattle.segments.specs.Tags.{kindOf}
 
 -- ---- "Service characters"
@@ -108,6 +110,16 @@ Nearest kind past =
     × (past ≡ nearer ++ header ∷ farther)
     × (kindOf header ≡ kind)
     × ((g : Segment) → List·Memᴰ g nearer → kindOf g ≡ kind → ⊥)
+
+-- ---- change request 2026-03, "Section markers"
+
+-- of a UNS's contents: the first element is "a single component" of this one letter
+abbrev pub Marks : List (List (List ℕ)) → ℕ → Type 0
+Marks contents letter = at contents 1 ≡ some ((letter ∷ []) ∷ [])
+
+-- a UNS with this letter is among the segments
+abbrev pub Marked : List Segment → ℕ → Type 0
+Marked gs letter = (g : Segment) × List·Memᴰ g gs × (kindOf g ≡ Uns) × Marks (contentsOf g) letter
 
 -- ---- "Refusals by number"
 
