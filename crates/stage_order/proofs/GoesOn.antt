@@ -1,11 +1,11 @@
 -- The walk from its beginning over all segments answers as stage 9 does. Assumes nothing.
 use Prim.Native.Nat.{ℕ, _≤_, _<_}
-use mathlib.Core.Path.{_≡_, refl, sym, ap, _∙_}
-use mathlib.Core.Bool.{Bool, true, false}
+use mathlib.Core.Path.{_≡_, refl, sym, ap, ap₂, _∙_}
+use mathlib.Core.Bool.{Bool, true, false, _&&_}
 use mathlib.Core.List.{List, [], _∷_, map, reverseAux}
 use mathlib.Core.Option.{Option, none}
 use lib.ListN.{length}
-use Rattle.lists.specs.Lists.{if_then_else_, beyond}
+use Rattle.lists.specs.Lists.{if_then_else_, those, through, at, beyond, maybe}
 use Rattle.lists.proofs.Texts.{and-both, if-true, if-false}
 use Rattle.characters.specs.declared.Characters.{Characters}
 use Rattle.refusals.specs.declared.Fault.the-variants.{MisplacedSegment}
@@ -15,65 +15,87 @@ use Rattle.values.specs.Tokens.{Token, Segment, ends, segments, start, tokensAt
 use Rattle.scanner.specs.Scan.{segmentAt, Skips}
 use Rattle.scanner.proofs.Segments.{segments-end, segments-first, segment-start}
 use Rattle.segments.specs.declared.Kind.{Kind}
+use Rattle.segments.specs.declared.Section.{Section}
+use Rattle.segments.specs.declared.Section.the-variants.{None}
 use Rattle.segments.specs.declared.Walk.{Walk}
 use Rattle.segments.specs.Tags.{kindOf}
 use Rattle.segments.specs.Order.{allowed, isComplete, walkOver}
+use Rattle.control_elements.specs.Sections.{markersIn, sectionRule, lastSection}
 use Rattle.stage_walks.specs.Walks.{refuse, firstIn, orderedSegment, ordered}
-use Rattle.walk_laws.specs.Walking.{walked, allowedBy, steppedBy}
-use Rattle.walk_laws.proofs.Walks.{allowed-over, stepped-over, complete-over}
+use Rattle.walk_laws.specs.Walking.{walked, marked, allowedBy, sectionBegun, marksBy, steppedBy, begunBy}
+use Rattle.walk_laws.proofs.Walks.{allowed-over, complete-over}
+use Rattle.walk_laws.proofs.Sections.{marks-over, passed-over}
 use Rattle.stage_order.specs.declared.Ordered.{Ordered}
 use Rattle.stage_order.specs.declared.Ordered.the-variants.{Whole}
 use Rattle.stage_order.specs.Ordering.{orderedBy, orderedAs, misplacedAt, completed, goesOn}
 
+-- the walk over segments that passed
+abbrev walkAfter : List Segment → Walk
+walkAfter past = walkOver (lastSection past) (map kindOf past)
+
 -- what stage 9 answers where some segments passed and others are left
 abbrev answerFrom : ℕ → List Segment → List Segment → Ordered
 answerFrom size past gs =
-    orderedBy (walkOver (reverseAux (map kindOf gs) (map kindOf past)))
+    orderedBy (walkOver (lastSection (reverseAux gs past)) (reverseAux (map kindOf gs) (map kindOf past)))
     (orElse
     (firstIn orderedSegment past gs)
     (if isComplete (reverseAux (map kindOf gs) (map kindOf past)) then none else refuse MisplacedSegment size))
 
-ends-with : (size : ℕ) (past : List Kind)
-    → completed size (walkOver past) ≡ orderedBy (walkOver past) (if isComplete past then none else refuse MisplacedSegment size)
+ends-with : (size : ℕ) (section : Section) (past : List Kind)
+    → completed size (walkOver section past)
+    ≡ orderedBy (walkOver section past) (if isComplete past then none else refuse MisplacedSegment size)
 unfolding completed
-ends-with size past = ap (λ (b : Bool). if b then Whole (walkOver past) else misplacedAt size) (complete-over past) ∙ step (isComplete past)
+ends-with size section past =
+    ap (λ (b : Bool). if b then Whole (walkOver section past) else misplacedAt size) (complete-over section past) ∙ step (isComplete past)
   where
-    step : (b : Bool) → (if b then Whole (walkOver past) else misplacedAt size)
-        ≡ orderedBy (walkOver past) (if b then none else refuse MisplacedSegment size)
+    step : (b : Bool) → (if b then Whole (walkOver section past) else misplacedAt size)
+        ≡ orderedBy (walkOver section past) (if b then none else refuse MisplacedSegment size)
     step true = refl
     step false = refl
 
 -- the walk over what is left answers as stage 9 does from there on
-goes-on : (size : ℕ) (past gs : List Segment) → walked (map kindOf past) ≡ true
-    → goesOn size (walkOver (map kindOf past)) gs ≡ answerFrom size past gs
-unfolding goesOn firstIn orderedSegment orElse walked
-goes-on size past [] h = ends-with size (map kindOf past)
-goes-on size past (g ∷ gs) h =
-    ap
-    (λ (b : Bool). if b then goesOn size (steppedBy (walkOver (map kindOf past)) (kindOf g)) gs else misplacedAt (start g))
-    (allowed-over (map kindOf past) (kindOf g))
-    ∙ step (allowed (map kindOf past) (kindOf g)) refl (goes-on size (g ∷ past) gs)
+goes-on : (size : ℕ) (past gs : List Segment) → walked (map kindOf past) ≡ true → marked past ≡ true
+    → goesOn size (walkAfter past) gs ≡ answerFrom size past gs
+unfolding goesOn firstIn orderedSegment orElse walked marked
+goes-on size past [] h m = ends-with size (lastSection past) (map kindOf past)
+goes-on size past (g ∷ gs) h m =
+    ap₂ passing (allowed-over (lastSection past) (map kindOf past) (kindOf g)) (marks-over past (map kindOf past) g m)
+    ∙ step fits marks refl refl (goes-on size (g ∷ past) gs)
   where
+    fits : Bool
+    fits = allowed (map kindOf past) (kindOf g)
+
+    marks : Bool
+    marks = sectionRule past g
+
+    next : Walk
+    next = begunBy (steppedBy (walkAfter past) (kindOf g)) (sectionBegun (kindOf g) g)
+
+    -- the answer, by what the two tests say
+    passing : Bool → Bool → Ordered
+    passing a b = if a then (if b then goesOn size next gs else misplacedAt (start g)) else misplacedAt (start g)
+
     last : Option Refusal
     last =
         if isComplete (reverseAux (map kindOf gs) (map kindOf (g ∷ past))) then none else refuse MisplacedSegment size
 
-    step : (b : Bool) → allowed (map kindOf past) (kindOf g) ≡ b
-        → (walked (map kindOf (g ∷ past)) ≡ true → goesOn size (walkOver (map kindOf (g ∷ past))) gs ≡ answerFrom size (g ∷ past) gs)
-        → (if b then goesOn size (steppedBy (walkOver (map kindOf past)) (kindOf g)) gs else misplacedAt (start g))
-        ≡ orderedBy (walkOver (reverseAux (map kindOf gs) (map kindOf (g ∷ past))))
+    step : (a b : Bool) → fits ≡ a → marks ≡ b
+        → (walked (map kindOf (g ∷ past)) ≡ true → marked (g ∷ past) ≡ true → goesOn size (walkAfter (g ∷ past)) gs ≡ answerFrom size (g ∷ past) gs)
+        → passing a b
+        ≡ orderedBy (walkOver (lastSection (reverseAux gs (g ∷ past))) (reverseAux (map kindOf gs) (map kindOf (g ∷ past))))
         (orElse
-        (orElse (if b then none else refuse MisplacedSegment (start g)) (firstIn orderedSegment (g ∷ past) gs))
+        (orElse (if a && b then none else refuse MisplacedSegment (start g)) (firstIn orderedSegment (g ∷ past) gs))
         last)
-    step true e rest =
-        ap (λ (w : Walk). goesOn size w gs) (stepped-over (map kindOf past) (kindOf g) h e)
-        ∙ rest (and-both (allowed (map kindOf past) (kindOf g)) (walked (map kindOf past)) e h)
-    step false e rest = refl
+    step true true a b rest =
+        ap (λ (w : Walk). goesOn size w gs) (passed-over past g h a b)
+        ∙ rest (and-both fits (walked (map kindOf past)) a h) (and-both marks (marked past) b m)
+    step true false a b rest = refl
+    step false b a m rest = refl
 
 -- from the beginning it answers as stage 9 does
-pub goes-over : (size : ℕ) (ts : List Token) → goesOn size (walkOver []) (segments ts) ≡ orderedAs size ts
-unfolding orderedAs ordered walked
-goes-over size ts = goes-on size [] (segments ts) refl
+pub goes-over : (size : ℕ) (ts : List Token) → goesOn size (walkOver None []) (segments ts) ≡ orderedAs size ts
+unfolding orderedAs ordered walked marked lastSection markersIn through those at maybe
+goes-over size ts = goes-on size [] (segments ts) refl refl
 
 -- ---- the walk at a place of the input
 
@@ -89,31 +111,51 @@ module _ (c : Characters) (s : List ℕ) where
     goes-end h = ap (goesOn (length s) walk) (segments-end c s at h)
 
     module _ {kind : Kind} (k : kind ≡ kindOf (segmentAt c s at)) (h : at < length s) where
-      -- elsewhere it goes by the segment that begins there
-      goes-first : goesAt walk at
-          ≡ (if allowedBy walk kind
-          then goesOn (length s) (steppedBy walk kind) (segments (beyond (ends 0) (tokensAt c s at)))
-          else misplacedAt at)
+      -- where it goes by the segment that begins there, with the section that it begins
+      abbrev passing : Kind → Section → ℕ → Ordered
+      passing of section place =
+          if allowedBy walk of
+          then (if marksBy walk of section
+          then goesOn (length s) (begunBy (steppedBy walk of) section) (segments (beyond (ends 0) (tokensAt c s at)))
+          else misplacedAt place)
+          else misplacedAt place
+
+      abbrev begins : Section
+      begins = sectionBegun kind (segmentAt c s at)
+
+      -- elsewhere it goes by that segment
+      goes-first : goesAt walk at ≡ passing kind begins at
       unfolding goesOn
       goes-first =
           ap (goesOn (length s) walk) (segments-first c s at h)
-          ∙ λ i. if allowedBy walk (k′ i)
-          then goesOn (length s) (steppedBy walk (k′ i)) (segments (beyond (ends 0) (tokensAt c s at)))
-          else misplacedAt (segment-start c s at h i)
-        where
-          k′ : kindOf (segmentAt c s at) ≡ kind
-          k′ = sym k
+          ∙ λ i. passing (sym k i) (sectionBegun (sym k i) (segmentAt c s at)) (segment-start c s at h i)
 
-      -- which is misplaced where it is not allowed
+      rest : Ordered
+      rest = goesOn (length s) (begunBy (steppedBy walk kind) begins) (segments (beyond (ends 0) (tokensAt c s at)))
+
+      -- which is misplaced where it is not allowed,
       pub goes-wrong : allowedBy walk kind ≡ false → goesAt walk at ≡ misplacedAt at
+      unfolding rest
       goes-wrong e =
-          goes-first
-          ∙ if-false (allowedBy walk kind) (goesOn (length s) (steppedBy walk kind) (segments (beyond (ends 0) (tokensAt c s at)))) (misplacedAt at) e
+          goes-first ∙ if-false (allowedBy walk kind) (if marksBy walk kind begins then rest else misplacedAt at) (misplacedAt at) e
 
-      -- and is passed where it is
-      pub goes-next : {after : Walk} (next : ℕ) → allowedBy walk kind ≡ true → after ≡ steppedBy walk kind
-          → Skips (ends 0) c s at next → goesAt walk at ≡ goesAt after next
-      goes-next next e w n =
-          goes-first
-          ∙ if-true (allowedBy walk kind) (goesOn (length s) (steppedBy walk kind) (segments (beyond (ends 0) (tokensAt c s at)))) (misplacedAt at) e
-          ∙ λ i. goesOn (length s) (sym w i) (segments (sym (n .0) i))
+      module _ {section : Section} (b : section ≡ begins) (e : allowedBy walk kind ≡ true) where
+        goes-allowed : goesAt walk at ≡ (if marksBy walk kind section then rest else misplacedAt at)
+        unfolding rest
+        goes-allowed =
+            goes-first
+            ∙ if-true (allowedBy walk kind) (if marksBy walk kind begins then rest else misplacedAt at) (misplacedAt at) e
+            ∙ ap (λ (next : Section). if marksBy walk kind next then rest else misplacedAt at) (sym b)
+
+        -- or where it breaks the rule of sections,
+        pub goes-unmarked : marksBy walk kind section ≡ false → goesAt walk at ≡ misplacedAt at
+        goes-unmarked m = goes-allowed ∙ if-false (marksBy walk kind section) rest (misplacedAt at) m
+
+        -- and is passed where neither is so
+        pub goes-next : {stepped after : Walk} (next : ℕ) → marksBy walk kind section ≡ true → stepped ≡ steppedBy walk kind
+            → after ≡ begunBy stepped section → Skips (ends 0) c s at next → goesAt walk at ≡ goesAt after next
+        unfolding rest
+        goes-next next m w a n =
+            goes-allowed
+            ∙ if-true (marksBy walk kind section) rest (misplacedAt at) m
+            ∙ λ i. goesOn (length s) (sym (a ∙ ap₂ begunBy w b) i) (segments (sym (n .0) i))

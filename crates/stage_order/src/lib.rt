@@ -25,6 +25,7 @@ use walk::allowed;
 use walk::beginning;
 use walk::begun;
 use walk::is_complete;
+use walk::is_marker;
 use walk::marks;
 use walk::stepped;
 
@@ -73,16 +74,10 @@ fn section_named(s: &[u8], c: Characters, from: usize) -> Section
 fn section_at(s: &[u8], c: Characters, at: usize, kind: Kind) -> Section
     ensures { λ r. ⌜ r ≡ sectionBegun kind (segmentAt c (now (s .entry)) at) ⌝ }
 {
-    match kind {
-        Kind::Uns => section_named(s, c, element_at(s, c, at, 1)),
-        Kind::Unb => Section::None,
-        Kind::Ung => Section::None,
-        Kind::Unh => Section::None,
-        Kind::Unt => Section::None,
-        Kind::Une => Section::None,
-        Kind::Unz => Section::None,
-        Kind::User => Section::None,
+    if is_marker(kind) {
+        return section_named(s, c, element_at(s, c, at, 1));
     }
+    Section::None
 }
 
 pub fn check(s: &[u8], c: Characters, start: usize) -> Ordered

@@ -9,7 +9,7 @@ ghost use mathlib.Core.List.{[]};
 ghost use Rattle.segments.specs.declared.Section.the-variants.{None};
 ghost use Rattle.segments.specs.Order.{walkOver};
 ghost use Rattle.control_elements.specs.Sections.{place};
-ghost use Rattle.walk_laws.specs.Walking.{Within, allowedBefore, allowedBetween, allowedInGroup, allowedInMessage, atPlace, allowedBy, messageOpened, messageClosed, standsAfter, afterKind, sectionKept, steppedBy, marksBy, laterSection, begunBy, isAfter};
+ghost use Rattle.walk_laws.specs.Walking.{Within, allowedBefore, allowedBetween, allowedInGroup, allowedInMessage, atPlace, allowedBy, messageOpened, messageClosed, standsAfter, afterKind, sectionKept, steppedBy, follows, isMarker, marksBy, laterSection, begunBy, isAfter};
 ghost use Rattle.refusals.specs.Limits.{mostBytes};
 use segments::Groups;
 use segments::Kind;
@@ -232,21 +232,38 @@ fn place_of(section: Section) -> u8
 }
 
 // "each at most once in a message, D before S if both stand": the section that a UNS names comes after
-// the one that began last. No other segment is asked.
+// the one that began last.
+fn may_follow(last: Section, section: Section) -> bool
+    ensures { λ r. ⌜ r ≡ follows last section ⌝ }
+{
+    place_of(last) < place_of(section)
+}
+
+// Only a UNS begins a section.
+pub fn is_marker(kind: Kind) -> bool
+    ensures { λ r. ⌜ r ≡ isMarker kind ⌝ }
+{
+    match kind {
+        Kind::Uns => true,
+        Kind::Unb => false,
+        Kind::Ung => false,
+        Kind::Unh => false,
+        Kind::Unt => false,
+        Kind::Une => false,
+        Kind::Unz => false,
+        Kind::User => false,
+    }
+}
+
+// A segment of this kind that begins this section keeps the rule. Only a UNS is asked.
 pub fn marks(w: Walk, kind: Kind, section: Section) -> bool
     ensures { λ r. ⌜ r ≡ marksBy w kind section ⌝ }
 {
-    let last = w.section;
-    match kind {
-        Kind::Uns => place_of(last) < place_of(section),
-        Kind::Unb => true,
-        Kind::Ung => true,
-        Kind::Unh => true,
-        Kind::Unt => true,
-        Kind::Une => true,
-        Kind::Unz => true,
-        Kind::User => true,
+    if is_marker(kind) {
+        let last = w.section;
+        return may_follow(last, section);
     }
+    true
 }
 
 // Of the section that began last and the one that begins, if any, the later.
@@ -269,11 +286,11 @@ pub fn begun(w: Walk, section: Section) -> Walk
     Walk {
         standing,
         section: later(last, section),
-        segments: w.segments,
-        messages: w.messages,
-        groups: w.groups,
-        in_message: w.in_message,
-        in_group: w.in_group,
+        segments: Segments(w.segments.0),
+        messages: Messages(w.messages.0),
+        groups: Groups(w.groups.0),
+        in_message: Segments(w.in_message.0),
+        in_group: Messages(w.in_group.0),
     }
 }
 

@@ -13,7 +13,7 @@ use Rattle.segments.specs.declared.Section.{Section}
 use Rattle.segments.specs.declared.Walk.{Walk}
 use Rattle.segments.specs.Kinds.{is}
 use Rattle.segments.specs.Order.{segmentsIn, messagesIn, groupsIn, segmentsSinceHeader, messagesSinceGroup, walkOver}
-use Rattle.walk_laws.specs.Walking.{Counts, Within, steppedBy}
+use Rattle.walk_laws.specs.Walking.{Counts, Within, steppedBy, begunBy}
 
 -- one segment more: the counters are those of what passed with it
 pub counts-step : (w : Walk) (past : List Kind) (kind : Kind) → Counts w past → Counts (steppedBy w kind) (kind ∷ past)
@@ -82,3 +82,7 @@ within-step w Unt h e = omega arith
 within-step w Une h e = omega arith
 within-step w Unz h e = omega arith
 within-step w User h e = omega arith
+
+-- a section that begins raises none
+pub within-begun : (w : Walk) (section : Section) {n : ℕ} → Within n w → Within n (begunBy w section)
+within-begun w section e = omega arith

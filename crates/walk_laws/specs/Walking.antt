@@ -5,6 +5,7 @@ use mathlib.Core.Path.{_≡_}
 use mathlib.Core.Bool.{Bool, true, false, _&&_, _||_}
 use mathlib.Core.List.{List, [], _∷_}
 use lib.Dec.{eqb, ltb}
+use Rattle.lists.specs.Lists.{if_then_else_}
 use Rattle.values.specs.Tokens.{Segment}
 use Rattle.segments.specs.declared.Kind.{Kind}
 use Rattle.segments.specs.declared.Kind.the-variants.{Unb, Ung, Unh, Uns, Unt, Une, Unz, User}
@@ -120,27 +121,24 @@ allowedBy w kind = allowedFrom (w .standing) w kind
 abbrev pub follows : Section → Section → Bool
 follows last section = ltb (place last) (place section)
 
--- the section that a segment of a kind begins, which only a UNS does
-abbrev pub sectionBegun : Kind → Segment → Section
-sectionBegun Unb g = None
-sectionBegun Ung g = None
-sectionBegun Unh g = None
-sectionBegun Uns g = sectionOf g
-sectionBegun Unt g = None
-sectionBegun Une g = None
-sectionBegun Unz g = None
-sectionBegun User g = None
+-- only a UNS begins one
+abbrev pub isMarker : Kind → Bool
+isMarker Unb = false
+isMarker Ung = false
+isMarker Unh = false
+isMarker Uns = true
+isMarker Unt = false
+isMarker Une = false
+isMarker Unz = false
+isMarker User = false
 
--- and only a UNS is asked
+-- the section that a segment of a kind begins
+abbrev pub sectionBegun : Kind → Segment → Section
+sectionBegun kind g = if isMarker kind then sectionOf g else None
+
+-- a segment of a kind that begins it keeps the rule
 abbrev pub marksBy : Walk → Kind → Section → Bool
-marksBy w Unb section = true
-marksBy w Ung section = true
-marksBy w Unh section = true
-marksBy w Uns section = follows (w .section) section
-marksBy w Unt section = true
-marksBy w Une section = true
-marksBy w Unz section = true
-marksBy w User section = true
+marksBy w kind section = if isMarker kind then follows (w .section) section else true
 
 -- ---- the walk after a segment of a kind
 
