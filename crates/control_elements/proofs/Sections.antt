@@ -114,9 +114,9 @@ module _ (past : List Segment) (n : Nearest Unh past) where
       rw markers-are
       (says-as (says-any (λ g. isSection section (sectionOf g)) named (those (λ g. is Uns (kindOf g)) (n .0 ++ n .1 ∷ [])))
       (λ h.
-          let m = says-those (λ g. is Uns (kindOf g)) (n .0 ++ n .1 ∷ []) (h .0) .0 (h .1) in
-          let k : kindOf (h .0) ≡ Uns = is-says Uns (kindOf (h .0)) .0 (m .1) in
-          (h .0, ⊎-elim (λ q. q) (λ q. absurd (header-other (ap kindOf (sym (List·Memᴰ·eq-of-singleton q)) ∙ k))) (List·Memᴰ·append-cases (n .0) (m .0)), k, h .2))
+      let m = says-those (λ g. is Uns (kindOf g)) (n .0 ++ n .1 ∷ []) (h .0) .0 (h .1) in
+      let k : kindOf (h .0) ≡ Uns = is-says Uns (kindOf (h .0)) .0 (m .1) in
+      (h .0, ⊎-elim (λ q. q) (λ q. absurd (header-other (ap kindOf (sym (List·Memᴰ·eq-of-singleton q)) ∙ k))) (List·Memᴰ·append-cases (n .0) (m .0)), k, h .2))
       (λ h. (
         h .0,
         says-those (λ g. is Uns (kindOf g)) (n .0 ++ n .1 ∷ []) (h .0) .1

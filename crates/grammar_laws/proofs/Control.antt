@@ -123,8 +123,7 @@ module _ (past : List Segment) (g : Segment) where
           says = says-iff (kindOf g) .0 (not-false (controlRule g) (h .1), h .2, h .3);
         },
     λ h.
-        let says = says-iff (kindOf g) .1 (h .says) in
-        (
+        let says = says-iff (kindOf g) .1 (h .says) in (
           ap not (and-both (allowed (kinds past) (kindOf g)) (sectionRule past g) (h .place) (h .marks)),
           ap not (says .0),
           says .1,

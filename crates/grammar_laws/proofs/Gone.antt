@@ -79,17 +79,17 @@ module _ (asked : Asking) (Says : Saying) (rules : Rules asked Says) where
         let rest = and-right (isInner g) (all isInner gs) i in
         ⊎-elim
         (λ k.
-            let e = is-eq User (kindOf g) k in
-            inner (g ∷ past) gs before rest (begun-user g past e ∙ b)
-            (subst (λ (l : List Section). Sections (before ++ l)) (sections-user g gs e) t)
-            (step past g h e (holds (kinds past) User user) (unmarked past g e refl) (rules .user past g)))
+        let e = is-eq User (kindOf g) k in
+        inner (g ∷ past) gs before rest (begun-user g past e ∙ b)
+        (subst (λ (l : List Section). Sections (before ++ l)) (sections-user g gs e) t)
+        (step past g h e (holds (kinds past) User user) (unmarked past g e refl) (rules .user past g)))
         (λ k.
-            let e = is-eq Uns (kindOf g) k in
-            let those-left = subst (λ (l : List Section). Sections (before ++ l)) (sections-marker g gs e) t in
-            inner (g ∷ past) gs (before ++ sectionOf g ∷ []) rest
-            (begun-marker g past e ∙ ap (λ (l : List Section). sectionOf g ∷ l) b ∙ sym (▸-append [] before (sectionOf g ∷ [])))
-            (subst Sections (sym (append-assoc before (sectionOf g ∷ []) (sectionsIn gs))) those-left)
-            (step past g h e (holds (kinds past) Uns section) (marker-next past g before (sectionsIn gs) e b those-left) (rules .section past g)))
+        let e = is-eq Uns (kindOf g) k in
+        let those-left = subst (λ (l : List Section). Sections (before ++ l)) (sections-marker g gs e) t in
+        inner (g ∷ past) gs (before ++ sectionOf g ∷ []) rest
+        (begun-marker g past e ∙ ap (λ (l : List Section). sectionOf g ∷ l) b ∙ sym (▸-append [] before (sectionOf g ∷ [])))
+        (subst Sections (sym (append-assoc before (sectionOf g ∷ []) (sectionsIn gs))) those-left)
+        (step past g h e (holds (kinds past) Uns section) (marker-next past g before (sectionsIn gs) e b those-left) (rules .section past g)))
         (or-cases (is User (kindOf g)) (is Uns (kindOf g)) (and-left (isInner g) (all isInner gs) i))
 
     message : (past gs : List Segment) → Message asked gs → Allowed (kinds past) s Unh

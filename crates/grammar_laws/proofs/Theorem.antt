@@ -72,8 +72,7 @@ module _ (gs : List Segment) where
           h .1,
         ),
     λ f.
-        let walk = walked ordering gs .1 f in
-        (
+        let walk = walked ordering gs .1 f in (
           clear-each misplaced [] gs
               (each-map (λ past g passes. ap not (and-both (allowed (kinds past) (kindOf g)) (sectionRule past g) (passes .place) (passes .marks)))
               (walk .0)),
