@@ -1,12 +1,12 @@
 -- The walk from its beginning over all segments answers as stage 9 does. Assumes nothing.
 use Prim.Native.Nat.{ℕ, _≤_, _<_}
-use mathlib.Core.Path.{_≡_, refl, sym, ap, ap₂, _∙_}
+use mathlib.Core.Path.{_≡_, refl, sym, ap, _∙_}
 use mathlib.Core.Bool.{Bool, true, false, _&&_}
 use mathlib.Core.List.{List, [], _∷_, map, reverseAux}
 use mathlib.Core.Option.{Option, none}
 use lib.ListN.{length}
 use Rattle.lists.specs.Lists.{if_then_else_, those, through, at, beyond, maybe}
-use Rattle.lists.proofs.Texts.{and-both, if-true, if-false}
+use Rattle.lists.proofs.Texts.{and-left, and-right, and-both, if-true, if-false}
 use Rattle.characters.specs.declared.Characters.{Characters}
 use Rattle.refusals.specs.declared.Fault.the-variants.{MisplacedSegment}
 use Rattle.refusals.specs.declared.Refusal.{Refusal}
@@ -22,9 +22,9 @@ use Rattle.segments.specs.Tags.{kindOf}
 use Rattle.segments.specs.Order.{allowed, isComplete, walkOver}
 use Rattle.control_elements.specs.Sections.{markersIn, sectionRule, lastSection}
 use Rattle.stage_walks.specs.Walks.{refuse, firstIn, orderedSegment, ordered}
-use Rattle.walk_laws.specs.Walking.{walked, marked, allowedBy, sectionBegun, marksBy, steppedBy, begunBy}
-use Rattle.walk_laws.proofs.Walks.{allowed-over, complete-over}
-use Rattle.walk_laws.proofs.Sections.{marks-over, passed-over}
+use Rattle.walk_laws.specs.Walking.{walked, marked, sectionBegun, fitsBy, steppedBy, begunBy}
+use Rattle.walk_laws.proofs.Walks.{complete-over}
+use Rattle.walk_laws.proofs.Sections.{fits-over, passed-over}
 use Rattle.stage_order.specs.declared.Ordered.{Ordered}
 use Rattle.stage_order.specs.declared.Ordered.the-variants.{Whole}
 use Rattle.stage_order.specs.Ordering.{orderedBy, orderedAs, misplacedAt, completed, goesOn}
@@ -59,8 +59,8 @@ goes-on : (size : ℕ) (past gs : List Segment) → walked (map kindOf past) ≡
 unfolding goesOn firstIn orderedSegment orElse walked marked
 goes-on size past [] h m = ends-with size (lastSection past) (map kindOf past)
 goes-on size past (g ∷ gs) h m =
-    ap₂ passing (allowed-over (lastSection past) (map kindOf past) (kindOf g)) (marks-over past (map kindOf past) g m)
-    ∙ step fits marks refl refl (goes-on size (g ∷ past) gs)
+    ap (λ (b : Bool). if b then goesOn size next gs else misplacedAt (start g)) (fits-over past g m)
+    ∙ step (fits && marks) refl (goes-on size (g ∷ past) gs)
   where
     fits : Bool
     fits = allowed (map kindOf past) (kindOf g)
@@ -71,26 +71,23 @@ goes-on size past (g ∷ gs) h m =
     next : Walk
     next = begunBy (steppedBy (walkAfter past) (kindOf g)) (sectionBegun (kindOf g) g)
 
-    -- the answer, by what the two tests say
-    passing : Bool → Bool → Ordered
-    passing a b = if a then (if b then goesOn size next gs else misplacedAt (start g)) else misplacedAt (start g)
-
     last : Option Refusal
     last =
         if isComplete (reverseAux (map kindOf gs) (map kindOf (g ∷ past))) then none else refuse MisplacedSegment size
 
-    step : (a b : Bool) → fits ≡ a → marks ≡ b
+    step : (b : Bool) → (fits && marks) ≡ b
         → (walked (map kindOf (g ∷ past)) ≡ true → marked (g ∷ past) ≡ true → goesOn size (walkAfter (g ∷ past)) gs ≡ answerFrom size (g ∷ past) gs)
-        → passing a b
+        → (if b then goesOn size next gs else misplacedAt (start g))
         ≡ orderedBy (walkOver (lastSection (reverseAux gs (g ∷ past))) (reverseAux (map kindOf gs) (map kindOf (g ∷ past))))
         (orElse
-        (orElse (if a && b then none else refuse MisplacedSegment (start g)) (firstIn orderedSegment (g ∷ past) gs))
+        (orElse (if b then none else refuse MisplacedSegment (start g)) (firstIn orderedSegment (g ∷ past) gs))
         last)
-    step true true a b rest =
+    step true e rest =
+        let a = and-left fits marks e in
+        let b = and-right fits marks e in
         ap (λ (w : Walk). goesOn size w gs) (passed-over past g h a b)
         ∙ rest (and-both fits (walked (map kindOf past)) a h) (and-both marks (marked past) b m)
-    step true false a b rest = refl
-    step false b a m rest = refl
+    step false e rest = refl
 
 -- from the beginning it answers as stage 9 does
 pub goes-over : (size : ℕ) (ts : List Token) → goesOn size (walkOver None []) (segments ts) ≡ orderedAs size ts
@@ -110,52 +107,30 @@ module _ (c : Characters) (s : List ℕ) where
     unfolding goesOn
     goes-end h = ap (goesOn (length s) walk) (segments-end c s at h)
 
-    module _ {kind : Kind} (k : kind ≡ kindOf (segmentAt c s at)) (h : at < length s) where
-      -- where it goes by the segment that begins there, with the section that it begins
-      abbrev passing : Kind → Section → ℕ → Ordered
-      passing of section place =
-          if allowedBy walk of
-          then (if marksBy walk of section
-          then goesOn (length s) (begunBy (steppedBy walk of) section) (segments (beyond (ends 0) (tokensAt c s at)))
-          else misplacedAt place)
-          else misplacedAt place
+    module _ {kind : Kind} (k : kind ≡ kindOf (segmentAt c s at)) {section : Section} (b : section ≡ sectionBegun kind (segmentAt c s at))
+        (h : at < length s) where
+      rest : Ordered
+      rest = goesOn (length s) (begunBy (steppedBy walk kind) section) (segments (beyond (ends 0) (tokensAt c s at)))
 
-      abbrev begins : Section
-      begins = sectionBegun kind (segmentAt c s at)
-
-      -- elsewhere it goes by that segment
-      goes-first : goesAt walk at ≡ passing kind begins at
-      unfolding goesOn
+      -- elsewhere it goes by the segment that begins there
+      goes-first : goesAt walk at ≡ (if fitsBy walk kind section then rest else misplacedAt at)
+      unfolding goesOn rest
       goes-first =
           ap (goesOn (length s) walk) (segments-first c s at h)
-          ∙ λ i. passing (sym k i) (sectionBegun (sym k i) (segmentAt c s at)) (segment-start c s at h i)
+          ∙ (λ i. if fitsBy walk (sym k i) (sectionBegun (sym k i) (segmentAt c s at))
+          then goesOn (length s) (begunBy (steppedBy walk (sym k i)) (sectionBegun (sym k i) (segmentAt c s at))) (segments (beyond (ends 0) (tokensAt c s at)))
+          else misplacedAt (segment-start c s at h i))
+          ∙ ap (λ (next : Section). if fitsBy walk kind next then goesOn (length s) (begunBy (steppedBy walk kind) next) (segments (beyond (ends 0) (tokensAt c s at))) else misplacedAt at) (sym b)
 
-      rest : Ordered
-      rest = goesOn (length s) (begunBy (steppedBy walk kind) begins) (segments (beyond (ends 0) (tokensAt c s at)))
+      -- which is misplaced where it does not fit
+      pub goes-wrong : fitsBy walk kind section ≡ false → goesAt walk at ≡ misplacedAt at
+      goes-wrong e = goes-first ∙ if-false (fitsBy walk kind section) rest (misplacedAt at) e
 
-      -- which is misplaced where it is not allowed,
-      pub goes-wrong : allowedBy walk kind ≡ false → goesAt walk at ≡ misplacedAt at
+      -- and is passed where it does
+      pub goes-next : {stepped after : Walk} (next : ℕ) → fitsBy walk kind section ≡ true → stepped ≡ steppedBy walk kind
+          → after ≡ begunBy stepped section → Skips (ends 0) c s at next → goesAt walk at ≡ goesAt after next
       unfolding rest
-      goes-wrong e =
-          goes-first ∙ if-false (allowedBy walk kind) (if marksBy walk kind begins then rest else misplacedAt at) (misplacedAt at) e
-
-      module _ {section : Section} (b : section ≡ begins) (e : allowedBy walk kind ≡ true) where
-        goes-allowed : goesAt walk at ≡ (if marksBy walk kind section then rest else misplacedAt at)
-        unfolding rest
-        goes-allowed =
-            goes-first
-            ∙ if-true (allowedBy walk kind) (if marksBy walk kind begins then rest else misplacedAt at) (misplacedAt at) e
-            ∙ ap (λ (next : Section). if marksBy walk kind next then rest else misplacedAt at) (sym b)
-
-        -- or where it breaks the rule of sections,
-        pub goes-unmarked : marksBy walk kind section ≡ false → goesAt walk at ≡ misplacedAt at
-        goes-unmarked m = goes-allowed ∙ if-false (marksBy walk kind section) rest (misplacedAt at) m
-
-        -- and is passed where neither is so
-        pub goes-next : {stepped after : Walk} (next : ℕ) → marksBy walk kind section ≡ true → stepped ≡ steppedBy walk kind
-            → after ≡ begunBy stepped section → Skips (ends 0) c s at next → goesAt walk at ≡ goesAt after next
-        unfolding rest
-        goes-next next m w a n =
-            goes-allowed
-            ∙ if-true (marksBy walk kind section) rest (misplacedAt at) m
-            ∙ λ i. goesOn (length s) (sym (a ∙ ap₂ begunBy w b) i) (segments (sym (n .0) i))
+      goes-next next e w a n =
+          goes-first
+          ∙ if-true (fitsBy walk kind section) rest (misplacedAt at) e
+          ∙ λ i. goesOn (length s) (sym (a ∙ ap (λ (v : Walk). begunBy v section) w) i) (segments (sym (n .0) i))

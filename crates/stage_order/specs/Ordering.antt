@@ -16,7 +16,7 @@ use Rattle.control_elements.specs.Sections.{sectionNamed, lastSection}
 use Rattle.stage_walks.specs.Walks.{ordered}
 use Rattle.elements.specs.Values.{valueIn}
 use Rattle.trimmed_values.specs.Trimmed.{isAlone}
-use Rattle.walk_laws.specs.Walking.{allowedBy, sectionBegun, marksBy, steppedBy, begunBy, isAfter}
+use Rattle.walk_laws.specs.Walking.{sectionBegun, fitsBy, steppedBy, begunBy, isAfter}
 use Rattle.stage_order.specs.declared.Ordered.{Ordered}
 use Rattle.stage_order.specs.declared.Ordered.the-variants.{Whole, Failed}
 
@@ -50,6 +50,4 @@ unfoldable pub goesOn : ℕ → Walk → List Segment → Ordered
 goesOn size walk [] = completed size walk
 goesOn size walk (g ∷ gs) =
     let section = sectionBegun (kindOf g) g in
-    if allowedBy walk (kindOf g)
-    then (if marksBy walk (kindOf g) section then goesOn size (begunBy (steppedBy walk (kindOf g)) section) gs else misplacedAt (start g))
-    else misplacedAt (start g)
+    if fitsBy walk (kindOf g) section then goesOn size (begunBy (steppedBy walk (kindOf g)) section) gs else misplacedAt (start g)

@@ -21,12 +21,11 @@ use segments::Walk;
 use tags::kind_at;
 use trimmed_values::is_alone;
 use trimmed_values::is_text;
-use walk::allowed;
 use walk::beginning;
 use walk::begun;
+use walk::fits;
 use walk::is_complete;
 use walk::is_marker;
-use walk::marks;
 use walk::stepped;
 
 // The walk over the whole, or the refusal that stage 9 answers.
@@ -88,11 +87,8 @@ pub fn check(s: &[u8], c: Characters, start: usize) -> Ordered
     let mut at = start;
     while at < s.len() {
         let kind = kind_at(s, c, at);
-        if !allowed(walk, kind) {
-            return misplaced(at);
-        }
         let section = section_at(s, c, at, kind);
-        if !marks(walk, kind, section) {
+        if !fits(walk, kind, section) {
             return misplaced(at);
         }
         walk = begun(stepped(walk, kind), section);

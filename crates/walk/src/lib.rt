@@ -1,7 +1,7 @@
 // One step of the walk over the segments (paper 01, "Order of segments"; change request 2026-03): the
-// walk before the first segment, whether a segment of a kind is allowed where the walk stands, whether
-// the section that a UNS names may begin there, the walk after it, and whether the walk has come to the
-// end of an interchange. Each answers from the walk alone; that this is the answer of `segments` and
+// walk before the first segment, whether a segment fits where the walk stands, by its kind and the
+// section that it begins, the walk after it, and whether the walk has come to the end of an interchange.
+// Each answers from the walk alone; that this is the answer of `segments` and
 // `control_elements` for all that passed is said in `walk_laws`. Going through the segments of an input
 // is left to `stage_order`.
 ghost use mathlib.Core.Path.{_≡_};
@@ -9,7 +9,7 @@ ghost use mathlib.Core.List.{[]};
 ghost use Rattle.segments.specs.declared.Section.the-variants.{None};
 ghost use Rattle.segments.specs.Order.{walkOver};
 ghost use Rattle.control_elements.specs.Sections.{place};
-ghost use Rattle.walk_laws.specs.Walking.{Within, allowedBefore, allowedBetween, allowedInGroup, allowedInMessage, atPlace, allowedBy, messageOpened, messageClosed, standsAfter, afterKind, sectionKept, steppedBy, follows, isMarker, marksBy, laterSection, begunBy, isAfter};
+ghost use Rattle.walk_laws.specs.Walking.{Within, allowedBefore, allowedBetween, allowedInGroup, allowedInMessage, atPlace, allowedBy, messageOpened, messageClosed, standsAfter, afterKind, sectionKept, steppedBy, follows, isMarker, marksBy, fitsBy, laterSection, begunBy, isAfter};
 ghost use Rattle.refusals.specs.Limits.{mostBytes};
 use segments::Groups;
 use segments::Kind;
@@ -113,7 +113,7 @@ fn at_place(standing: Standing, before: bool, between: bool, group: bool, messag
 }
 
 // A segment of this kind is allowed where the walk stands.
-pub fn allowed(w: Walk, kind: Kind) -> bool
+fn allowed(w: Walk, kind: Kind) -> bool
     ensures { λ r. ⌜ r ≡ allowedBy w kind ⌝ }
 {
     let standing = w.standing;
@@ -256,7 +256,7 @@ pub fn is_marker(kind: Kind) -> bool
 }
 
 // A segment of this kind that begins this section keeps the rule. Only a UNS is asked.
-pub fn marks(w: Walk, kind: Kind, section: Section) -> bool
+fn marks(w: Walk, kind: Kind, section: Section) -> bool
     ensures { λ r. ⌜ r ≡ marksBy w kind section ⌝ }
 {
     if is_marker(kind) {
@@ -264,6 +264,17 @@ pub fn marks(w: Walk, kind: Kind, section: Section) -> bool
         return may_follow(last, section);
     }
     true
+}
+
+// A segment of this kind, which begins this section, fits where the walk stands: it is allowed there and
+// keeps the rule of sections.
+pub fn fits(w: Walk, kind: Kind, section: Section) -> bool
+    ensures { λ r. ⌜ r ≡ fitsBy w kind section ⌝ }
+{
+    if allowed(w, kind) {
+        return marks(w, kind, section);
+    }
+    false
 }
 
 // Of the section that began last and the one that begins, if any, the later.

@@ -1,7 +1,7 @@
 -- The section that began last in the message tells which section may begin, where each UNS that passed kept the rule; and it is what the
 -- walk keeps. What passed is a list of segments, the nearest first. Assumes nothing.
 use Prim.Native.Nat.{ℕ}
-use mathlib.Core.Path.{_≡_, refl, sym, ap, _∙_}
+use mathlib.Core.Path.{_≡_, refl, sym, ap, ap₂, _∙_}
 use mathlib.Core.Bool.{Bool, true, false, not, _&&_, _||_, false≢true, and-false}
 use mathlib.Core.List.{List, [], _∷_, map}
 use native.Mathlib.Omega.{arith}
@@ -18,9 +18,9 @@ use Rattle.segments.specs.Kinds.{is}
 use Rattle.segments.specs.Tags.{kindOf}
 use Rattle.segments.specs.Order.{allowed, walkOver}
 use Rattle.control_elements.specs.Sections.{sectionOf, place, isSection, markersIn, hasSection, mayBegin, sectionRule, lastSection}
-use Rattle.walk_laws.specs.Walking.{walked, marked, follows, sectionBegun, marksBy, sectionKept, steppedBy, laterSection, begunBy}
+use Rattle.walk_laws.specs.Walking.{walked, marked, follows, sectionBegun, marksBy, fitsBy, sectionKept, steppedBy, laterSection, begunBy}
 use Rattle.walk_laws.proofs.Places.{each}
-use Rattle.walk_laws.proofs.Walks.{stepped-over, begun-over}
+use Rattle.walk_laws.proofs.Walks.{allowed-over, stepped-over, begun-over}
 
 -- ---- one segment more
 
@@ -98,7 +98,7 @@ tells (g ∷ past) h =
     step Unz r before = before
     step User r before = before
 
-pub begins-after : (past : List Segment) → marked past ≡ true → (section : Section) → follows (lastSection past) section ≡ mayBegin past section
+begins-after : (past : List Segment) → marked past ≡ true → (section : Section) → follows (lastSection past) section ≡ mayBegin past section
 unfolding mayBegin hasSection lastSection
 begins-after past h None = le-ltb (place (lastSection past)) 0 (omega arith)
 begins-after past h Detail = sym (tells past h .0)
@@ -107,13 +107,20 @@ begins-after past h Summary = sym (tells past h .1)
 -- ---- the walk
 
 -- the walk knows whether a segment keeps the rule
-pub marks-over : (past : List Segment) (kinds : List Kind) (g : Segment) → marked past ≡ true
+marks-over : (past : List Segment) (kinds : List Kind) (g : Segment) → marked past ≡ true
     → marksBy (walkOver (lastSection past) kinds) (kindOf g) (sectionBegun (kindOf g) g) ≡ sectionRule past g
 unfolding sectionRule is walkOver
 marks-over past kinds g h = each At refl refl refl (begins-after past h (sectionOf g)) refl refl refl refl (kindOf g)
   where
     At : Kind → Type 0
     At kind = marksBy (walkOver (lastSection past) kinds) kind (sectionBegun kind g) ≡ (not (is Uns kind) || mayBegin past (sectionOf g))
+
+-- and whether the segment fits
+pub fits-over : (past : List Segment) (g : Segment) → marked past ≡ true
+    → fitsBy (walkOver (lastSection past) (map kindOf past)) (kindOf g) (sectionBegun (kindOf g) g)
+    ≡ (allowed (map kindOf past) (kindOf g) && sectionRule past g)
+fits-over past g h =
+    ap₂ _&&_ (allowed-over (lastSection past) (map kindOf past) (kindOf g)) (marks-over past (map kindOf past) g h)
 
 -- the section after one segment more, which kept the rule
 section-step : (past : List Segment) (g : Segment) → sectionRule past g ≡ true

@@ -140,6 +140,10 @@ sectionBegun kind g = if isMarker kind then sectionOf g else None
 abbrev pub marksBy : Walk → Kind → Section → Bool
 marksBy w kind section = if isMarker kind then follows (w .section) section else true
 
+-- it is allowed, and keeps the rule
+abbrev pub fitsBy : Walk → Kind → Section → Bool
+fitsBy w kind section = allowedBy w kind && marksBy w kind section
+
 -- ---- the walk after a segment of a kind
 
 abbrev pub messageOpened : Standing → Standing

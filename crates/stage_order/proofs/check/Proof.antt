@@ -13,7 +13,7 @@ use Rattle.segments.specs.Order.{walkOver}
 use Rattle.walk_laws.specs.Walking.{Within}
 use Rattle.walk_laws.proofs.Counts.{within-more, within-step, within-begun}
 use Rattle.walk_laws.proofs.Walks.{within-over}
-use Rattle.stage_order.proofs.GoesOn.{goesAt, goes-over, goes-end, goes-wrong, goes-unmarked, goes-next}
+use Rattle.stage_order.proofs.GoesOn.{goesAt, goes-over, goes-end, goes-wrong, goes-next}
 use Rattle.stage_order.proofs.check.Statement.{statement}
 use Rattle.stage_order.proofs.check.Tie as tie
 
@@ -36,51 +36,32 @@ loop-holds c =
 kind-at-requires : tie.Need-kind-at-requires Inv-loop μ-loop
 kind-at-requires c κs = search needs
 
-allowed-requires : tie.Need-allowed-requires Inv-loop μ-loop
-allowed-requires c κs = search needs
+section-at-requires : tie.Need-section-at-requires Inv-loop μ-loop
+section-at-requires c κs = search needs
+
+fits-requires : tie.Need-fits-requires Inv-loop μ-loop
+fits-requires c κs = search needs
 
 misplaced-requires : tie.Need-misplaced-requires Inv-loop μ-loop
 misplaced-requires c κs = search needs
 
 returns : tie.Need-returns Inv-loop μ-loop
 returns c =
-    let inside = c .before .before .before .before in
+    let read = c .before .before .before in
+    let inside = read .before .before in
     let state = inside .before .loop in
     let args = inside .before .before .before .before .args in
     c .misplaced .ensures
     ∙ sym
-    (goes-wrong (args .c) (args .s .now) (state .walk) (state .at) (c .before .before .before .kind-at .ensures) (inside .loop-test .taken)
-    (sym (c .before .before .allowed .ensures) ∙ not-true _ (c .before .if1 .taken)))
-    ∙ sym (state .inv .1)
-    ∙ goes-over _ _
-
-section-at-requires : tie.Need-section-at-requires Inv-loop μ-loop
-section-at-requires c κs = search needs
-
-marks-requires : tie.Need-marks-requires Inv-loop μ-loop
-marks-requires c κs = search needs
-
-misplaced-requires-2 : tie.Need-misplaced-requires-2 Inv-loop μ-loop
-misplaced-requires-2 c κs = search needs
-
-returns-2 : tie.Need-returns-2 Inv-loop μ-loop
-returns-2 c =
-    let judged = c .before .before .before .before in
-    let inside = judged .before .before .before in
-    let state = inside .before .loop in
-    let args = inside .before .before .before .before .args in
-    c .misplaced2 .ensures
-    ∙ sym
-    (goes-unmarked (args .c) (args .s .now) (state .walk) (state .at) (judged .before .before .kind-at .ensures) (inside .loop-test .taken)
-    (c .before .before .before .section-at .ensures)
-    (sym (judged .before .allowed .ensures) ∙ not-false _ (judged .if1 .left))
-    (sym (c .before .before .marks .ensures) ∙ not-true _ (c .before .if2 .taken)))
+    (goes-wrong (args .c) (args .s .now) (state .walk) (state .at) (read .before .kind-at .ensures) (read .section-at .ensures)
+    (inside .loop-test .taken)
+    (sym (c .before .before .fits .ensures) ∙ not-true _ (c .before .if1 .taken)))
     ∙ sym (state .inv .1)
     ∙ goes-over _ _
 
 stepped-requires : tie.Need-stepped-requires Inv-loop μ-loop
 stepped-requires c κs =
-    let state = c .before .before .before .before .before .before .before .loop in within-more (state .walk) (omega arith) (state .inv .0)
+    let state = c .before .before .before .before .before .loop in within-more (state .walk) (omega arith) (state .inv .0)
 
 begun-requires : tie.Need-begun-requires Inv-loop μ-loop
 begun-requires c κs = search needs
@@ -89,26 +70,23 @@ segment-end-requires : tie.Need-segment-end-requires Inv-loop μ-loop
 segment-end-requires c κs = search needs
 
 loop-less : tie.Need-loop-less Inv-loop μ-loop
-loop-less c =
-    omega (arith, c .segment-end .ensures .2 (c .before .before .before .before .before .before .before .before .before .loop-test .taken))
+loop-less c = omega (arith, c .segment-end .ensures .2 (c .before .before .before .before .before .before .before .loop-test .taken))
 
 loop-again : tie.Need-loop-again Inv-loop μ-loop
 loop-again c =
-    let judged = c .before .before .before .before .before .before in
-    let inside = judged .before .before .before in
+    let read = c .before .before .before .before .before in
+    let inside = read .before .before in
     let state = inside .before .loop in
     let args = inside .before .before .before .before .args in
-    let kind = judged .before .before .kind-at in (
+    let kind = read .before .kind-at in (
       subst⁻¹ (Within (c .segment-end .result)) (c .before .begun .ensures)
-          (within-begun (c .before .before .stepped .result) (c .before .before .before .before .before .section-at .result)
+          (within-begun (c .before .before .stepped .result) (read .section-at .result)
           (subst⁻¹ (Within (c .segment-end .result)) (c .before .before .stepped .ensures)
           (within-step (state .walk) (kind .result) (c .segment-end .ensures .2 (inside .loop-test .taken)) (state .inv .0)))),
       state .inv .1
-          ∙ goes-next (args .c) (args .s .now) (state .walk) (state .at) (kind .ensures) (inside .loop-test .taken)
-          (c .before .before .before .before .before .section-at .ensures)
-          (sym (judged .before .allowed .ensures) ∙ not-false _ (judged .if1 .left))
+          ∙ goes-next (args .c) (args .s .now) (state .walk) (state .at) (kind .ensures) (read .section-at .ensures) (inside .loop-test .taken)
           (c .segment-end .result)
-          (sym (c .before .before .before .before .marks .ensures) ∙ not-false _ (c .before .before .before .if2 .left))
+          (sym (c .before .before .before .before .fits .ensures) ∙ not-false _ (c .before .before .before .if1 .left))
           (c .before .before .stepped .ensures)
           (c .before .begun .ensures)
           (c .segment-end .ensures),
@@ -117,8 +95,8 @@ loop-again c =
 complete-requires : tie.Need-complete-requires Inv-loop μ-loop
 complete-requires c κs = search needs
 
-returns-3 : tie.Need-returns-3 Inv-loop μ-loop
-returns-3 c =
+returns-2 : tie.Need-returns-2 Inv-loop μ-loop
+returns-2 c =
     let state = c .before .before .loop in
     let args = c .before .before .before .before .before .args in
     c .complete .ensures
@@ -135,17 +113,14 @@ check-spec =
     beginning-requires
     loop-holds
     kind-at-requires
-    allowed-requires
+    section-at-requires
+    fits-requires
     misplaced-requires
     returns
-    section-at-requires
-    marks-requires
-    misplaced-requires-2
-    returns-2
     stepped-requires
     begun-requires
     segment-end-requires
     loop-less
     loop-again
     complete-requires
-    returns-3)
+    returns-2)
