@@ -55,7 +55,7 @@ returns c =
     ∙ sym
     (goes-wrong (args .c) (args .s .now) (state .walk) (state .at) (read .before .kind-at .ensures) (read .section-at .ensures)
     (inside .loop-test .taken)
-    (sym (c .before .before .fits .ensures) ∙ not-true _ (c .before .if1 .taken)))
+    (sym (c .before .before .fits2 .ensures) ∙ not-true _ (c .before .if1 .taken)))
     ∙ sym (state .inv .1)
     ∙ goes-over _ _
 
@@ -86,7 +86,7 @@ loop-again c =
       state .inv .1
           ∙ goes-next (args .c) (args .s .now) (state .walk) (state .at) (kind .ensures) (read .section-at .ensures) (inside .loop-test .taken)
           (c .segment-end .result)
-          (sym (c .before .before .before .before .fits .ensures) ∙ not-false _ (c .before .before .before .if1 .left))
+          (sym (c .before .before .before .before .fits2 .ensures) ∙ not-false _ (c .before .before .before .if1 .left))
           (c .before .before .stepped .ensures)
           (c .before .begun .ensures)
           (c .segment-end .ensures),
