@@ -1,9 +1,8 @@
 // One step of the walk over the segments (paper 01, "Order of segments"; change request 2026-03): the
 // walk before the first segment, whether a segment fits where the walk stands, by its kind and the
 // section that it begins, the walk after it, and whether the walk has come to the end of an interchange.
-// Each answers from the walk alone; that this is the answer of `segments` and
-// `control_elements` for all that passed is said in `walk_laws`. Going through the segments of an input
-// is left to `stage_order`.
+// Each answers from the walk alone; that this is the answer of `segments` and `control_elements` for all
+// that passed is said in `walk_laws`. Going through the segments of an input is left to `stage_order`.
 ghost use mathlib.Core.Path.{_≡_};
 ghost use mathlib.Core.List.{[]};
 ghost use Rattle.segments.specs.declared.Section.the-variants.{None};
