@@ -109,28 +109,29 @@ module _ (c : Characters) (s : List ℕ) where
 
     module _ {kind : Kind} (k : kind ≡ kindOf (segmentAt c s at)) {section : Section} (b : section ≡ sectionBegun kind (segmentAt c s at))
         (h : at < length s) where
-      rest : Ordered
-      rest = goesOn (length s) (begunBy (steppedBy walk kind) section) (segments (beyond (ends 0) (tokensAt c s at)))
+      -- what it answers after that segment, of a kind, with the section that it begins
+      abbrev after : Kind → Section → Ordered
+      after of next = goesOn (length s) (begunBy (steppedBy walk of) next) (segments (beyond (ends 0) (tokensAt c s at)))
 
       -- elsewhere it goes by the segment that begins there
-      goes-first : goesAt walk at ≡ (if fitsBy walk kind section then rest else misplacedAt at)
-      unfolding goesOn rest
+      goes-first : goesAt walk at ≡ (if fitsBy walk kind section then after kind section else misplacedAt at)
+      unfolding goesOn
       goes-first =
+          let g = segmentAt c s at in
           ap (goesOn (length s) walk) (segments-first c s at h)
-          ∙ (λ i. if fitsBy walk (sym k i) (sectionBegun (sym k i) (segmentAt c s at))
-          then goesOn (length s) (begunBy (steppedBy walk (sym k i)) (sectionBegun (sym k i) (segmentAt c s at))) (segments (beyond (ends 0) (tokensAt c s at)))
+          ∙ (λ i. if fitsBy walk (sym k i) (sectionBegun (sym k i) g)
+          then after (sym k i) (sectionBegun (sym k i) g)
           else misplacedAt (segment-start c s at h i))
-          ∙ ap (λ (next : Section). if fitsBy walk kind next then goesOn (length s) (begunBy (steppedBy walk kind) next) (segments (beyond (ends 0) (tokensAt c s at))) else misplacedAt at) (sym b)
+          ∙ ap (λ (next : Section). if fitsBy walk kind next then after kind next else misplacedAt at) (sym b)
 
       -- which is misplaced where it does not fit
       pub goes-wrong : fitsBy walk kind section ≡ false → goesAt walk at ≡ misplacedAt at
-      goes-wrong e = goes-first ∙ if-false (fitsBy walk kind section) rest (misplacedAt at) e
+      goes-wrong e = goes-first ∙ if-false (fitsBy walk kind section) (after kind section) (misplacedAt at) e
 
       -- and is passed where it does
       pub goes-next : {stepped after : Walk} (next : ℕ) → fitsBy walk kind section ≡ true → stepped ≡ steppedBy walk kind
           → after ≡ begunBy stepped section → Skips (ends 0) c s at next → goesAt walk at ≡ goesAt after next
-      unfolding rest
       goes-next next e w a n =
           goes-first
-          ∙ if-true (fitsBy walk kind section) rest (misplacedAt at) e
+          ∙ if-true (fitsBy walk kind section) (after kind section) (misplacedAt at) e
           ∙ λ i. goesOn (length s) (sym (a ∙ ap (λ (v : Walk). begunBy v section) w) i) (segments (sym (n .0) i))
