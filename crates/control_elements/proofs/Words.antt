@@ -29,7 +29,7 @@ pub use Rattle.control_elements.specs.Notions.{Reference, Count, Nearest
 -- ---- one element
 
 -- "one component": of the element at a position, which is counted from 1 after the tag
-element-is : (g : Segment) (position : ℕ) (value : List ℕ)
+pub element-is : (g : Segment) (position : ℕ) (value : List ℕ)
     → (controlElement g position ≡ some value) ↔ (at (contentsOf g) position ≡ some (value ∷ []))
 unfolding controlElement maybe single
 element-is g position value = (step (at (contentsOf g) position), λ e. ap (maybe none single) e)

@@ -1,3 +1,4 @@
 pub mod Positions
 pub mod Control
 pub mod Notions
+pub mod Sections

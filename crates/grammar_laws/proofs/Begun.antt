@@ -13,15 +13,18 @@ use Rattle.segments.specs.declared.Kind.{Kind}
 use Rattle.segments.specs.declared.Kind.the-variants.{Unb, Ung, Unh, Uns, Unt, Une, Unz, User}
 use Rattle.segments.specs.declared.Standing.{Standing}
 use Rattle.segments.specs.declared.Standing.the-variants.{BeforeInterchange, BetweenGroups, InGroup, InGroupMessage, InMessage, AfterInterchange}
+use Rattle.segments.specs.declared.Section.{Section}
 use Rattle.segments.specs.Kinds.{is}
 use Rattle.segments.specs.Tags.{kindOf}
 use Rattle.segments.specs.Order.{messagesSinceGroup, messagesIn, groupsIn, isOpen, allowed, standing, isComplete}
+use Rattle.control_elements.specs.Sections.{sectionOf, sectionRule}
 use Rattle.walk_laws.specs.Walking.{standsAfter}
 use Rattle.walk_laws.proofs.Places.{stands-step}
-use Rattle.grammar_laws.specs.Grammar.{Frame, OneOrMore, one, more, isInner, Inner, Asking, Message, Group, Content, Whole}
+use Rattle.grammar_laws.specs.Grammar.{Frame, OneOrMore, one, more, isInner, Inner, sectionsIn, Sections, no-section, Sectioned, Asking, Message, Group, Content, Whole}
 use Rattle.grammar_laws.proofs.Trail.{_▸_, ▸-append, ▸-back, Each, none-yet, passed}
 use Rattle.grammar_laws.proofs.Order.{user, section, close-message, Allowed, open-interchange, open-group, open-message, close-interchange, open-group-message, close-group, in-group-message, in-message, allowed-from, complete-standing}
 use Rattle.grammar_laws.proofs.Pieces.{kinds, inner-headers, messages-groups, content-interchanges, some-messages, some-groups, group-count, all-messages, all-groups}
+use Rattle.grammar_laws.proofs.Sections.{begun-own, marker-more, sections-append, sections-marker, sections-user}
 use Rattle.grammar_laws.proofs.Passing.{Saying, Passes, Rules, walks}
 
 -- ---- what has begun
@@ -59,15 +62,41 @@ module _ {Says : Saying} {header : Kind} {Outer Middle Other : List Segment → 
   grow piece f (opened head {outer} {middle} e r o m) =
       subst (Opened Says header Outer Other) (▸-append (head ∷ outer) middle piece) (opened head e r o (f middle m))
 
--- a user segment or UNS went by
-inner-grown : {Says : Saying} {Outer : List Segment → Type 0} {past : List Segment} (g : Segment) → isInner g ≡ true
-    → Opened Says Unh Outer Inner past → Opened Says Unh Outer Inner (g ∷ past)
+-- one segment more may stand between UNH and UNT
+inner-more : (middle : List Segment) (g : Segment) → Inner middle → isInner g ≡ true → Inner (middle ++ g ∷ [])
 unfolding all
-inner-grown g h =
-    grow (g ∷ [])
-    (λ middle i.
+inner-more middle g i h =
     all-append isInner middle (g ∷ [])
-    ∙ and-both (all isInner middle) (isInner g && true) i (and-both (isInner g) true h refl))
+    ∙ and-both (all isInner middle) (isInner g && true) i (and-both (isInner g) true h refl)
+
+-- a user segment went by
+user-inside : {Says : Saying} {Outer : List Segment → Type 0} {past : List Segment} (g : Segment) → kindOf g ≡ User
+    → Opened Says Unh Outer Sectioned past → Opened Says Unh Outer Sectioned (g ∷ past)
+unfolding isInner is those
+user-inside g k =
+    grow (g ∷ [])
+    (λ middle m.
+    let same : sectionsIn (middle ++ g ∷ []) ≡ sectionsIn middle =
+    sections-append middle (g ∷ [])
+    ∙ ap (λ (l : List Section). sectionsIn middle ++ l) (sections-user g [] k)
+    ∙ append-nil (sectionsIn middle)
+    in
+    (inner-more middle g (m .0) (ap (λ (kind : Kind). is User kind || is Uns kind) k), subst Sections (sym same) (m .1)))
+
+-- a UNS that keeps the rule went by
+marker-inside : {Says : Saying} {Outer : List Segment → Type 0} {past : List Segment} (g : Segment) → kindOf g ≡ Uns
+    → sectionRule past g ≡ true → Opened Says Unh Outer Sectioned past → Opened Says Unh Outer Sectioned (g ∷ past)
+unfolding isInner is those
+marker-inside {Says} {Outer} g k rule (opened head {outer} {middle} e r o (i, s)) =
+    let more : sectionsIn (middle ++ g ∷ []) ≡ sectionsIn middle ++ sectionOf g ∷ [] =
+    sections-append middle (g ∷ []) ∙ ap (λ (l : List Section). sectionsIn middle ++ l) (sections-marker g [] k)
+    in
+    subst (Opened Says Unh Outer Sectioned) (▸-append (head ∷ outer) middle (g ∷ []))
+    (opened head e r o (
+      inner-more middle g i (ap (λ (kind : Kind). is User kind || is Uns kind) k),
+      subst Sections (sym more)
+          (marker-more (head ∷ outer ▸ middle) g (sectionsIn middle) k rule (begun-own head outer middle e (inner-headers middle i)) s),
+    ))
 
 -- a header, a middle and a trailer are a frame
 framed : {header trailer : Kind} {Middle : List Segment → Type 0} {Asked : Segment → List Segment → Segment → Type 0}
@@ -95,8 +124,8 @@ module _ (asked : Asking) (Says : Saying) (rules : Rules asked Says) where
   Begun BeforeInterchange = Nothing
   Begun BetweenGroups = Opened Says Unb Nothing (Perhaps (Content asked))
   Begun InGroup = OpenGroup
-  Begun InGroupMessage = Opened Says Unh OpenGroup Inner
-  Begun InMessage = Opened Says Unh (Opened Says Unb Nothing (Run (Message asked))) Inner
+  Begun InGroupMessage = Opened Says Unh OpenGroup Sectioned
+  Begun InMessage = Opened Says Unh (Opened Says Unb Nothing (Run (Message asked))) Sectioned
   Begun AfterInterchange = λ past. Whole asked ([] ▸ past)
 
   -- ---- a trailer closes its frame
@@ -111,11 +140,11 @@ module _ (asked : Asking) (Says : Saying) (rules : Rules asked Says) where
         (grow (head ∷ (middle ++ tail ∷ [])) (λ before run. run-and run piece) o)
 
     message-closed : {past : List Segment} (g : Segment) → kindOf g ≡ Unt → Says Unt past g
-        → Opened Says Unh (Opened Says header Outer (Run (Message asked))) Inner past
+        → Opened Says Unh (Opened Says header Outer (Run (Message asked))) Sectioned past
         → Opened Says header Outer (OneOrMore (Message asked)) (g ∷ past)
     message-closed g closing says (opened head {outer} {middle} e r o i) =
         close head middle g
-        (framed head middle g e closing i (rules .message head outer middle g e (inner-headers middle i) .0 (r, says))) o
+        (framed head middle g e closing i (rules .message head outer middle g e (inner-headers middle (i .0)) .0 (r, says))) o
 
     group-closed : {past : List Segment} (g : Segment) → kindOf g ≡ Une → Says Une past g → 0 < messagesSinceGroup (kinds past)
         → Opened Says Ung (Opened Says header Outer (Run (Group asked))) (Run (Message asked)) past
@@ -161,20 +190,20 @@ module _ (asked : Asking) (Says : Saying) (rules : Rules asked Says) where
 
   -- a segment that passes takes what has begun one step on
   advance : {s : Standing} {kind : Kind} (past : List Segment) (g : Segment) → kindOf g ≡ kind → Allowed (kinds past) s kind
-      → Says kind past g → Begun s past → Begun (standsAfter s kind) (g ∷ past)
-  unfolding all isInner is
-  advance past g e open-interchange says b = opened g e says b empty
-  advance past g e (open-group h) says b = opened g e says (groups-only h b) empty
-  advance past g e (open-message h) says b = opened g {middle = []} e says (messages-only h b) refl
-  advance past g e (close-interchange h) says b = interchange-closed g e says h b
-  advance past g e open-group-message says b = opened g {middle = []} e says b refl
-  advance past g e (close-group h) says b = widen (λ middle m. full (inl m)) (group-closed g e says h b)
-  advance past g e (in-group-message user) says b = inner-grown g (ap (λ (k : Kind). is User k || is Uns k) e) b
-  advance past g e (in-group-message section) says b = inner-grown g (ap (λ (k : Kind). is User k || is Uns k) e) b
-  advance past g e (in-group-message close-message) says b = widen (λ middle m. full m) (message-closed g e says b)
-  advance past g e (in-message user) says b = inner-grown g (ap (λ (k : Kind). is User k || is Uns k) e) b
-  advance past g e (in-message section) says b = inner-grown g (ap (λ (k : Kind). is User k || is Uns k) e) b
-  advance past g e (in-message close-message) says b = widen (λ middle m. full (inr m)) (message-closed g e says b)
+      → sectionRule past g ≡ true → Says kind past g → Begun s past → Begun (standsAfter s kind) (g ∷ past)
+  unfolding all those
+  advance past g e open-interchange rule says b = opened g e says b empty
+  advance past g e (open-group h) rule says b = opened g e says (groups-only h b) empty
+  advance past g e (open-message h) rule says b = opened g {middle = []} e says (messages-only h b) (refl, no-section)
+  advance past g e (close-interchange h) rule says b = interchange-closed g e says h b
+  advance past g e open-group-message rule says b = opened g {middle = []} e says b (refl, no-section)
+  advance past g e (close-group h) rule says b = widen (λ middle m. full (inl m)) (group-closed g e says h b)
+  advance past g e (in-group-message user) rule says b = user-inside g e b
+  advance past g e (in-group-message section) rule says b = marker-inside g e rule b
+  advance past g e (in-group-message close-message) rule says b = widen (λ middle m. full m) (message-closed g e says b)
+  advance past g e (in-message user) rule says b = user-inside g e b
+  advance past g e (in-message section) rule says b = marker-inside g e rule b
+  advance past g e (in-message close-message) rule says b = widen (λ middle m. full (inr m)) (message-closed g e says b)
 
   -- what has passed has begun so
   begun : {past : List Segment} → Each (Passes Says) past → Begun (standing (kinds past)) past
@@ -182,7 +211,7 @@ module _ (asked : Asking) (Says : Saying) (rules : Rules asked Says) where
   begun none-yet = nothing
   begun (passed {past} {x} h hs) =
       subst (λ (s : Standing). Begun s (x ∷ past)) (stands-step (kinds past) (kindOf x) (walks hs) (h .place))
-      (advance past x refl (allowed-from (kinds past) (standing (kinds past)) (kindOf x) (h .place)) (h .says) (begun hs))
+      (advance past x refl (allowed-from (kinds past) (standing (kinds past)) (kindOf x) (h .place)) (h .marks) (h .says) (begun hs))
 
   -- complete segments that passed are a whole interchange
   pub whole : (gs : List Segment) → Each (Passes Says) ([] ▸ gs) → isComplete (kinds ([] ▸ gs)) ≡ true → Whole asked gs

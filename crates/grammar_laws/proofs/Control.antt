@@ -20,6 +20,7 @@ use Rattle.segments.specs.Tags.{kindOf}
 use Rattle.segments.specs.Order.{segmentsIn, segmentsSinceHeader, messagesSinceGroup, allowed}
 use Rattle.control_elements.specs.Positions.{positionTable, positionsOf}
 use Rattle.control_elements.specs.Control.{controlElement, isReference, isCount, standsWell, controlRule, headerOf, referenceOf, sameValue, nearestReference, referenceDiffers, decimal, trueCount, countOf, countWrong}
+use Rattle.control_elements.specs.Sections.{sectionRule}
 use Rattle.stages.specs.Places.{misplaced, badControl}
 use Rattle.grammar_laws.specs.Grammar.{messageCount, interchangeCount, Agrees}
 use Rattle.grammar_laws.proofs.Trail.{_▸_}
@@ -117,13 +118,21 @@ module _ (past : List Segment) (g : Segment) where
   passes-iff = (
     λ h.
         record {
-          place = not-false (allowed (kinds past) (kindOf g)) (h .0);
+          place = and-left (allowed (kinds past) (kindOf g)) (sectionRule past g) (ordered (h .0));
+          marks = and-right (allowed (kinds past) (kindOf g)) (sectionRule past g) (ordered (h .0));
           says = says-iff (kindOf g) .0 (not-false (controlRule g) (h .1), h .2, h .3);
         },
     λ h.
-        let says = says-iff (kindOf g) .1 (h .says) in
-        (ap not (h .place), ap not (says .0), says .1, says .2),
+        let says = says-iff (kindOf g) .1 (h .says) in (
+          ap not (and-both (allowed (kinds past) (kindOf g)) (sectionRule past g) (h .place) (h .marks)),
+          ap not (says .0),
+          says .1,
+          says .2,
+        ),
   )
+    where
+      ordered : misplaced past g ≡ false → (allowed (kinds past) (kindOf g) && sectionRule past g) ≡ true
+      ordered = not-false (allowed (kinds past) (kindOf g) && sectionRule past g)
 
 -- ---- what it asks of a frame
 

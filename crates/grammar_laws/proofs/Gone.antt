@@ -4,8 +4,8 @@ use Prim.Native.Nat.{_<_}
 use native.Mathlib.Omega.{arith}
 use mathlib.Core.Path.{_≡_, refl, sym, ap, _∙_, subst}
 use mathlib.Core.Logic.{_⊎_, inl, inr, ⊎-elim}
-use mathlib.Core.Bool.{true}
-use mathlib.Core.List.{List, [], _∷_}
+use mathlib.Core.Bool.{true, false}
+use mathlib.Core.List.{List, [], _∷_, _++_, append-assoc}
 use Rattle.lists.specs.Lists.{all, those}
 use Rattle.lists.proofs.Texts.{and-left, and-right, or-cases}
 use Rattle.values.specs.Tokens.{Segment}
@@ -13,15 +13,18 @@ use Rattle.segments.specs.declared.Kind.{Kind}
 use Rattle.segments.specs.declared.Kind.the-variants.{Unb, Ung, Unh, Uns, Unt, User}
 use Rattle.segments.specs.declared.Standing.{Standing}
 use Rattle.segments.specs.declared.Standing.the-variants.{BetweenGroups, InGroup, AfterInterchange}
+use Rattle.segments.specs.declared.Section.{Section}
 use Rattle.segments.specs.Kinds.{is}
 use Rattle.segments.specs.Tags.{kindOf}
 use Rattle.segments.specs.Order.{messagesIn, groupsIn, isOpen, standing, allowedAt, allowed}
+use Rattle.control_elements.specs.Sections.{sectionOf, sectionRule}
 use Rattle.walk_laws.specs.Walking.{standsAfter}
 use Rattle.walk_laws.proofs.Places.{stands-step}
-use Rattle.grammar_laws.specs.Grammar.{Frame, OneOrMore, one, more, isInner, Inner, Asking, Message, Group, Content, Whole}
+use Rattle.grammar_laws.specs.Grammar.{Frame, OneOrMore, one, more, isInner, Inner, sectionsIn, Sections, Asking, Message, Group, Content, Whole}
 use Rattle.grammar_laws.proofs.Trail.{_▸_, ▸-append, Each, none-yet, passed}
 use Rattle.grammar_laws.proofs.Order.{is-eq, Inside, user, section, close-message, Allowed, open-interchange, open-group, open-message, close-interchange, open-group-message, close-group, in-group-message, in-message, allowed-test}
 use Rattle.grammar_laws.proofs.Pieces.{kinds, number-▸, inner-headers, messages-groups, content-interchanges, some-messages, some-groups, some-content, group-count, all-messages, all-groups}
+use Rattle.grammar_laws.proofs.Sections.{begunIn, begun-header, begun-marker, begun-user, unmarked, marker-next, sections-marker, sections-user}
 use Rattle.grammar_laws.proofs.Passing.{Saying, Passes, Rules, walks}
 
 -- each one passed, and the check stands there
@@ -39,49 +42,64 @@ pieces Holds leaves (more {before} {piece} ps p) past h =
 module _ (asked : Asking) (Says : Saying) (rules : Rules asked Says) where
   -- a segment goes by
   step : {s : Standing} {kind : Kind} (past : List Segment) (g : Segment) → Gone Says s past → kindOf g ≡ kind
-      → Allowed (kinds past) s kind → Says kind past g → Gone Says (standsAfter s kind) (g ∷ past)
+      → Allowed (kinds past) s kind → sectionRule past g ≡ true → Says kind past g → Gone Says (standsAfter s kind) (g ∷ past)
   unfolding allowed
-  step past g h e a says = (
-    passed (record { place = place; says = subst (λ (k : Kind). Says k past g) (sym e) says }) (h .0),
+  step past g h e a rule says = (
+    passed (record { place = place; marks = rule; says = subst (λ (k : Kind). Says k past g) (sym e) says }) (h .0),
     sym (stands-step (kinds past) (kindOf g) (walks (h .0)) place) ∙ (λ i. standsAfter (h .1 i) (e i)),
   )
     where
       place : allowed (kinds past) (kindOf g) ≡ true
       place = (λ i. allowedAt (h .1 i) (kinds past) (e i)) ∙ allowed-test (kinds past) a
 
-  -- a frame goes by: its header, its middle and its trailer
+  -- a frame goes by: its header, its middle and its trailer, of which no UNS is one
   frame : {header trailer : Kind} {Middle : List Segment → Type 0} {Asked : Segment → List Segment → Segment → Type 0}
       {gs : List Segment} {s inner : Standing} (past : List Segment) (f : Frame header trailer Middle Asked gs)
-      → Says header past (f .head) × Says trailer (f .head ∷ past ▸ f .middle) (f .tail)
+      → is Uns header ≡ false → is Uns trailer ≡ false → Says header past (f .head) × Says trailer (f .head ∷ past ▸ f .middle) (f .tail)
       → Gone Says s past → Allowed (kinds past) s header
       → (Gone Says (standsAfter s header) (f .head ∷ past) → Gone Says inner (f .head ∷ past ▸ f .middle))
       → Allowed (kinds (f .head ∷ past ▸ f .middle)) inner trailer → Gone Says (standsAfter inner trailer) (past ▸ gs)
-  frame {trailer} {inner} past f says h a middle b =
+  frame {trailer} {inner} past f other last says h a middle b =
       subst (Gone Says (standsAfter inner trailer))
       (sym (ap (λ (l : List Segment). past ▸ l) (f .shape) ∙ ▸-append (f .head ∷ past) (f .middle) (f .tail ∷ [])))
-      (step (f .head ∷ past ▸ f .middle) (f .tail) (middle (step past (f .head) h (f .opening) a (says .0))) (f .closing) b
-      (says .1))
+      (step (f .head ∷ past ▸ f .middle) (f .tail)
+      (middle (step past (f .head) h (f .opening) a (unmarked past (f .head) (f .opening) other) (says .0)))
+      (f .closing) b (unmarked (f .head ∷ past ▸ f .middle) (f .tail) (f .closing) last) (says .1))
 
   -- ---- a message, where the check stands in a group or in none
 
   module _ (s : Standing) (holds : (past : List Kind) (kind : Kind) → Inside kind → Allowed past (standsAfter s Unh) kind)
       (back : standsAfter (standsAfter s Unh) Unt ≡ s) where
-    inner : (past gs : List Segment) → Inner gs → Gone Says (standsAfter s Unh) past → Gone Says (standsAfter s Unh) (past ▸ gs)
-    unfolding all isInner
-    inner past [] i h = h
-    inner past (g ∷ gs) i h =
-        inner (g ∷ past) gs (and-right (isInner g) (all isInner gs) i)
-        (⊎-elim (λ e. step past g h (is-eq User (kindOf g) e) (holds (kinds past) User user) (rules .user past g))
-        (λ e. step past g h (is-eq Uns (kindOf g) e) (holds (kinds past) Uns section) (rules .section past g))
-        (or-cases (is User (kindOf g)) (is Uns (kindOf g)) (and-left (isInner g) (all isInner gs) i)))
+    -- the sections before these segments and those in them are in order
+    inner : (past gs : List Segment) (before : List Section) → Inner gs → begunIn past ≡ [] ▸ before → Sections (before ++ sectionsIn gs)
+        → Gone Says (standsAfter s Unh) past → Gone Says (standsAfter s Unh) (past ▸ gs)
+    unfolding all isInner is
+    inner past [] before i b t h = h
+    inner past (g ∷ gs) before i b t h =
+        let rest = and-right (isInner g) (all isInner gs) i in
+        ⊎-elim
+        (λ k.
+        let e = is-eq User (kindOf g) k in
+        inner (g ∷ past) gs before rest (begun-user g past e ∙ b)
+        (subst (λ (l : List Section). Sections (before ++ l)) (sections-user g gs e) t)
+        (step past g h e (holds (kinds past) User user) (unmarked past g e refl) (rules .user past g)))
+        (λ k.
+        let e = is-eq Uns (kindOf g) k in
+        let those-left = subst (λ (l : List Section). Sections (before ++ l)) (sections-marker g gs e) t in
+        inner (g ∷ past) gs (before ++ sectionOf g ∷ []) rest
+        (begun-marker g past e ∙ ap (λ (l : List Section). sectionOf g ∷ l) b ∙ sym (▸-append [] before (sectionOf g ∷ [])))
+        (subst Sections (sym (append-assoc before (sectionOf g ∷ []) (sectionsIn gs))) those-left)
+        (step past g h e (holds (kinds past) Uns section) (marker-next past g before (sectionsIn gs) e b those-left) (rules .section past g)))
+        (or-cases (is User (kindOf g)) (is Uns (kindOf g)) (and-left (isInner g) (all isInner gs) i))
 
     message : (past gs : List Segment) → Message asked gs → Allowed (kinds past) s Unh
         → Gone Says s past → Gone Says s (past ▸ gs)
+    unfolding is
     message past gs f a h =
-        let others = inner-headers (f .middle) (f .inside) in
+        let others = inner-headers (f .middle) (f .inside .0) in
         subst (λ (o : Standing). Gone Says o (past ▸ gs)) back
-        (frame past f (rules .message (f .head) past (f .middle) (f .tail) (f .opening) others .1 (f .asked)) h a
-        (inner (f .head ∷ past) (f .middle) (f .inside)) (holds (kinds (f .head ∷ past ▸ f .middle)) Unt close-message))
+        (frame past f refl refl (rules .message (f .head) past (f .middle) (f .tail) (f .opening) others .1 (f .asked)) h a
+        (inner (f .head ∷ past) (f .middle) [] (f .inside .0) (begun-header (f .head) past (f .opening)) (f .inside .1)) (holds (kinds (f .head ∷ past ▸ f .middle)) Unt close-message))
 
   -- ---- messages outside groups
 
@@ -109,11 +127,11 @@ module _ (asked : Asking) (Says : Saying) (rules : Rules asked Says) where
   Grouped past = Gone Says BetweenGroups past × ((0 < groupsIn (kinds past)) ⊎ (messagesIn (kinds past) ≡ 0))
 
   group : (past gs : List Segment) → Group asked gs → Grouped past → Gone Says BetweenGroups (past ▸ gs)
-  unfolding messagesIn
+  unfolding messagesIn is
   group past gs f h =
       let others = messages-groups asked (f .middle) (f .inside) in
       let count = group-count (f .head) past (f .middle) (f .opening) others in
-      frame past f (rules .group (f .head) past (f .middle) (f .tail) (f .opening) others .1 (f .asked)) (h .0)
+      frame past f refl refl (rules .group (f .head) past (f .middle) (f .tail) (f .opening) others .1 (f .asked)) (h .0)
       (open-group (h .1)) (group-messages (f .inside) (f .head ∷ past))
       (close-group (omega (arith, count, some-messages asked (f .middle) (f .inside))))
 
@@ -136,10 +154,10 @@ module _ (asked : Asking) (Says : Saying) (rules : Rules asked Says) where
 
   -- each segment of a whole interchange passes, and then the check stands after it
   pub gone : (gs : List Segment) → Whole asked gs → Gone Says AfterInterchange ([] ▸ gs)
-  unfolding standing isOpen messagesIn
+  unfolding standing isOpen messagesIn is
   gone gs f =
       let others = content-interchanges asked (f .middle) (f .inside) in
-      frame [] f (rules .interchange (f .head) (f .middle) (f .tail) (f .opening) others .1 (f .asked)) (none-yet, refl)
+      frame [] f refl refl (rules .interchange (f .head) (f .middle) (f .tail) (f .opening) others .1 (f .asked)) (none-yet, refl)
       open-interchange (content (f .head) (f .middle) (f .opening) (f .inside))
       (close-interchange
       (omega (arith, all-messages (f .head) (f .middle) (f .opening), some-content asked (f .middle) (f .inside))))

@@ -1,6 +1,7 @@
 pub mod Trail
 pub mod Order
 pub mod Pieces
+pub mod Sections
 pub mod Passing
 pub mod Control
 pub mod Begun

@@ -12,6 +12,7 @@ use Rattle.segments.specs.declared.Kind.{Kind}
 use Rattle.segments.specs.declared.Kind.the-variants.{Unb, Ung, Unh, Uns, Unt, Une, Unz, User}
 use Rattle.segments.specs.Tags.{kindOf}
 use Rattle.segments.specs.Order.{allowed}
+use Rattle.control_elements.specs.Sections.{sectionRule}
 use Rattle.walk_laws.specs.Walking.{walked}
 use Rattle.stages.specs.Places.{startsWhere}
 use Rattle.grammar_laws.specs.Grammar.{Asking, messageCount, groupCount, interchangeCount}
@@ -22,12 +23,13 @@ use Rattle.grammar_laws.proofs.Pieces.{kinds, number}
 abbrev pub Saying : Type 1
 Saying = Kind → List Segment → Segment → Type 0
 
--- it is allowed where it stands, and says what it has to say
+-- it is allowed where it stands, keeps the rule of sections, and says what it has to say
 pub record Passes (Says : Saying) (past : List Segment) (g : Segment) : Type 0 where
   pub place : allowed (kinds past) (kindOf g) ≡ true
+  pub marks : sectionRule past g ≡ true
   pub says : Says (kindOf g) past g
 
--- What headers and trailers say, each where it stands, is what is asked of the frame. No other segment has to say anything.
+-- What headers and trailers say, each where it stands, is what is asked of the frame. No other segment has to say anything of one.
 pub record Rules (asked : Asking) (Says : Saying) : Type 0 where
   pub user : (past : List Segment) (g : Segment) → Says User past g
   pub section : (past : List Segment) (g : Segment) → Says Uns past g

@@ -107,7 +107,7 @@ module _ (asked : Asking) where
   messages-lack : (kind : Kind) → alone kind User ≡ 0 → alone kind Uns ≡ 0 → alone kind Unh + alone kind Unt ≡ 0
       → (gs : List Segment) → OneOrMore (Message asked) gs → number kind gs ≡ 0
   messages-lack kind u s h gs =
-      none-in-pieces kind (λ piece f. omega (arith, number-frame kind f, none-in-inner kind u s (f .middle) (f .inside)))
+      none-in-pieces kind (λ piece f. omega (arith, number-frame kind f, none-in-inner kind u s (f .middle) (f .inside .0)))
 
   pub messages-groups : (gs : List Segment) → OneOrMore (Message asked) gs → number Ung gs ≡ 0
   unfolding those is
@@ -124,7 +124,7 @@ module _ (asked : Asking) where
   pub messages-size : {gs : List Segment} (hs : OneOrMore (Message asked) gs) → number Unh gs ≡ size hs
   unfolding those is
   messages-size =
-      one-in-pieces Unh (λ piece f. omega (arith, number-frame Unh f, inner-headers (f .middle) (f .inside)))
+      one-in-pieces Unh (λ piece f. omega (arith, number-frame Unh f, inner-headers (f .middle) (f .inside .0)))
 
   pub groups-size : {gs : List Segment} (hs : OneOrMore (Group asked) gs) → number Ung gs ≡ size hs
   unfolding those is

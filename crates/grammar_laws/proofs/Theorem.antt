@@ -1,21 +1,22 @@
--- The theorems of this crate. Refusal 9 is not met exactly where the order of the segments is right; none of 9 to 12 is met
+-- The theorems of this crate. Refusal 9 is not met exactly where the order of the segments and of the sections is right; none of 9 to 12 is met
 -- exactly where the segments are an interchange. Assumes nothing.
 use Prim.Native.Nat.{ℕ}
 use native.Mathlib.Omega.{arith}
 use mathlib.Core.Path.{_≡_, refl, sym, ap, _∙_}
 use mathlib.Core.Logic.{_↔_, inl, inr, ⊎-elim}
-use mathlib.Core.Bool.{Bool, true, false, not}
+use mathlib.Core.Bool.{Bool, true, false, not, _&&_}
 use mathlib.Core.List.{List, [], _∷_, _++_, map, reverse, cons-ne-nil}
 use lib.ListN.{length}
 use lib.Dec.{eqb}
 use borrow.Author.Tests.{eq-eqb, ne-eqb, not-false}
 use Rattle.lists.specs.Lists.{maybe}
-use Rattle.lists.proofs.Texts.{if-true, if-false}
+use Rattle.lists.proofs.Texts.{and-left, and-right, and-both, if-true, if-false}
 use Rattle.refusals.specs.Refusals.{placeIf}
 use Rattle.values.specs.Tokens.{Segment}
 use Rattle.segments.specs.Tags.{kindOf}
 use Rattle.segments.specs.Order.{messagesIn, groupsIn, allowed, isComplete}
 use Rattle.control_elements.specs.Control.{referenceDiffers, countWrong, countOf, decimal}
+use Rattle.control_elements.specs.Sections.{sectionRule}
 use Rattle.stages.specs.Contents.{segmentsOf, kindsOf}
 use Rattle.stages.specs.Places.{startsWhere, misplacedSegments, badControls, differingReferences, wrongCounts, misplaced, badControl}
 use Rattle.grammar_laws.specs.Grammar.{size, interchangeCount, Asking, Group, Content, Whole, Ordered, Agrees, Interchange, InOrder, InControl}
@@ -60,13 +61,23 @@ module _ (gs : List Segment) where
   order-theorem = (
     λ h.
         walked ordering gs .0 (
-          each-map (λ past g fits. record { place = not-false (allowed (kinds past) (kindOf g)) fits; says = tt })
+          each-map (λ past g fits.
+              let both = not-false (allowed (kinds past) (kindOf g) && sectionRule past g) fits in
+              record {
+                place = and-left (allowed (kinds past) (kindOf g)) (sectionRule past g) both;
+                marks = and-right (allowed (kinds past) (kindOf g)) (sectionRule past g) both;
+                says = tt;
+              })
               (clear misplaced (h .0)),
           h .1,
         ),
     λ f.
-        let walk = walked ordering gs .1 f in
-        (clear-each misplaced [] gs (each-map (λ past g passes. ap not (passes .place)) (walk .0)), walk .1),
+        let walk = walked ordering gs .1 f in (
+          clear-each misplaced [] gs
+              (each-map (λ past g passes. ap not (and-both (allowed (kinds past) (kindOf g)) (sectionRule past g) (passes .place) (passes .marks)))
+              (walk .0)),
+          walk .1,
+        ),
   )
 
   -- refusals 9 to 12

@@ -1,4 +1,5 @@
--- Paper 01, "Order of segments" and "Control elements", as a grammar of a list of segments. Assumes nothing.
+-- Paper 01, "Order of segments" and "Control elements", and change request 2026-03, "Section markers", as a grammar of a list of segments.
+-- Assumes nothing.
 use Prim.Native.Nat.{ℕ, _+_}
 use mathlib.Core.Path.{_≡_}
 use mathlib.Core.Logic.{_⊎_}
@@ -6,14 +7,17 @@ use mathlib.Core.Bool.{Bool, true, _||_}
 use mathlib.Core.List.{List, [], _∷_, _++_, map, reverse}
 use lib.ListN.{length}
 use lib.Dec.{eqb}
-use Rattle.lists.specs.Lists.{if_then_else_, all, maybe}
+use Rattle.lists.specs.Lists.{if_then_else_, all, those, maybe}
 use Rattle.values.specs.Tokens.{Segment}
 use Rattle.segments.specs.declared.Kind.{Kind}
 use Rattle.segments.specs.declared.Kind.the-variants.{Unb, Ung, Unh, Uns, Unt, Une, Unz, User}
+use Rattle.segments.specs.declared.Section.{Section}
+use Rattle.segments.specs.declared.Section.the-variants.{Detail, Summary}
 use Rattle.segments.specs.Kinds.{is}
 use Rattle.segments.specs.Tags.{kindOf}
 use Rattle.segments.specs.Order.{messagesIn, groupsIn, isComplete}
 use Rattle.control_elements.specs.Control.{isReference, isCount, referenceOf, countOf, decimal, referenceDiffers, countWrong}
+use Rattle.control_elements.specs.Sections.{sectionOf}
 use Rattle.stages.specs.Places.{startsWhere, misplaced, badControl}
 
 -- ---- "Order of segments"
@@ -49,6 +53,21 @@ isInner g = is User (kindOf g) || is Uns (kindOf g)
 abbrev pub Inner : List Segment → Type 0
 Inner middle = all isInner middle ≡ true
 
+-- the sections that the UNS segments of a middle name, in their order
+abbrev pub sectionsIn : List Segment → List Section
+sectionsIn middle = map sectionOf (those (λ g. is Uns (kindOf g)) middle)
+
+-- change request 2026-03: "`D` or `S`, each at most once in a message, D before S if both stand"
+pub data Sections : List Section → Type 0 where
+  no-section : Sections []
+  detail-alone : Sections (Detail ∷ [])
+  summary-alone : Sections (Summary ∷ [])
+  detail-summary : Sections (Detail ∷ Summary ∷ [])
+
+-- what may stand between UNH and UNT
+abbrev pub Sectioned : List Segment → Type 0
+Sectioned middle = Inner middle × Sections (sectionsIn middle)
+
 -- "UNT's count is the segments from UNH to UNT, both included"
 abbrev pub messageCount : List Segment → ℕ
 messageCount middle = length middle + 2
@@ -67,9 +86,9 @@ abbrev pub Asking : Type 1
 Asking = (count : List Segment → ℕ) → Segment → List Segment → Segment → Type 0
 
 module _ (asked : Asking) where
-  -- "A message is UNH, any number of user segments and UNS, UNT."
+  -- "A message is UNH, any number of user segments and UNS, UNT."; its sections are in order
   abbrev pub Message : List Segment → Type 0
-  Message = Frame Unh Unt Inner (asked messageCount)
+  Message = Frame Unh Unt Sectioned (asked messageCount)
 
   -- "A group is UNG, one or more messages, UNE."
   abbrev pub Group : List Segment → Type 0

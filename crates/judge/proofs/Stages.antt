@@ -22,6 +22,7 @@ use Rattle.levels.specs.Levels.{levelNamed, isOurVersion, levelOf}
 use Rattle.segments.specs.declared.Walk.{Walk}
 use Rattle.segments.specs.Tags.{kindOf}
 use Rattle.segments.specs.Order.{walkOver}
+use Rattle.control_elements.specs.Sections.{lastSection}
 use Rattle.scanner.specs.Scan.{segmentAt}
 use Rattle.scanner.proofs.Segments.{stands, segment-start}
 use Rattle.stages.specs.Contents.{bodyTokens, segmentsOf, kindsOf, normalCharacters, normalForm}
@@ -189,20 +190,24 @@ order-whole-is walk (some q) w e = (cc, cc)
 
 module _ (s : List ℕ) {before : Progress} {found : Found} (e : before ≡ progress 1 8 s) (d : before ≡ Passed found) {answer : Ordered}
     (h : answer ≡ orderedAs (length s) (tokensAt (found .characters) s (found .start))) where
-  order-is : answer ≡ orderedBy (walkOver (kindsOf s)) (ordered (length s) (bodyTokens s))
+  -- the walk over all segments
+  abbrev whole-walk : Walk
+  whole-walk = walkOver (lastSection (reverse (segmentsOf s))) (kindsOf s)
+
+  order-is : answer ≡ orderedBy whole-walk (ordered (length s) (bodyTokens s))
   unfolding orderedAs kindsOf segmentsOf
   order-is = h ∙ ap (orderedAs (length s)) (body-tokens s 8 (passed-is s 1 8 e d .1))
 
   pub order-failed : {r : Refusal} → answer ≡ ordered-as.Failed r → Refused r ≡ progress 1 9 s
   unfolding bracketsIn brackets those all maybe
   order-failed {r} k =
-      asked-next s 1 8 e 9 refl d (ordered-answers s ∙ order-failed-is (walkOver (kindsOf s)) (ordered (length s) (bodyTokens s)) r (sym order-is ∙ k))
+      asked-next s 1 8 e 9 refl d (ordered-answers s ∙ order-failed-is whole-walk (ordered (length s) (bodyTokens s)) r (sym order-is ∙ k))
 
   pub order-whole : {w : Walk} → answer ≡ ordered-as.Whole w
       → Passed (record { characters = found .characters; start = found .start; level = found .level; walk = w }) ≡ progress 1 9 s
   unfolding foundBy bracketsIn brackets those all maybe
   order-whole {w} k =
-      let (o, walk) = order-whole-is (walkOver (kindsOf s)) (ordered (length s) (bodyTokens s)) w (sym order-is ∙ k) in
+      let (o, walk) = order-whole-is whole-walk (ordered (length s) (bodyTokens s)) w (sym order-is ∙ k) in
       ap₂ (λ (g : Found) (v : Walk). Passed (record { characters = g .characters; start = g .start; level = g .level; walk = v })) (passed-is s 1 8 e d .1) walk
       ∙ asked-next s 1 8 e 9 refl d (ordered-answers s ∙ o)
 

@@ -2,7 +2,7 @@
 -- tag rule's "no component separator may follow" being asked of what is left of the tag's element. Assumes nothing.
 use Prim.Native.Nat.{ℕ}
 use mathlib.Core.Path.{_≡_, refl, sym, ap, _∙_}
-use mathlib.Core.Bool.{Bool, true, false, not, false≢true}
+use mathlib.Core.Bool.{Bool, true, false, not, _&&_, false≢true}
 use mathlib.Core.List.{List, [], _∷_, map, reverse, append-eq-nil-iff, cons≢nil}
 use mathlib.Core.Option.{Option, none, some}
 use lib.ListN.{length}
@@ -22,6 +22,7 @@ use Rattle.segments.specs.Kinds.{is, kindNamed}
 use Rattle.segments.specs.Tags.{tagOf, kindOf, isTag}
 use Rattle.segments.specs.Order.{isOpen, standing, allowedAt, allowed, isComplete}
 use Rattle.control_elements.specs.Control.{referenceDiffers, countWrong}
+use Rattle.control_elements.specs.Sections.{sectionRule}
 use Rattle.stages.specs.Contents.{bodyTokens, segmentsOf, contents, kindsOf, normalCharacters, interchange, normalForm}
 use Rattle.stages.specs.Places.{isOver, startsWhere, tooLong, unusableAdvice, noOpening, brokenTags, foreignLevel, level, misplacedSegments, badControls, differingReferences, wrongCounts, normalTooLong, misplaced, badControl}
 use Rattle.stages.specs.Stages.{refusalOf}
@@ -128,8 +129,10 @@ opening : (mark : ℕ) (gs : List Segment) → startsWhere misplaced [] gs ≡ [
 unfolding startsWhere isComplete isOpen standing allowed allowedAt all at maybe tagStands begins isTag is kindNamed same upper digit between kindOf
 opening mark [] o c t n = absurd (false≢true c)
 opening mark (g ∷ gs) o c t n =
-    let parts = append-eq-nil-iff {p = placeIf (not (is Unb (kindOf g))) (start g)} .0 o in
-    let kind : is Unb (kindOf g) ≡ true = place-none-not (is Unb (kindOf g)) (start g) .0 (parts .0) in
+    let marks = sectionRule [] g in
+    let parts = append-eq-nil-iff {p = placeIf (not (is Unb (kindOf g) && marks)) (start g)} .0 o in
+    let kind : is Unb (kindOf g) ≡ true =
+    and-left (is Unb (kindOf g)) marks (place-none-not (is Unb (kindOf g) && marks) (start g) .0 (parts .0)) in
     let unb : firstValue (contentsOf g) ≡ text "UNB" = sym (tag-first g) ∙ unb-tag (tagOf g) kind in
     spelled-opening mark (map contentsOf gs) g (contentsOf g) refl unb
     (rw unb at (and-left (tagStands (contentsOf g)) (all tagStands (map contentsOf gs)) t))

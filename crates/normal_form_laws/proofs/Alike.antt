@@ -2,22 +2,26 @@
 -- the other. Assumes nothing.
 use Prim.Native.Nat.{ℕ}
 use mathlib.Core.Path.{_≡_, refl, sym, ap, ap₂, fun-ext, _∙_}
-use mathlib.Core.Bool.{Bool, true, false, not}
+use mathlib.Core.Bool.{Bool, true, false, not, _&&_, _||_}
 use mathlib.Core.List.{List, [], _∷_, map, map-map, append-eq-nil-iff, nil≢cons, cons≢nil, head-eq-of-cons-eq, tail-eq-of-cons-eq}
 use mathlib.Core.Option.{Option, none, some}
 use lib.Dec.{eqb}
-use Rattle.lists.specs.Lists.{if_then_else_, first, at, maybe}
+use Rattle.lists.specs.Lists.{if_then_else_, any, those, through, first, at, maybe}
 use Rattle.refusals.specs.Refusals.{placeIf}
 use Rattle.refusals.proofs.Stages.{place-none}
 use Rattle.values.specs.Tokens.{Segment, start}
 use Rattle.values.specs.Trimming.{contentsOf}
 use Rattle.levels.specs.Levels.{isOurVersion, levelOf}
 use Rattle.segments.specs.declared.Kind.{Kind}
+use Rattle.segments.specs.declared.Kind.the-variants.{Unh, Uns}
+use Rattle.segments.specs.declared.Section.{Section}
+use Rattle.segments.specs.declared.Section.the-variants.{None, Detail, Summary}
 use Rattle.segments.specs.Kinds.{is, kindNamed}
 use Rattle.segments.specs.Tags.{kindOf}
 use Rattle.segments.specs.Order.{allowed}
 use Rattle.control_elements.specs.Positions.{positionsOf}
 use Rattle.control_elements.specs.Control.{controlElement, standsWell, controlRule, headerOf, referenceOf, sameValue, referenceDiffers, decimal, trueCount, countOf, countWrong}
+use Rattle.control_elements.specs.Sections.{sectionNamed, sectionOf, isSection, markersIn, hasSection, mayBegin, sectionRule}
 use Rattle.stages.specs.Places.{startsWhere, misplaced, badControl}
 use Rattle.normal_form_laws.proofs.Tags.{firstValue, tag-first}
 
@@ -45,6 +49,10 @@ module _ (g h : Segment) (e : contentsOf g ≡ contentsOf h) where
   control-alike =
       let positions = positionsOf (kindOf h) in
       rw (kind-alike, element-alike (positions .count), element-alike (positions .reference))
+
+  section-alike : sectionOf g ≡ sectionOf h
+  unfolding sectionOf
+  section-alike = ap (maybe None sectionNamed) (element-alike 1)
 
   reference-alike : referenceOf g ≡ referenceOf h
   unfolding referenceOf
@@ -91,6 +99,45 @@ nearest-alike kind (g ∷ gs) (h ∷ hs) e =
     step true r ih = r
     step false r ih = ih
 
+-- whether a section has begun in the message
+section-begun : (section : Section) (gs hs : List Segment) → Alike gs hs → hasSection section gs ≡ hasSection section hs
+unfolding hasSection markersIn those through any
+section-begun section [] [] e = refl
+section-begun section [] (h ∷ hs) e = absurd (nil≢cons e)
+section-begun section (g ∷ gs) [] e = absurd (cons≢nil e)
+section-begun section (g ∷ gs) (h ∷ hs) e =
+    let same : contentsOf g ≡ contentsOf h = head-eq-of-cons-eq e in
+    rw (kind-alike g h same) (step (is Uns (kindOf h)) (is Unh (kindOf h)) (ap (isSection section) (section-alike g h same)) (section-begun section gs hs (tail-eq-of-cons-eq e)))
+  where
+    -- the UNS segments since UNH
+    since : List Segment → List Segment
+    since xs = through (λ x. is Unh (kindOf x)) xs
+
+    step : (marker header : Bool) → isSection section (sectionOf g) ≡ isSection section (sectionOf h)
+        → hasSection section gs ≡ hasSection section hs
+        → any (λ x. isSection section (sectionOf x))
+        (if marker then g ∷ those (λ x. is Uns (kindOf x)) (if header then [] else since gs)
+        else those (λ x. is Uns (kindOf x)) (if header then [] else since gs))
+        ≡ any (λ x. isSection section (sectionOf x))
+        (if marker then h ∷ those (λ x. is Uns (kindOf x)) (if header then [] else since hs)
+        else those (λ x. is Uns (kindOf x)) (if header then [] else since hs))
+    step true true s ih = ap (λ (b : Bool). b || false) s
+    step true false s ih = ap₂ _||_ s ih
+    step false true s ih = refl
+    step false false s ih = ih
+
+-- the rule of sections
+pub section-rule : (past past′ : List Segment) (g h : Segment) → Alike past past′ → contentsOf g ≡ contentsOf h
+    → sectionRule past g ≡ sectionRule past′ h
+unfolding sectionRule mayBegin
+section-rule past past′ g h p e =
+    rw (kind-alike g h e, section-alike g h e) (ap (λ (b : Bool). not (is Uns (kindOf h)) || b) (step (sectionOf h)))
+  where
+    step : (section : Section) → mayBegin past section ≡ mayBegin past′ section
+    step None = refl
+    step Detail = rw (section-begun Detail past past′ p, section-begun Summary past past′ p)
+    step Summary = rw (section-begun Summary past past′ p)
+
 -- ---- tests that go by contents
 
 -- the test has the same answer for segments with equal contents after segments with equal contents
@@ -116,7 +163,9 @@ starts-alike fails by past past′ (g ∷ gs) (h ∷ hs) p e k =
 
 pub order-by-contents : ByContents misplaced
 order-by-contents past past′ g h p e =
-    ap₂ (λ (ks : List Kind) (k : Kind). not (allowed ks k)) (kinds-alike past past′ p) (kind-alike g h e)
+    ap₂ (λ (a b : Bool). not (a && b))
+    (ap₂ allowed (kinds-alike past past′ p) (kind-alike g h e))
+    (section-rule past past′ g h p e)
 
 pub controls-by-contents : ByContents badControl
 controls-by-contents past past′ g h p e = ap not (control-alike g h e)

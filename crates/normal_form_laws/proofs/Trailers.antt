@@ -1,8 +1,9 @@
 -- In an accepted input UNZ stands last and nowhere else. Assumes nothing.
 use mathlib.Core.Path.{_≡_, refl, sym, _∙_}
-use mathlib.Core.Bool.{Bool, true, false, not, _||_, false≢true, true≢false, or-false}
+use mathlib.Core.Bool.{Bool, true, false, not, _&&_, _||_, false≢true, true≢false, or-false}
 use mathlib.Core.List.{List, [], _∷_, _++_, map, reverse, reverseAux, append-eq-nil-iff}
 use Rattle.lists.specs.Lists.{if_then_else_, any}
+use Rattle.lists.proofs.Texts.{and-left}
 use Rattle.refusals.specs.Refusals.{placeIf}
 use Rattle.refusals.proofs.Stages.{place-none-not}
 use Rattle.values.specs.Tokens.{Segment, start}
@@ -11,6 +12,7 @@ use Rattle.segments.specs.declared.Kind.the-variants.{Unb, Unz}
 use Rattle.segments.specs.Kinds.{is}
 use Rattle.segments.specs.Tags.{kindOf}
 use Rattle.segments.specs.Order.{isOpen, standing, allowedAt, allowed, isComplete}
+use Rattle.control_elements.specs.Sections.{sectionRule}
 use Rattle.stages.specs.Places.{startsWhere, misplaced}
 use Rattle.normal_form_laws.specs.Forms.{afterTrailer}
 
@@ -64,8 +66,10 @@ trailer-last past (g ∷ gs) more o a =
         → (if b then gs ++ more else afterTrailer (gs ++ more)) ≡ more
     step true e [] o a ih = refl
     step true e (h ∷ hs) o a ih =
-        let parts = append-eq-nil-iff {p = placeIf (not (allowed (kindOf g ∷ map kindOf past) (kindOf h))) (start h)} .0 o in
+        let fits = allowed (kindOf g ∷ map kindOf past) (kindOf h) in
+        let marks = sectionRule (g ∷ past) h in
+        let parts = append-eq-nil-iff {p = placeIf (not (fits && marks)) (start h)} .0 o in
         absurd (true≢false
-        (sym (place-none-not (allowed (kindOf g ∷ map kindOf past) (kindOf h)) (start h) .0 (parts .0))
+        (sym (and-left fits marks (place-none-not (fits && marks) (start h) .0 (parts .0)))
         ∙ none-after (kindOf g) (map kindOf past) (kindOf h) e))
     step false e gs o a ih = ih a

@@ -13,6 +13,7 @@ use Rattle.segments.specs.Tags.{tagPiece, tagOf, kindOf, isTag, tagRule}
 use Rattle.segments.specs.Order.{segmentsIn, messagesIn, groupsIn, segmentsSinceHeader, messagesSinceGroup, isOpen, standing, insideMessage, allowedAt, allowed, isComplete}
 use Rattle.control_elements.specs.Positions.{positionTable, positionsOf}
 use Rattle.control_elements.specs.Control.{single, controlElement, isReference, isCount, standsWell, controlRule, headerOf, referenceOf, sameValue, referenceDiffers, decimalFrom, decimal, trueCount, countOf, countWrong}
+use Rattle.control_elements.specs.Sections.{sectionNamed, sectionOf, isSection, markersIn, hasSection, mayBegin, sectionRule}
 use Rattle.stages.specs.Contents.{bodyTokens, segmentsOf, contents, kindsOf, normalCharacters, interchange, normalForm}
 use Rattle.stages.specs.Places.{isOver, startsWhere, tooLong, unusableAdvice, noOpening, strayReleases, unendedSegment, brokenTags, foreignLevel, level, placeOutside, outsideLevel, misplacedSegments, badControls, differingReferences, wrongCounts, normalTooLong}
 use Rattle.stages.specs.Stages.{placesOf, brackets, bracketsIn, bracketed, stagesIn, laterStages, stages, refusalOf}
@@ -27,5 +28,5 @@ use Rattle.starred_cases.specs.Cases.{says}
 use Rattle.paper_words.specs.Further.{rows, right}
 
 pub all-rows-hold : T (all right rows)
-unfolding same begins member allDiffer isEmpty all those through first at lastOr onto cut unlessIdle dropEnd trimEnd eachLedBy joined gather maybe between upper lower digit separates hasRelease serviceCharacters isService usable sixBytes spelledOut advised adviceOf plusCharacters controlCharacters charactersOf bodyStart body badAdvice opens role met isLower lowerOf lowest orElse answering placeIf unreleased releasing taken tokensFrom tokens ends placeOf segments start byteOf bytesOf valueOf valuesOf elementsOf isFault endedBy endsInside finished trimElement isIdle trimSegment trimmed valueAt contentsOf spellByte spellValue spellElement spellSegment spell inLevelA inLevelB classOf levelNamed inLevel isOurVersion levelOf is kindNamed tagPiece tagOf kindOf isTag tagRule segmentsIn messagesIn groupsIn segmentsSinceHeader messagesSinceGroup isOpen standing insideMessage allowedAt allowed isComplete positionTable positionsOf single controlElement isReference isCount standsWell controlRule headerOf referenceOf sameValue referenceDiffers decimalFrom decimal trueCount countOf countWrong bodyTokens segmentsOf contents kindsOf normalCharacters interchange normalForm isOver startsWhere tooLong unusableAdvice noOpening strayReleases unendedSegment brokenTags foreignLevel level placeOutside outsideLevel misplacedSegments badControls differingReferences wrongCounts normalTooLong placesOf brackets bracketsIn bracketed stagesIn laterStages stages refusalOf given refused refusedInput accepted figuresOf judge isAccepted areSame compare says any endPlace shortFor normaliseRefusal normalise located locate listElement listSegment listOf listBytes tableFrom listTable entries valueIn listedIn rankOf closed closes segmentsListed trimList valueBytes valueTable readRefusal read numbersWhere badTable badEntry badList unusableBytes lacksRelease needsRelease writtenText writeStages writeRefusal write rows right
+unfolding same begins member allDiffer isEmpty all those through first at lastOr onto cut unlessIdle dropEnd trimEnd eachLedBy joined gather maybe between upper lower digit separates hasRelease serviceCharacters isService usable sixBytes spelledOut advised adviceOf plusCharacters controlCharacters charactersOf bodyStart body badAdvice opens role met isLower lowerOf lowest orElse answering placeIf unreleased releasing taken tokensFrom tokens ends placeOf segments start byteOf bytesOf valueOf valuesOf elementsOf isFault endedBy endsInside finished trimElement isIdle trimSegment trimmed valueAt contentsOf spellByte spellValue spellElement spellSegment spell inLevelA inLevelB classOf levelNamed inLevel isOurVersion levelOf is kindNamed tagPiece tagOf kindOf isTag tagRule segmentsIn messagesIn groupsIn segmentsSinceHeader messagesSinceGroup isOpen standing insideMessage allowedAt allowed isComplete positionTable positionsOf single controlElement isReference isCount standsWell controlRule headerOf referenceOf sameValue referenceDiffers decimalFrom decimal trueCount countOf countWrong sectionNamed sectionOf isSection markersIn hasSection mayBegin sectionRule bodyTokens segmentsOf contents kindsOf normalCharacters interchange normalForm isOver startsWhere tooLong unusableAdvice noOpening strayReleases unendedSegment brokenTags foreignLevel level placeOutside outsideLevel misplacedSegments badControls differingReferences wrongCounts normalTooLong placesOf brackets bracketsIn bracketed stagesIn laterStages stages refusalOf given refused refusedInput accepted figuresOf judge isAccepted areSame compare says any endPlace shortFor normaliseRefusal normalise located locate listElement listSegment listOf listBytes tableFrom listTable entries valueIn listedIn rankOf closed closes segmentsListed trimList valueBytes valueTable readRefusal read numbersWhere badTable badEntry badList unusableBytes lacksRelease needsRelease writtenText writeStages writeRefusal write rows right
 all-rows-hold = tt

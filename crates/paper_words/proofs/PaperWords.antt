@@ -32,11 +32,12 @@ use Rattle.operations.specs.Write.{writeRefusal, write}
 use Rattle.operations.proofs.Words as values
 use Rattle.trimming_laws.proofs.Nesting.{listed-listOf, listOf-listed}
 use Rattle.trimming_laws.proofs.Tables.{listed-table, listTable-length}
-use Rattle.normal_form_laws.proofs.Alike.{control-alike, references-by-contents, counts-by-contents}
+use Rattle.control_elements.proofs.Sections.{section-says, section-other}
+use Rattle.normal_form_laws.proofs.Alike.{control-alike, section-rule, references-by-contents, counts-by-contents}
 use Rattle.round_trip_laws.proofs.Numbers.{unrefused}
 use Rattle.round_trip_laws.proofs.Theorems.{written-unchanged}
 use Rattle.paper_words.specs.Relations.{Usable, LevelA, LevelB}
-use Rattle.paper_words.specs.PaperWords.{ServiceCharacters, Reading, Spelling, BytesToValues, Stands, ControlOf, ReferencesOf, CountsOf, ControlElements, Told, ValueLists, PlacesOf, PaperWords}
+use Rattle.paper_words.specs.PaperWords.{ServiceCharacters, Reading, Spelling, BytesToValues, Stands, ControlOf, ReferencesOf, CountsOf, ControlElements, SectionMarkers, Told, ValueLists, PlacesOf, PaperWords}
 use Rattle.paper_words.proofs.Writer.{fine-list, write-refused-exactly}
 
 service-characters : ServiceCharacters
@@ -158,6 +159,14 @@ control-elements =
       counters = counted;
     }
 
+section-markers : (past : List Segment) (g : Segment) → SectionMarkers past g
+section-markers past g =
+    record {
+      markers = λ k n. section-says past n g k;
+      others = section-other past g;
+      alike = λ other h p e. section-rule past other g h p e;
+    }
+
 told : (r : Refusal) → Told r
 told r =
     record {
@@ -233,6 +242,7 @@ paper-words =
       stands = stands;
       order = record { messages = messages-follow; groups = groups-follow };
       control-elements = control-elements;
+      section-markers = section-markers;
       normal-form = record { byte-by-byte = form-is };
       told = told;
       value-lists = value-lists;

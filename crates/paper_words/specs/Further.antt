@@ -69,6 +69,22 @@ rows =
     ∷ row (judge (grouped "UNE+2+G1'" "UNZ+1+R1'")) 12 (116 ∷ [])
     -- 9: a group without a message is refused at its UNE
     ∷ row (judge (text unb ++ text "UNG+ORDERS+AA+BB+260105:0930+G1+UN+1:901'" ++ text "UNE+0+G1'" ++ text unz)) 9 (73 ∷ [])
+    -- 9: the sections of a message. D; S; D and S; D twice; S and then D; S twice
+    ∷ row (judge (with "UNS+D'" unt unz)) 0 (text ":+.? '" ++ 5 ∷ 1 ∷ 0 ∷ 86 ∷ [])
+    ∷ row (judge (with "UNS+S'" unt unz)) 0 (text ":+.? '" ++ 5 ∷ 1 ∷ 0 ∷ 86 ∷ [])
+    ∷ row (judge (with "UNS+D'UNS+S'" "UNT+4+1'" unz)) 0 (text ":+.? '" ++ 6 ∷ 1 ∷ 0 ∷ 92 ∷ [])
+    ∷ row (judge (with "UNS+D'UNS+D'" "UNT+4+1'" unz)) 9 (60 ∷ [])
+    ∷ row (judge (with "UNS+S'UNS+D'" "UNT+4+1'" unz)) 9 (60 ∷ [])
+    ∷ row (judge (with "UNS+S'UNS+S'" "UNT+4+1'" unz)) 9 (60 ∷ [])
+    -- one component of the first element, trimmed
+    ∷ row (judge (with "UNS+D:+'" unt unz)) 0 (text ":+.? '" ++ 5 ∷ 1 ∷ 0 ∷ 86 ∷ [])
+    ∷ row (judge (with "UNS+D+1:2'" unt unz)) 0 (text ":+.? '" ++ 5 ∷ 1 ∷ 0 ∷ 90 ∷ [])
+    ∷ row (judge (with "UNS'" unt unz)) 9 (54 ∷ [])
+    ∷ row (judge (with "UNS+D:S'" unt unz)) 9 (54 ∷ [])
+    ∷ row (judge (with "UNS++D'" unt unz)) 9 (54 ∷ [])
+    ∷ row (judge (with "UNS+DS'" unt unz)) 9 (54 ∷ [])
+    -- they begin anew at each UNH
+    ∷ row (judge (with "UNS+S'UNT+3+1'UNH+2'UNS+D'" "UNT+3+2'" "UNZ+2+R1'")) 0 (text ":+.? '" ++ 8 ∷ 2 ∷ 0 ∷ 106 ∷ [])
     -- the other opening without advice
     ∷ row (judge controlled) 0 (31 ∷ 29 ∷ 46 ∷ 32 ∷ 32 ∷ 28 ∷ 5 ∷ 1 ∷ 0 ∷ 93 ∷ [])
     ∷ row (compare x controlled) 0 (1 ∷ [])

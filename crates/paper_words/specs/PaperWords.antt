@@ -28,6 +28,7 @@ use Rattle.segments.specs.Kinds.{kindNamed}
 use Rattle.segments.specs.Tags.{tagPiece, tagOf, kindOf, isTag, tagRule}
 use Rattle.segments.specs.Order.{segmentsIn, messagesIn, groupsIn, messagesSinceGroup, standing, allowedAt, allowed, isComplete}
 use Rattle.control_elements.specs.Control.{controlRule, referenceDiffers, decimal, countWrong}
+use Rattle.control_elements.specs.Sections.{sectionRule}
 use Rattle.stages.specs.Contents.{bodyTokens, segmentsOf, contents, kindsOf, normalForm}
 use Rattle.stages.specs.Places.{tooLong, unusableAdvice, noOpening, strayReleases, unendedSegment, brokenTags, foreignLevel, outsideLevel, misplacedSegments, badControls, differingReferences, wrongCounts, normalTooLong}
 use Rattle.stages.specs.Stages.{stages, laterStages}
@@ -44,7 +45,7 @@ use Rattle.operations.specs.Write.{badList, writtenText, write}
 use Rattle.spelling_laws.specs.Bodies.{wordsOf, Shaped}
 use Rattle.trimming_laws.specs.Kinds.{Kinds}
 use Rattle.acceptance_laws.specs.Refused.{Refused}
-use Rattle.paper_words.specs.Relations.{six, Usable, Service, advised, NoAdvice, BeginsUnb, Unended, Open, LevelA, LevelB, Names, Reference, Count, Nearest, StartsAt, Record, BadTable, BadRecord, SixUsable, LacksRelease, Nowhere, Lowest}
+use Rattle.paper_words.specs.Relations.{six, Usable, Service, advised, NoAdvice, BeginsUnb, Unended, Open, LevelA, LevelB, Names, Reference, Count, Nearest, Marks, Marked, StartsAt, Record, BadTable, BadRecord, SixUsable, LacksRelease, Nowhere, Lowest}
 
 -- ---- "Service characters"
 
@@ -251,6 +252,20 @@ pub record ControlElements : Type 0 where
       × (groupsIn (Ung ∷ past) ≡ groupsIn past + 1)
       × ((kind ≡ Ung → ⊥) → groupsIn (kind ∷ past) ≡ groupsIn past)
 
+-- ---- change request 2026-03, "Section markers"
+
+-- after what passed since the nearest UNH
+pub record SectionMarkers (past : List Segment) (g : Segment) : Type 0 where
+  -- "UNS's first element is a single component `D` or `S`, each at most once in a message, D before S if both stand."
+  pub markers : kindOf g ≡ Uns → (n : Nearest Unh past)
+      → (sectionRule past g ≡ true)
+      ↔ ((Marks (contentsOf g) 68 × (Marked (n .0) 68 → ⊥) × (Marked (n .0) 83 → ⊥)) ⊎ (Marks (contentsOf g) 83 × (Marked (n .0) 83 → ⊥)))
+  -- no other segment is asked
+  pub others : (kindOf g ≡ Uns → ⊥) → sectionRule past g ≡ true
+  -- equal contents are judged alike
+  pub alike : (other : List Segment) (h : Segment) → map contentsOf past ≡ map contentsOf other → contentsOf g ≡ contentsOf h
+      → sectionRule past g ≡ sectionRule other h
+
 -- ---- "Normal form"
 
 pub record NormalForm : Type 0 where
@@ -357,10 +372,10 @@ pub record PlacesOf (p : ℕ) : Type 0 where
       → List·Memᴰ p (outsideLevel s) ↔ ((b : ℕ) × (from : ℕ) × List·Memᴰ (byte b from p) (bodyTokens s) × (LevelA b → ⊥))
   pub eight-b : (s : List ℕ) (unb : Segment) (rest : List Segment) → segmentsOf s ≡ unb ∷ rest → Names (contentsOf unb) 66
       → List·Memᴰ p (outsideLevel s) ↔ ((b : ℕ) × (from : ℕ) × List·Memᴰ (byte b from p) (bodyTokens s) × (LevelB b → ⊥))
-  -- 9: "segment not allowed there; or the end before UNZ": "segment start; input length"
+  -- 9: "segment not allowed there; or the end before UNZ": "segment start; input length"; and "9 at the UNS that breaks this"
   pub nine : (s : List ℕ)
       → List·Memᴰ p (misplacedSegments s)
-      ↔ (StartsAt (λ past g. not (allowed (map kindOf past) (kindOf g))) (segmentsOf s) p
+      ↔ (StartsAt (λ past g. not (allowed (map kindOf past) (kindOf g) && sectionRule past g)) (segmentsOf s) p
       ⊎ ((isComplete (kindsOf s) ≡ false) × (p ≡ length s)))
   -- 10 to 12: "segment start", "trailer start"
   pub ten : (s : List ℕ) → List·Memᴰ p (badControls s) ↔ StartsAt (λ past g. not (controlRule g)) (segmentsOf s) p
@@ -430,6 +445,7 @@ pub record PaperWords : Type 0 where
   pub stands : (past : List Kind) → Stands past
   pub order : Order
   pub control-elements : ControlElements
+  pub section-markers : (past : List Segment) (g : Segment) → SectionMarkers past g
   pub normal-form : NormalForm
   pub told : (r : Refusal) → Told r
   pub value-lists : ValueLists

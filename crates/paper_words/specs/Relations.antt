@@ -5,10 +5,14 @@ use Prim.Native.Nat.{ℕ}
 use mathlib.Core.Path.{_≡_}
 use mathlib.Core.Bool.{Bool, true}
 use mathlib.Core.Logic.{_⊎_}
-use mathlib.Core.List.{List, [], _∷_, _++_, reverse}
-use Rattle.lists.specs.Lists.{text}
+use mathlib.Core.List.{List, [], _∷_, _++_, reverse, List·Memᴰ}
+use mathlib.Core.Option.{some}
+use Rattle.lists.specs.Lists.{text, at}
 use Rattle.characters.specs.declared.Characters.{Characters}
 use Rattle.values.specs.Tokens.{Segment, start}
+use Rattle.values.specs.Trimming.{contentsOf}
+use Rattle.segments.specs.declared.Kind.the-variants.{Uns}
+use Rattle.segments.specs.Tags.{kindOf}
 -- "They are usable when"
 pub use Rattle.characters.specs.Notions.{SeparatorByte, Usable}
 -- "An unreleased terminator ends a segment"; what is open; levels A and B
@@ -38,6 +42,18 @@ NoAdvice s = (rest : List ℕ) → s ≡ text "UNA" ++ rest → ⊥
 -- "begins `UNB`" and a byte
 abbrev pub BeginsUnb : List ℕ → ℕ → Type 0
 BeginsUnb s b = (rest : List ℕ) × (s ≡ text "UNB" ++ b ∷ rest)
+
+-- ---- change request 2026-03, "Section markers"
+
+-- of a UNS's contents: the first element is "a single component" of this one letter
+abbrev pub Marks : List (List (List ℕ)) → ℕ → Type 0
+Marks contents letter = at contents 1 ≡ some ((letter ∷ []) ∷ [])
+
+-- a UNS with this letter is among the segments
+abbrev pub Marked : List Segment → ℕ → Type 0
+Marked gs letter = (g : Segment) × List·Memᴰ g gs × (kindOf g ≡ Uns) × Marks (contentsOf g) letter
+
+-- ---- "Refusals by number"
 
 -- the place is the start of a segment that fails the test, which is given what passed before it, the nearest first
 abbrev pub StartsAt : (List Segment → Segment → Bool) → List Segment → ℕ → Type 0

@@ -18,6 +18,7 @@ use Rattle.values.proofs.Words.{ends-says, ended-says}
 use Rattle.segments.specs.declared.Kind.{Kind}
 use Rattle.segments.specs.declared.Kind.the-variants.{Unb, Ung, Unh, Uns, Unt, Une, Unz, User}
 use Rattle.segments.specs.declared.Standing.the-variants.{BeforeInterchange, BetweenGroups, InGroup, InGroupMessage, InMessage, AfterInterchange}
+use Rattle.segments.specs.declared.Section.{Section}
 use Rattle.segments.specs.Kinds.{index, is, kindNamed}
 use Rattle.segments.specs.Tags.{tagPiece, tagOf, kindOf, isTag, tagRule}
 use Rattle.segments.specs.Order.{segmentsIn, messagesIn, groupsIn, segmentsSinceHeader, messagesSinceGroup, isOpen, standing, allowedAt, walkOver}
@@ -237,15 +238,16 @@ module _ (past : List Kind) where
         before-interchange b = rw (unopened Unz Unb z, unopened Unh Unt h, unopened Ung Une g, unopened Unb Unz b)
 
 -- what the walk's struct holds
-pub walk-is : (past : List Kind) → let walk = walkOver past in
+pub walk-is : (section : Section) (past : List Kind) → let walk = walkOver section past in
     (walk .standing ≡ standing past)
+    × (walk .section ≡ section)
     × (walk .segments .0 ≡ segmentsIn past)
     × (walk .messages .0 ≡ messagesIn past)
     × (walk .groups .0 ≡ groupsIn past)
     × (walk .in_message .0 ≡ segmentsSinceHeader past)
     × (walk .in_group .0 ≡ messagesSinceGroup past)
 unfolding walkOver
-walk-is past = (refl, refl, refl, refl, refl, refl)
+walk-is section past = (refl, refl, refl, refl, refl, refl, refl)
 
 -- "A group is UNG, one or more messages, UNE.": in a group a message may begin, and UNE is allowed once there was one
 pub group-allows : (past : List Kind)

@@ -9,6 +9,7 @@ use Rattle.segments.specs.declared.Kind.{Kind}
 use Rattle.segments.specs.declared.Kind.the-variants.{Unb, Ung, Unh, Uns, Unt, Une, Unz, User}
 use Rattle.segments.specs.declared.Standing.{Standing}
 use Rattle.segments.specs.declared.Standing.the-variants.{BeforeInterchange, BetweenGroups, InGroup, InGroupMessage, InMessage, AfterInterchange}
+use Rattle.segments.specs.declared.Section.{Section}
 use Rattle.segments.specs.declared.Walk.{Walk}
 use Rattle.segments.specs.Kinds.{is}
 
@@ -73,11 +74,12 @@ allowed past kind = allowedAt (standing past) past kind
 unfoldable pub isComplete : List Kind → Bool
 isComplete past = isOpen Unz Unb past
 
--- the walk's state after what passed
-unfoldable pub walkOver : List Kind → Walk
-walkOver past =
+-- the walk's state after what passed, of which this section began last in the message
+unfoldable pub walkOver : Section → List Kind → Walk
+walkOver section past =
     record {
       standing = standing past;
+      section = section;
       segments = record { 0 = segmentsIn past };
       messages = record { 0 = messagesIn past };
       groups = record { 0 = groupsIn past };

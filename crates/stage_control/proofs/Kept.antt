@@ -19,6 +19,7 @@ use Rattle.values.proofs.Steps.{at-end}
 use Rattle.scanner.specs.Scan.{segmentAt}
 use Rattle.segments.specs.declared.Kind.{Kind}
 use Rattle.segments.specs.declared.Kind.the-variants.{Unb, Ung, Unh}
+use Rattle.segments.specs.declared.Section.the-variants.{None}
 use Rattle.segments.specs.declared.Walk.{Walk}
 use Rattle.segments.specs.Kinds.{index, is}
 use Rattle.segments.specs.Tags.{kindOf}
@@ -93,9 +94,9 @@ module _ (c : Characters) (s : List ℕ) where
     pub ung : Spelled Ung past (headers .ung)
     pub unh : Spelled Unh past (headers .unh)
 
-  pub kept-none : Kept [] (walkOver []) (record { unb = length s; ung = length s; unh = length s })
+  pub kept-none : Kept [] (walkOver None []) (record { unb = length s; ung = length s; unh = length s })
   kept-none =
-      record { counts = counts-walk []; unb = spelled-none Unb; ung = spelled-none Ung; unh = spelled-none Unh }
+      record { counts = counts-walk None []; unb = spelled-none Unb; ung = spelled-none Ung; unh = spelled-none Unh }
 
   module _ (past : List Segment) (at : ℕ) {reference : ℕ} (e : ElementAt c s at (positionsOf (kindOf (segmentAt c s at)) .reference) reference)
       (rule : controlRule (segmentAt c s at) ≡ true) where

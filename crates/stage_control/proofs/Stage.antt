@@ -17,6 +17,7 @@ use Rattle.values.specs.Tokens.{Segment, ends, segments, start, tokensAt}
 use Rattle.scanner.specs.Scan.{segmentAt, Skips}
 use Rattle.scanner.proofs.Segments.{segments-end, segments-next}
 use Rattle.segments.specs.declared.Kind.{Kind}
+use Rattle.segments.specs.declared.Section.the-variants.{None}
 use Rattle.segments.specs.declared.Walk.{Walk}
 use Rattle.segments.specs.Tags.{kindOf}
 use Rattle.segments.specs.Order.{walkOver}
@@ -83,7 +84,7 @@ module _ (c : Characters) (s : List ℕ) where
     pub fewer : length past ≤ at
     pub same-answer : outcome (controlled (tokensAt c s from)) ≡ comesTo past at
 
-  pub passing-begun : (from : ℕ) {walk : Walk} → walk ≡ walkOver []
+  pub passing-begun : (from : ℕ) {walk : Walk} → walk ≡ walkOver None []
       → Passing from walk (record { unb = length s; ung = length s; unh = length s }) from
   unfolding controlled
   passing-begun from w =

@@ -12,6 +12,7 @@ use Rattle.refusals.specs.declared.Fault.the-variants.{UnusableAdvice, NoOpenin
 use Rattle.refusals.specs.declared.Refusal.{Refusal}
 use Rattle.refusals.specs.Refusals.{number, met, answering}
 use Rattle.refusals.proofs.Stages.{one-place}
+use Rattle.segments.specs.declared.Section.the-variants.{None}
 use Rattle.segments.specs.declared.Walk.{Walk}
 use Rattle.segments.specs.Order.{walkOver}
 use Rattle.stages.specs.Places.{unusableAdvice, noOpening}
@@ -44,7 +45,7 @@ module _ (s : List ℕ) where
   opening-missing e d p = ap (λ (n : ℕ). Refused (record { fault = NoOpening; place = n })) p ∙ answers (asked e d)
 
   pub opening-passed : {c : Characters} {start : ℕ} {walk : Walk} → badAdvice s ≡ false → opens s ≡ true → c ≡ charactersOf s
-      → start ≡ bodyStart s → walk ≡ walkOver []
+      → start ≡ bodyStart s → walk ≡ walkOver None []
       → Passed (record { characters = c; start = start; level = 0; walk = walk }) ≡ progress 2 3 s
   unfolding maybe foundBy
   opening-passed e d h p w = cc (answers (asked e d))

@@ -1,4 +1,4 @@
--- What stage 9 answers, and the same as a walk that knows only where it stands and what it has counted.
+-- What stage 9 answers, and the same as a walk that knows only where it stands, which section it is in and what it has counted.
 -- `size` is the length of the input. Assumes nothing.
 use Prim.Native.Nat.{ℕ}
 use mathlib.Core.List.{List, [], _∷_, map, reverse}
@@ -7,11 +7,16 @@ use Rattle.lists.specs.Lists.{if_then_else_}
 use Rattle.refusals.specs.declared.Fault.the-variants.{MisplacedSegment}
 use Rattle.refusals.specs.declared.Refusal.{Refusal}
 use Rattle.values.specs.Tokens.{Token, Segment, segments, start}
+use Rattle.segments.specs.declared.Section.{Section}
+use Rattle.segments.specs.declared.Section.the-variants.{None}
 use Rattle.segments.specs.declared.Walk.{Walk}
 use Rattle.segments.specs.Tags.{kindOf}
 use Rattle.segments.specs.Order.{walkOver}
+use Rattle.control_elements.specs.Sections.{sectionNamed, lastSection}
 use Rattle.stage_walks.specs.Walks.{ordered}
-use Rattle.walk_laws.specs.Walking.{allowedBy, steppedBy, isAfter}
+use Rattle.elements.specs.Values.{valueIn}
+use Rattle.trimmed_values.specs.Trimmed.{isAlone}
+use Rattle.walk_laws.specs.Walking.{sectionBegun, fitsBy, steppedBy, begunBy, isAfter}
 use Rattle.stage_order.specs.declared.Ordered.{Ordered}
 use Rattle.stage_order.specs.declared.Ordered.the-variants.{Whole, Failed}
 
@@ -21,7 +26,15 @@ orderedBy walk none = Whole walk
 orderedBy walk (some r) = Failed r
 
 unfoldable pub orderedAs : ℕ → List Token → Ordered
-orderedAs size ts = orderedBy (walkOver (reverse (map kindOf (segments ts)))) (ordered size ts)
+orderedAs size ts =
+    let gs = segments ts in
+    orderedBy (walkOver (lastSection (reverse gs)) (reverse (map kindOf gs))) (ordered size ts)
+
+-- ---- the section that a segment begins
+
+-- the section that the element names which the tokens begin with
+unfoldable pub sectionFrom : List Token → Section
+sectionFrom ts = if isAlone ts then sectionNamed (valueIn ts) else None
 
 -- ---- the walk
 
@@ -36,4 +49,5 @@ completed size walk = if isAfter (walk .standing) then Whole walk else misplaced
 unfoldable pub goesOn : ℕ → Walk → List Segment → Ordered
 goesOn size walk [] = completed size walk
 goesOn size walk (g ∷ gs) =
-    if allowedBy walk (kindOf g) then goesOn size (steppedBy walk (kindOf g)) gs else misplacedAt (start g)
+    let section = sectionBegun (kindOf g) g in
+    if fitsBy walk (kindOf g) section then goesOn size (begunBy (steppedBy walk (kindOf g)) section) gs else misplacedAt (start g)

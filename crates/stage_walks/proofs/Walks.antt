@@ -1,7 +1,7 @@
 -- The walks of 8, 9 and (10 11 12) answer what their stages answer, for every input. Assumes nothing.
 use Prim.Native.Nat.{ℕ, _≤_}
 use mathlib.Core.Path.{_≡_, refl, ap, _∙_}
-use mathlib.Core.Bool.{Bool, true, false, not}
+use mathlib.Core.Bool.{Bool, true, false, not, _&&_}
 use mathlib.Core.List.{List, [], _∷_, _++_, map, append-assoc, List·Memᴰ·not-nil}
 use mathlib.Core.Option.{Option, none, some}
 use lib.ListN.{length}
@@ -21,6 +21,7 @@ use Rattle.levels.specs.Levels.{inLevel}
 use Rattle.segments.specs.Tags.{kindOf}
 use Rattle.segments.specs.Order.{allowed, isComplete}
 use Rattle.control_elements.specs.Control.{controlRule, referenceDiffers, countWrong}
+use Rattle.control_elements.specs.Sections.{sectionRule}
 use Rattle.stages.specs.Contents.{bodyTokens, segmentsOf, kindsOf}
 use Rattle.stages.specs.Places.{level, placeOutside, outsideLevel, misplacedSegments, badControls, differingReferences, wrongCounts, misplaced, badControl}
 use Rattle.stages.specs.Stages.{placesOf, brackets, bracketsIn, bracketed, stagesIn}
@@ -70,7 +71,8 @@ if-not false o = refl
 order-answers : (low high : ℕ) (past : List Segment) (g : Segment) → Spans low high g
     → lowest (failing MisplacedSegment misplaced (past, g)) ≡ orderedSegment past g
 unfolding orderedSegment
-order-answers low high past g spans = rw lowest-if (if-not (allowed (map kindOf past) (kindOf g)) (refuse MisplacedSegment (start g)))
+order-answers low high past g spans =
+    rw lowest-if (if-not (allowed (map kindOf past) (kindOf g) && sectionRule past g) (refuse MisplacedSegment (start g)))
 
 pub ordered-answers : (s : List ℕ) → answering (stagesIn s 9 9) ≡ ordered (length s) (bodyTokens s)
 unfolding bracketsIn brackets those all bracketed placesOf misplacedSegments ordered segmentsOf kindsOf

@@ -1,7 +1,7 @@
 -- Each stage after the opening as a walk over the tokens or the segments, from left to right, that stops at the first fault.
 -- `size` is the length of the input. Assumes nothing.
 use Prim.Native.Nat.{ℕ}
-use mathlib.Core.Bool.{Bool, true, false}
+use mathlib.Core.Bool.{Bool, true, false, _&&_}
 use mathlib.Core.List.{List, [], _∷_, map, reverse}
 use mathlib.Core.Option.{Option, none, some}
 use Rattle.lists.specs.Lists.{if_then_else_, maybe}
@@ -15,6 +15,7 @@ use Rattle.levels.specs.Levels.{inLevel}
 use Rattle.segments.specs.Tags.{kindOf, tagRule}
 use Rattle.segments.specs.Order.{allowed, isComplete}
 use Rattle.control_elements.specs.Control.{controlRule, referenceDiffers, countWrong}
+use Rattle.control_elements.specs.Sections.{sectionRule}
 
 abbrev pub refuse : Fault → ℕ → Option Refusal
 refuse f place = some (record { fault = f; place = place })
@@ -54,7 +55,7 @@ leveled level (fault place ∷ ts) = leveled level ts
 -- ---- 9
 
 unfoldable pub orderedSegment : List Segment → Segment → Option Refusal
-orderedSegment past g = if allowed (map kindOf past) (kindOf g) then none else refuse MisplacedSegment (start g)
+orderedSegment past g = if allowed (map kindOf past) (kindOf g) && sectionRule past g then none else refuse MisplacedSegment (start g)
 
 unfoldable pub ordered : ℕ → List Token → Option Refusal
 ordered size ts =

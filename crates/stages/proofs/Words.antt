@@ -27,6 +27,7 @@ use Rattle.levels.proofs.Words.{Names, level-none}
 use Rattle.segments.specs.Tags.{kindOf, tagRule}
 use Rattle.segments.specs.Order.{allowed, isComplete}
 use Rattle.control_elements.specs.Control.{controlRule, referenceDiffers, countWrong}
+use Rattle.control_elements.specs.Sections.{sectionRule}
 use Rattle.stages.specs.Contents.{bodyTokens, segmentsOf, contents, kindsOf, normalCharacters, interchange, normalForm}
 use Rattle.stages.specs.Places.{isOver, startsWhere, tooLong, unusableAdvice, noOpening, strayReleases, unendedSegment, brokenTags, foreignLevel, level, placeOutside, outsideLevel, misplacedSegments, badControls, differingReferences, wrongCounts, normalTooLong}
 use Rattle.stages.specs.Stages.{placesOf, brackets, bracketsIn, bracketed, stagesIn, stages, laterStages}
@@ -218,13 +219,13 @@ module _ (s : List ℕ) (p : ℕ) where
 
   -- ---- 9
 
-  -- the start of a segment that is not allowed there, or the input's length
+  -- the start of a segment that is not allowed there, or of a UNS that breaks the rule of sections; or the input's length
   pub nine-at : List·Memᴰ p (misplacedSegments s)
-      ↔ (StartsAt (λ past g. not (allowed (map kindOf past) (kindOf g))) [] (segmentsOf s) p
+      ↔ (StartsAt (λ past g. not (allowed (map kindOf past) (kindOf g) && sectionRule past g)) [] (segmentsOf s) p
       ⊎ ((isComplete (kindsOf s) ≡ false) × (p ≡ length s)))
   unfolding misplacedSegments
   nine-at =
-      let misplaced : List Segment → Segment → Bool = λ past g. not (allowed (map kindOf past) (kindOf g)) in
+      let misplaced : List Segment → Segment → Bool = λ past g. not (allowed (map kindOf past) (kindOf g) && sectionRule past g) in
       let unended : Bool = not (isComplete (kindsOf s)) in
       let ended = place-says unended (length s) p (negated (isComplete (kindsOf s))) in
       let starts = starts-at misplaced p [] (segmentsOf s) in (

@@ -15,6 +15,7 @@ use Rattle.levels.specs.Levels.{levelOf, inLevel}
 use Rattle.segments.specs.Tags.{kindOf, tagRule}
 use Rattle.segments.specs.Order.{allowed, isComplete}
 use Rattle.control_elements.specs.Control.{controlRule, referenceDiffers, countWrong}
+use Rattle.control_elements.specs.Sections.{sectionRule}
 use Rattle.stages.specs.Contents.{bodyTokens, segmentsOf, kindsOf, normalForm}
 use Rattle.refusals.specs.Limits.{mostBytes}
 
@@ -32,7 +33,7 @@ abbrev pub brokenTag : List Segment → Segment → Bool
 brokenTag past g = finished g && not (tagRule g)
 
 abbrev pub misplaced : List Segment → Segment → Bool
-misplaced past g = not (allowed (map kindOf past) (kindOf g))
+misplaced past g = not (allowed (map kindOf past) (kindOf g) && sectionRule past g)
 
 abbrev pub badControl : List Segment → Segment → Bool
 badControl past g = not (controlRule g)
@@ -80,7 +81,8 @@ module _ (s : List ℕ) where
   unfoldable pub outsideLevel : List ℕ
   outsideLevel = gather placeOutside (bodyTokens s)
 
-  -- 9: "segment not allowed there; or the end before UNZ": "segment start; input length"
+  -- 9: "segment not allowed there; or the end before UNZ": "segment start; input length"; change request 2026-03: "9 at the UNS that
+  -- breaks this"
   unfoldable pub misplacedSegments : List ℕ
   misplacedSegments = startsWhere misplaced [] (segmentsOf s) ++ placeIf (not (isComplete (kindsOf s))) (length s)
 

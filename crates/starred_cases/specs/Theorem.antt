@@ -13,6 +13,7 @@ use Rattle.segments.specs.Tags.{tagPiece, tagOf, kindOf, isTag, tagRule}
 use Rattle.segments.specs.Order.{segmentsIn, messagesIn, groupsIn, segmentsSinceHeader, messagesSinceGroup, isOpen, standing, insideMessage, allowedAt, allowed, isComplete}
 use Rattle.control_elements.specs.Positions.{positionTable, positionsOf}
 use Rattle.control_elements.specs.Control.{single, controlElement, isReference, isCount, standsWell, controlRule, headerOf, referenceOf, sameValue, referenceDiffers, decimalFrom, decimal, trueCount, countOf, countWrong}
+use Rattle.control_elements.specs.Sections.{sectionRule}
 use Rattle.stages.specs.Contents.{bodyTokens, segmentsOf, contents, kindsOf, normalCharacters, interchange, normalForm}
 use Rattle.stages.specs.Places.{isOver, startsWhere, tooLong, unusableAdvice, noOpening, strayReleases, unendedSegment, brokenTags, foreignLevel, level, placeOutside, outsideLevel, misplacedSegments, badControls, differingReferences, wrongCounts, normalTooLong}
 use Rattle.stages.specs.Stages.{placesOf, brackets, bracketed, stages, refusalOf}
@@ -22,5 +23,5 @@ use Rattle.operations.specs.Compare.{isAccepted, areSame, compare}
 use Rattle.starred_cases.specs.Cases.{cases, says, meets, holds}
 
 pub all-cases-hold : T (all holds cases)
-unfolding same begins member allDiffer isEmpty all those through first at lastOr onto cut unlessIdle dropEnd trimEnd eachLedBy joined gather maybe between upper lower digit separates hasRelease serviceCharacters isService usable sixBytes spelledOut advised adviceOf plusCharacters controlCharacters charactersOf bodyStart body badAdvice opens role met isLower lowerOf lowest orElse answering placeIf unreleased releasing taken tokensFrom tokens ends placeOf segments start byteOf bytesOf valueOf valuesOf elementsOf isFault endedBy endsInside finished trimElement isIdle trimSegment trimmed valueAt contentsOf spellByte spellValue spellElement spellSegment spell inLevelA inLevelB classOf levelNamed inLevel isOurVersion levelOf is kindNamed tagPiece tagOf kindOf isTag tagRule segmentsIn messagesIn groupsIn segmentsSinceHeader messagesSinceGroup isOpen standing insideMessage allowedAt allowed isComplete positionTable positionsOf single controlElement isReference isCount standsWell controlRule headerOf referenceOf sameValue referenceDiffers decimalFrom decimal trueCount countOf countWrong bodyTokens segmentsOf contents kindsOf normalCharacters interchange normalForm isOver startsWhere tooLong unusableAdvice noOpening strayReleases unendedSegment brokenTags foreignLevel level placeOutside outsideLevel misplacedSegments badControls differingReferences wrongCounts normalTooLong placesOf brackets bracketed stages refusalOf given refused refusedInput accepted figuresOf judge isAccepted areSame compare cases says meets holds
+unfolding same begins member allDiffer isEmpty all those through first at lastOr onto cut unlessIdle dropEnd trimEnd eachLedBy joined gather maybe between upper lower digit separates hasRelease serviceCharacters isService usable sixBytes spelledOut advised adviceOf plusCharacters controlCharacters charactersOf bodyStart body badAdvice opens role met isLower lowerOf lowest orElse answering placeIf unreleased releasing taken tokensFrom tokens ends placeOf segments start byteOf bytesOf valueOf valuesOf elementsOf isFault endedBy endsInside finished trimElement isIdle trimSegment trimmed valueAt contentsOf spellByte spellValue spellElement spellSegment spell inLevelA inLevelB classOf levelNamed inLevel isOurVersion levelOf is kindNamed tagPiece tagOf kindOf isTag tagRule segmentsIn messagesIn groupsIn segmentsSinceHeader messagesSinceGroup isOpen standing insideMessage allowedAt allowed isComplete positionTable positionsOf single controlElement isReference isCount standsWell controlRule headerOf referenceOf sameValue referenceDiffers decimalFrom decimal trueCount countOf countWrong sectionRule bodyTokens segmentsOf contents kindsOf normalCharacters interchange normalForm isOver startsWhere tooLong unusableAdvice noOpening strayReleases unendedSegment brokenTags foreignLevel level placeOutside outsideLevel misplacedSegments badControls differingReferences wrongCounts normalTooLong placesOf brackets bracketed stages refusalOf given refused refusedInput accepted figuresOf judge isAccepted areSame compare cases says meets holds
 all-cases-hold = tt

@@ -2,6 +2,6 @@
 -- verdicts or normal forms sees when they are old. Assumes nothing.
 use Prim.Native.Nat.{ℕ}
 
--- 1: paper 01 alone
+-- 1: paper 01 alone; 2: with change request 2026-03
 abbrev pub rules : ℕ
-rules = 1
+rules = 2

@@ -1,26 +1,30 @@
-// One step of the walk over the segments (paper 01, "Order of segments"): the walk before the first
-// segment, whether a segment of a kind is allowed where the walk stands, the walk after it, and
-// whether the walk has come to the end of an interchange. Each answers from the walk alone; that this
-// is the answer of `segments` for all that passed is said in `walk_laws`. Going through the segments
-// of an input is left to `stage_order`.
+// One step of the walk over the segments (paper 01, "Order of segments"; change request 2026-03): the
+// walk before the first segment, whether a segment fits where the walk stands, by its kind and the
+// section that it begins, the walk after it, and whether the walk has come to the end of an interchange.
+// Each answers from the walk alone; that this is the answer of `segments` and `control_elements` for all
+// that passed is said in `walk_laws`. Going through the segments of an input is left to `stage_order`.
 ghost use mathlib.Core.Path.{_≡_};
 ghost use mathlib.Core.List.{[]};
+ghost use Rattle.segments.specs.declared.Section.the-variants.{None};
 ghost use Rattle.segments.specs.Order.{walkOver};
-ghost use Rattle.walk_laws.specs.Walking.{Within, allowedBefore, allowedBetween, allowedInGroup, allowedInMessage, atPlace, allowedBy, messageOpened, messageClosed, standsAfter, afterKind, steppedBy, isAfter};
+ghost use Rattle.control_elements.specs.Sections.{place};
+ghost use Rattle.walk_laws.specs.Walking.{Within, allowedBefore, allowedBetween, allowedInGroup, allowedInMessage, atPlace, allowedBy, messageOpened, messageClosed, standsAfter, afterKind, sectionKept, steppedBy, follows, isMarker, marksBy, fitsBy, laterSection, begunBy, isAfter};
 ghost use Rattle.refusals.specs.Limits.{mostBytes};
 use segments::Groups;
 use segments::Kind;
 use segments::Messages;
+use segments::Section;
 use segments::Segments;
 use segments::Standing;
 use segments::Walk;
 
 // Before the first segment.
 pub fn beginning() -> Walk
-    ensures { λ r. ⌜ r ≡ walkOver [] ⌝ }
+    ensures { λ r. ⌜ r ≡ walkOver None [] ⌝ }
 {
     Walk {
         standing: Standing::BeforeInterchange,
+        section: Section::None,
         segments: Segments(0),
         messages: Messages(0),
         groups: Groups(0),
@@ -108,7 +112,7 @@ fn at_place(standing: Standing, before: bool, between: bool, group: bool, messag
 }
 
 // A segment of this kind is allowed where the walk stands.
-pub fn allowed(w: Walk, kind: Kind) -> bool
+fn allowed(w: Walk, kind: Kind) -> bool
     ensures { λ r. ⌜ r ≡ allowedBy w kind ⌝ }
 {
     let standing = w.standing;
@@ -177,23 +181,126 @@ fn counted(kind: Kind, message: u32, group: u32, other: u32) -> u32
     }
 }
 
+// A message begins without a section.
+fn kept(kind: Kind, section: Section) -> Section
+    ensures { λ r. ⌜ r ≡ sectionKept kind section ⌝ }
+{
+    match kind {
+        Kind::Unh => Section::None,
+        Kind::Unb => section,
+        Kind::Ung => section,
+        Kind::Uns => section,
+        Kind::Unt => section,
+        Kind::Une => section,
+        Kind::Unz => section,
+        Kind::User => section,
+    }
+}
+
 // The walk after a segment of this kind, which is allowed there.
 pub fn stepped(w: Walk, kind: Kind) -> Walk
     requires { ⌜ Within mostBytes w ⌝ }
     ensures { λ r. ⌜ r ≡ steppedBy w kind ⌝ }
 {
     let standing = w.standing;
+    let section = w.section;
     let messages = w.messages.0;
     let groups = w.groups.0;
     let in_message = w.in_message.0 + 1;
     let in_group = w.in_group.0;
     Walk {
         standing: stands(standing, kind),
+        section: kept(kind, section),
         segments: Segments(w.segments.0 + 1),
         messages: Messages(counted(kind, messages + 1, messages, messages)),
         groups: Groups(counted(kind, groups, groups + 1, groups)),
         in_message: Segments(counted(kind, 1, in_message, in_message)),
         in_group: Messages(counted(kind, in_group + 1, 0, in_group)),
+    }
+}
+
+// Where a section stands in a message.
+fn place_of(section: Section) -> u8
+    ensures { λ r. ⌜ r ≡ place section ⌝ }
+{
+    match section {
+        Section::None => 0,
+        Section::Detail => 1,
+        Section::Summary => 2,
+    }
+}
+
+// "each at most once in a message, D before S if both stand": the section that a UNS names comes after
+// the one that began last.
+fn may_follow(last: Section, section: Section) -> bool
+    ensures { λ r. ⌜ r ≡ follows last section ⌝ }
+{
+    place_of(last) < place_of(section)
+}
+
+// Only a UNS begins a section.
+pub fn is_marker(kind: Kind) -> bool
+    ensures { λ r. ⌜ r ≡ isMarker kind ⌝ }
+{
+    match kind {
+        Kind::Uns => true,
+        Kind::Unb => false,
+        Kind::Ung => false,
+        Kind::Unh => false,
+        Kind::Unt => false,
+        Kind::Une => false,
+        Kind::Unz => false,
+        Kind::User => false,
+    }
+}
+
+// A segment of this kind that begins this section keeps the rule. Only a UNS is asked.
+fn marks(w: Walk, kind: Kind, section: Section) -> bool
+    ensures { λ r. ⌜ r ≡ marksBy w kind section ⌝ }
+{
+    if is_marker(kind) {
+        let last = w.section;
+        return may_follow(last, section);
+    }
+    true
+}
+
+// A segment of this kind, which begins this section, fits where the walk stands: it is allowed there and
+// keeps the rule of sections.
+pub fn fits(w: Walk, kind: Kind, section: Section) -> bool
+    ensures { λ r. ⌜ r ≡ fitsBy w kind section ⌝ }
+{
+    if allowed(w, kind) {
+        return marks(w, kind, section);
+    }
+    false
+}
+
+// Of the section that began last and the one that begins, if any, the later.
+fn later(last: Section, section: Section) -> Section
+    ensures { λ r. ⌜ r ≡ laterSection last section ⌝ }
+{
+    match section {
+        Section::None => last,
+        Section::Detail => Section::Detail,
+        Section::Summary => Section::Summary,
+    }
+}
+
+// The walk where this section begins; `None` where no section begins.
+pub fn begun(w: Walk, section: Section) -> Walk
+    ensures { λ r. ⌜ r ≡ begunBy w section ⌝ }
+{
+    let standing = w.standing;
+    let last = w.section;
+    Walk {
+        standing,
+        section: later(last, section),
+        segments: Segments(w.segments.0),
+        messages: Messages(w.messages.0),
+        groups: Groups(w.groups.0),
+        in_message: Segments(w.in_message.0),
+        in_group: Messages(w.in_group.0),
     }
 }
 

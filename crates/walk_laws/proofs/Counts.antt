@@ -9,10 +9,11 @@ use lib.ListN.{length}
 use Rattle.lists.specs.Lists.{if_then_else_, those, through}
 use Rattle.segments.specs.declared.Kind.{Kind}
 use Rattle.segments.specs.declared.Kind.the-variants.{Unb, Ung, Unh, Uns, Unt, Une, Unz, User}
+use Rattle.segments.specs.declared.Section.{Section}
 use Rattle.segments.specs.declared.Walk.{Walk}
 use Rattle.segments.specs.Kinds.{is}
 use Rattle.segments.specs.Order.{segmentsIn, messagesIn, groupsIn, segmentsSinceHeader, messagesSinceGroup, walkOver}
-use Rattle.walk_laws.specs.Walking.{Counts, Within, steppedBy}
+use Rattle.walk_laws.specs.Walking.{Counts, Within, steppedBy, begunBy}
 
 -- one segment more: the counters are those of what passed with it
 pub counts-step : (w : Walk) (past : List Kind) (kind : Kind) → Counts w past → Counts (steppedBy w kind) (kind ∷ past)
@@ -27,9 +28,9 @@ counts-step w past Unz e = omega arith
 counts-step w past User e = omega arith
 
 -- the walk over what passed has its counts
-pub counts-walk : (past : List Kind) → Counts (walkOver past) past
+pub counts-walk : (section : Section) (past : List Kind) → Counts (walkOver section past) past
 unfolding walkOver
-counts-walk past =
+counts-walk section past =
     record { segments-are = refl; messages-are = refl; groups-are = refl; in-message-are = refl; in-group-are = refl }
 
 -- ---- no counter is higher than the number of segments that passed
@@ -81,3 +82,7 @@ within-step w Unt h e = omega arith
 within-step w Une h e = omega arith
 within-step w Unz h e = omega arith
 within-step w User h e = omega arith
+
+-- a section that begins raises none
+pub within-begun : (w : Walk) (section : Section) {n : ℕ} → Within n w → Within n (begunBy w section)
+within-begun w section e = omega arith

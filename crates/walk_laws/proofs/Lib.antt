@@ -1,3 +1,4 @@
 pub mod Counts
 pub mod Places
 pub mod Walks
+pub mod Sections

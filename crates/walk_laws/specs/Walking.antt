@@ -1,20 +1,31 @@
--- Paper 01, "Order of segments", from the walk alone: what is allowed next, and the walk after it. Assumes nothing.
+-- Paper 01, "Order of segments", and change request 2026-03, "Section markers", from the walk alone: what is allowed next, and the walk
+-- after it. Assumes nothing.
 use Prim.Native.Nat.{ℕ, _+_, _≤_}
 use mathlib.Core.Path.{_≡_}
 use mathlib.Core.Bool.{Bool, true, false, _&&_, _||_}
 use mathlib.Core.List.{List, [], _∷_}
 use lib.Dec.{eqb, ltb}
+use Rattle.lists.specs.Lists.{if_then_else_}
+use Rattle.values.specs.Tokens.{Segment}
 use Rattle.segments.specs.declared.Kind.{Kind}
 use Rattle.segments.specs.declared.Kind.the-variants.{Unb, Ung, Unh, Uns, Unt, Une, Unz, User}
 use Rattle.segments.specs.declared.Standing.{Standing}
 use Rattle.segments.specs.declared.Standing.the-variants.{BeforeInterchange, BetweenGroups, InGroup, InGroupMessage, InMessage, AfterInterchange}
+use Rattle.segments.specs.declared.Section.{Section}
+use Rattle.segments.specs.declared.Section.the-variants.{None, Detail, Summary}
 use Rattle.segments.specs.declared.Walk.{Walk}
 use Rattle.segments.specs.Order.{segmentsIn, messagesIn, groupsIn, segmentsSinceHeader, messagesSinceGroup, allowed}
+use Rattle.control_elements.specs.Sections.{sectionOf, place, sectionRule}
 
 -- each of them was allowed where it stood
 unfoldable pub walked : List Kind → Bool
 walked [] = true
 walked (kind ∷ past) = allowed past kind && walked past
+
+-- each of them kept the rule of sections where it stood
+unfoldable pub marked : List Segment → Bool
+marked [] = true
+marked (g ∷ past) = sectionRule past g && marked past
 
 -- ---- the five counters
 
@@ -104,6 +115,35 @@ allowedFrom place w kind =
 abbrev pub allowedBy : Walk → Kind → Bool
 allowedBy w kind = allowedFrom (w .standing) w kind
 
+-- ---- which section may begin
+
+-- "each at most once in a message, D before S if both stand": a section comes after the one that began last, and a UNS names one
+abbrev pub follows : Section → Section → Bool
+follows last section = ltb (place last) (place section)
+
+-- only a UNS begins one
+abbrev pub isMarker : Kind → Bool
+isMarker Unb = false
+isMarker Ung = false
+isMarker Unh = false
+isMarker Uns = true
+isMarker Unt = false
+isMarker Une = false
+isMarker Unz = false
+isMarker User = false
+
+-- the section that a segment of a kind begins
+abbrev pub sectionBegun : Kind → Segment → Section
+sectionBegun kind g = if isMarker kind then sectionOf g else None
+
+-- a segment of a kind that begins it keeps the rule
+abbrev pub marksBy : Walk → Kind → Section → Bool
+marksBy w kind section = if isMarker kind then follows (w .section) section else true
+
+-- it is allowed, and keeps the rule
+abbrev pub fitsBy : Walk → Kind → Section → Bool
+fitsBy w kind section = allowedBy w kind && marksBy w kind section
+
 -- ---- the walk after a segment of a kind
 
 abbrev pub messageOpened : Standing → Standing
@@ -143,16 +183,47 @@ afterKind Une message group other = other
 afterKind Unz message group other = other
 afterKind User message group other = other
 
+-- a message begins without a section
+abbrev pub sectionKept : Kind → Section → Section
+sectionKept Unb section = section
+sectionKept Ung section = section
+sectionKept Unh section = None
+sectionKept Uns section = section
+sectionKept Unt section = section
+sectionKept Une section = section
+sectionKept Unz section = section
+sectionKept User section = section
+
 -- one segment more. UNH is the first segment of its message and one message more; UNG is one group more, without a message so far.
 abbrev pub steppedBy : Walk → Kind → Walk
 steppedBy w kind =
     record {
       standing = standsAfter (w .standing) kind;
+      section = sectionKept kind (w .section);
       segments = record { 0 = w .segments .0 + 1 };
       messages = record { 0 = afterKind kind (w .messages .0 + 1) (w .messages .0) (w .messages .0) };
       groups = record { 0 = afterKind kind (w .groups .0) (w .groups .0 + 1) (w .groups .0) };
       in_message = record { 0 = afterKind kind 1 (w .in_message .0 + 1) (w .in_message .0 + 1) };
       in_group = record { 0 = afterKind kind (w .in_group .0 + 1) 0 (w .in_group .0) };
+    }
+
+-- the section that began last, where one begins or none does
+abbrev pub laterSection : Section → Section → Section
+laterSection last None = last
+laterSection last Detail = Detail
+laterSection last Summary = Summary
+
+-- the walk where a section begins or none does
+abbrev pub begunBy : Walk → Section → Walk
+begunBy w section =
+    record {
+      standing = w .standing;
+      section = laterSection (w .section) section;
+      segments = w .segments;
+      messages = w .messages;
+      groups = w .groups;
+      in_message = w .in_message;
+      in_group = w .in_group;
     }
 
 -- the walk has come to the end of an interchange

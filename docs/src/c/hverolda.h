@@ -65,7 +65,7 @@ extern "C" {
  * hverolda_rules tells the archive's: where the two differ, the archive is not this header's, and a
  * number that it answers may be one that is not in it.
  */
-#define HVEROLDA_RULES 1
+#define HVEROLDA_RULES 2
 
 /*
  * Refusals by number, and the place that goes with each. 0 is no refusal.
@@ -96,8 +96,9 @@ enum hverolda_refusal {
     HVEROLDA_FOREIGN_LEVEL = 7,
     /* Byte outside the level. Place: that byte. */
     HVEROLDA_OUTSIDE_LEVEL = 8,
-    /* Segment not allowed there (place: the segment's start); or the end before UNZ (place: the
-       input's length). */
+    /* Segment not allowed there, or a UNS that breaks the rule of sections: its first element is a
+       single component `D` or `S`, each at most once in a message, D before S if both stand (place:
+       the segment's start); or the end before UNZ (place: the input's length). */
     HVEROLDA_MISPLACED_SEGMENT = 9,
     /* Control element (count or reference) of a service segment malformed: a reference is one
        component of 1 to 14 bytes, a count one of 1 to 6 digits. Place: the segment's start. */

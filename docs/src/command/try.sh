@@ -119,7 +119,7 @@ mark=${shown[2]%^}
 expect 2 '' 'hverolda: which command?*' "$hverolda"
 expect 2 '' "hverolda: no command is called 'frob'*" "$hverolda" frob
 expect 0 'Usage: hverolda COMMAND*Exit status: *' '' "$hverolda" --help
-expect 0 'hverolda * rules 1' '' "$hverolda" --version
+expect 0 "hverolda * rules $(sed -n 's/^#define HVEROLDA_RULES //p' docs/src/c/hverolda.h)" '' "$hverolda" --version
 for name in "${commands[@]}"; do
     expect 0 "Usage: hverolda $name *Exit status: *" '' "$hverolda" "$name" --help
     expect 2 '' "hverolda: '--frob' is no option"$'\n'"Try 'hverolda $name --help'." "$hverolda" "$name" --frob

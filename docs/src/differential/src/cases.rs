@@ -1,7 +1,7 @@
 //! The cases of a run. Each is a few calls that belong together.
 
 use second::cases::{all_cases, all_pairs};
-use second::generator::{request, ALL_KINDS};
+use second::generator::{request, Random, ALL_KINDS};
 use second::operations;
 use second::refusal::{BUFFER, LONGEST, LONGEST_TABLE};
 use second::request_stream::Request;
@@ -15,6 +15,7 @@ use crate::limits::{limit, write_limit, Limit, WriteLimit};
 use crate::owned::{self, Parts};
 use crate::pairs::{pair, Change, CHANGES};
 use crate::run::{Checked, Run};
+use crate::sections::section;
 use crate::tables::make_wild;
 use crate::wide;
 
@@ -67,9 +68,10 @@ pub fn any(run: &mut Run) -> Checked<()> {
             let input = inputs::input(&mut run.random);
             every_operation(run, input)
         }
-        11 if run.random.chance(75) => known_limit(run),
+        11 if run.random.chance(75) => known(run, "limit", limit),
         11 => known_write_limit(run),
-        12..=16 => {
+        12 => known(run, "sections", section),
+        13..=16 => {
             let change = run.random.pick(&CHANGES);
             known_pair(run, change)
         }
@@ -171,12 +173,13 @@ fn read_into(
     run.check(&call)
 }
 
-/// An interchange at a limit, with the answer that the paper gives it.
-fn known_limit(run: &mut Run) -> Checked<()> {
-    let Limit { input, verdict, name } = limit(&mut run.random);
+/// An interchange at a limit, or with sections, with the answer that the paper
+/// gives it.
+fn known(run: &mut Run, what: &'static str, make: fn(&mut Random) -> Limit) -> Checked<()> {
+    let Limit { input, verdict, name } = make(&mut run.random);
     let known = Outcome::of(Answer::Judge(verdict));
     run.check_known(&Call::Judge { input: input.clone() }, &known, name)?;
-    run.tally.count("limit", name);
+    run.tally.count(what, name);
     every_operation(run, input)
 }
 

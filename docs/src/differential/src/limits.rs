@@ -27,10 +27,10 @@ pub fn limit(random: &mut Random) -> Limit {
     }
 }
 
-fn accepted(segments: u32, length: usize) -> Verdict {
+pub fn accepted(segments: u32, messages: u32, length: usize) -> Verdict {
     Verdict {
         segments,
-        messages: 1,
+        messages,
         length,
         component: b':',
         element: b'+',
@@ -54,7 +54,7 @@ fn control_elements(random: &mut Random) -> Limit {
     let trailer = format!("UNT+{:0digits$}+{reference}'", 2);
     let input = format!("{header}{trailer}UNZ+1+1'").into_bytes();
     let (verdict, name) = match (bytes, digits) {
-        (14, 6) => (accepted(4, input.len() + 9), "a reference of 14 and a count of 6"),
+        (14, 6) => (accepted(4, 1, input.len() + 9), "a reference of 14 and a count of 6"),
         (14, _) => (refused(CONTROL, header.len()), "a count of 7 digits"),
         _ => (refused(CONTROL, 16), "a reference of 15 bytes"),
     };
@@ -71,9 +71,9 @@ fn many_values(random: &mut Random) -> Limit {
     let values = random.pick(&[":", "+"]).repeat(count);
     let input = format!("{advice}{beginning}{values}{end}").into_bytes();
     let (verdict, name) = match (length, advice) {
-        (LONGEST, "") => (accepted(5, length), "a normal form of 32000 bytes"),
-        (LONGEST, _) => (accepted(5, length), "an input of 32000 bytes"),
-        (31_999, _) => (accepted(5, length), "a normal form of 31999 bytes"),
+        (LONGEST, "") => (accepted(5, 1, length), "a normal form of 32000 bytes"),
+        (LONGEST, _) => (accepted(5, 1, length), "an input of 32000 bytes"),
+        (31_999, _) => (accepted(5, 1, length), "a normal form of 31999 bytes"),
         (_, "") => (refused(NORMAL_LENGTH, length), "a normal form of 32001 bytes"),
         _ => (refused(OVER_LENGTH, 0), "an input of 32001 bytes"),
     };

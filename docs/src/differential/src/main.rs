@@ -21,6 +21,7 @@ mod owned;
 mod pairs;
 mod rules;
 mod run;
+mod sections;
 mod tables;
 mod tally;
 mod wide;

@@ -5,6 +5,7 @@ use std::collections::BTreeMap;
 use std::fmt;
 
 use crate::call::{Answer, Outcome};
+use crate::sections::PLANS;
 
 /// The operations that refuse, Compare once for each of its inputs, with the
 /// numbers that each can give. Normalise and Read add 14 to Judge's. The text
@@ -126,7 +127,9 @@ impl Tally {
             let never = numbers.iter().filter(|number| !met(number));
             gaps.extend(never.map(|number| format!("{what}: refusal {number} never occurred")));
         }
-        let never = OTHERS.iter().filter(|key| !self.others.contains_key(key));
+        let sections = PLANS.iter().map(|(name, ..)| ("sections", *name));
+        let others = OTHERS.iter().copied().chain(sections);
+        let never = others.filter(|key| !self.others.contains_key(key));
         gaps.extend(never.map(|(what, how)| format!("{what}: {how} never occurred")));
         gaps
     }

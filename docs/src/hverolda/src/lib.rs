@@ -71,7 +71,7 @@ pub const LONGEST_TABLE: usize = 96_000;
 /// The number of the rules that this crate was written for. It rises with each
 /// change of an answer: whoever stores verdicts or normal forms stores it beside
 /// them, and sees when they are old. See [`rules()`].
-pub const RULES: u32 = 1;
+pub const RULES: u32 = 2;
 
 /// The number of the rules that the linked archive follows. Where it is above
 /// [`RULES`], a [`Fault`] or a [`Kind`] may be one that this crate does not know.

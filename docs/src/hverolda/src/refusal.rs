@@ -25,7 +25,9 @@ pub enum Fault {
     Level,
     /// 8: a byte is outside the level.
     Byte,
-    /// 9: a segment is not allowed where it stands, or the end comes before UNZ.
+    /// 9: a segment is not allowed where it stands, a UNS breaks the rule of
+    /// sections (`D` or `S`, each once in a message, D before S), or the end
+    /// comes before UNZ.
     Order,
     /// 10: a count or a reference is not as it must be.
     Control,
@@ -57,7 +59,7 @@ const FAULTS: [(Fault, &str); 16] = [
     (Fault::Tag, "the segment's tag is not one"),
     (Fault::Level, "the level or its version is not one that is judged"),
     (Fault::Byte, "the byte is outside the level"),
-    (Fault::Order, "no such segment is allowed here, or the end comes before UNZ"),
+    (Fault::Order, "no such segment or section is allowed here, or the end comes before UNZ"),
     (Fault::Control, "a count or a reference is missing or malformed"),
     (Fault::Reference, "the trailer's reference is not its header's"),
     (Fault::Count, "the trailer's count is wrong"),
@@ -184,7 +186,7 @@ mod tests {
     fn a_place_counts_in_the_units_of_its_fault() {
         assert_eq!(
             sentence(9, 75),
-            "refused 9 at byte 75: no such segment is allowed here, or the end comes before UNZ"
+            "refused 9 at byte 75: no such segment or section is allowed here, or the end comes before UNZ"
         );
         assert_eq!(sentence(12, 67), "refused 12 at byte 67: the trailer's count is wrong");
         assert_eq!(

@@ -2,7 +2,8 @@
 //! hold them.
 //!
 //! Paper, clause "The example and its neighbours"; the examples of the
-//! standard stand in `standard_examples`.
+//! standard stand in `standard_examples`, the cases of a change request in a
+//! module of its own.
 
 use std::fs;
 use std::io;
@@ -10,6 +11,7 @@ use std::path::Path;
 
 use crate::operations::{compare, judge};
 use crate::report_lines::{compare_line, judge_line};
+use crate::section_cases::{section_cases, section_pairs};
 use crate::standard_examples::{standard_cases, standard_pairs};
 
 /// X of the paper: 84 bytes.
@@ -124,15 +126,17 @@ fn tempting_cases() -> Vec<Case> {
     ]
 }
 
-/// All cases, in the paper's order.
+/// All cases, in the paper's order, then those of the requests.
 pub fn all_cases() -> Vec<Case> {
     let mut cases = stated_cases();
     cases.extend(tempting_cases());
     cases.extend(standard_cases());
+    cases.extend(section_cases());
     cases
 }
 
-/// The pairs that the paper states, and those of the standard's examples.
+/// The pairs that the paper states, those of the standard's examples, and those
+/// of the requests.
 pub fn all_pairs() -> Vec<Pair> {
     let mut pairs = vec![
         pair("01-x", "10-empty-ends", "same"),
@@ -142,6 +146,7 @@ pub fn all_pairs() -> Vec<Pair> {
         pair("01-x", "14-respelled-comma", "different"),
     ];
     pairs.extend(standard_pairs());
+    pairs.extend(section_pairs());
     pairs
 }
 

@@ -1,9 +1,11 @@
-//! A second program for the paper "What we will build and its rules": it
-//! judges one EDIFACT interchange, reads its values, writes interchanges,
-//! makes a normal form and says whether two interchanges are the same.
+//! A second program for the paper "What we will build and its rules" and for
+//! the change requests that have landed: it judges one EDIFACT interchange,
+//! reads its values, writes interchanges, makes a normal form and says whether
+//! two interchanges are the same.
 //!
 //! One module for one idea; the first comment of each module names the clause
-//! of the paper it follows. The operations stand in `operations`.
+//! of the paper, or the request, that it follows. The operations stand in
+//! `operations`.
 
 pub mod cases;
 pub mod contents;
@@ -20,6 +22,9 @@ pub mod refusal;
 pub mod report_lines;
 pub mod request_stream;
 pub mod respelling;
+pub mod section_cases;
+pub mod section_checks;
+pub mod sections;
 pub mod selftest;
 pub mod service_characters;
 pub mod standard_examples;

@@ -1,11 +1,13 @@
 //! The order of segments: stage 9.
 //!
 //! Paper, clause "From bytes to values", the paragraph "Order of segments",
-//! and refusal 9. At each point the next segment alone decides how to go on,
-//! so the first segment that is not allowed has the lowest place.
+//! and refusal 9; change request 2026-03, "Section markers". At each point the
+//! next segment alone decides how to go on, so the first segment that is not
+//! allowed has the lowest place.
 
 use crate::contents::Contents;
 use crate::refusal::{refuse, Answer, ORDER};
+use crate::sections::{section_of, Section};
 
 #[derive(Clone, Copy, Debug, PartialEq, Eq)]
 pub enum Kind {
@@ -153,10 +155,25 @@ impl Walk<'_> {
 
     fn message(&mut self) -> Answer<Message> {
         let header = self.take(Kind::Unh)?;
-        while self.next_is(Kind::User) || self.next_is(Kind::Uns) {
+        let mut section = None;
+        loop {
+            if self.next_is(Kind::Uns) {
+                section = Some(self.section_after(section)?);
+            } else if !self.next_is(Kind::User) {
+                break;
+            }
             self.at += 1;
         }
         let trailer = self.take(Kind::Unt)?;
         Ok(Message { header, trailer })
+    }
+
+    /// The section of the UNS that stands here. Each stands at most once in a
+    /// message, D before S: it comes after the last section of the message.
+    fn section_after(&self, last: Option<Section>) -> Answer<Section> {
+        match section_of(self.contents, &self.contents.segments[self.at]) {
+            Some(section) if last < Some(section) => Ok(section),
+            _ => self.not_allowed(),
+        }
     }
 }

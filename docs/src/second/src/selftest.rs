@@ -1,7 +1,8 @@
 //! Properties that hold for every input, tried on generated ones.
 //!
 //! Paper, clauses "From bytes to values", "Normal form", "Operations" and the
-//! exit buffers of "Refusals by number".
+//! exit buffers of "Refusals by number". The checks of a change request stand in
+//! a module of its own.
 
 use crate::generator::{any_input, any_valid, request, same_contents, Random};
 use crate::level::{holds, Level};
@@ -12,6 +13,7 @@ use crate::operations::{
 };
 use crate::refusal::{Answer, Refusal, BUFFER, LONGEST, LONGEST_TABLE};
 use crate::request_stream::{next_request, put_request, Request};
+use crate::section_checks::check_sections;
 use crate::value_list::{NEW_ELEMENT, NEW_SEGMENT, RECORD};
 
 /// How many inputs of each sort are tried.
@@ -34,6 +36,7 @@ fn ensure(holds: bool, what: &str, input: &[u8]) -> Check {
 pub fn run() -> Result<usize, String> {
     let mut tried = 0;
     check_levels()?;
+    check_sections()?;
     if let Some(line) = crate::cases::check_cases().pop() {
         return Err(line);
     }

@@ -111,16 +111,64 @@ fn damage_order(random: &mut Random, draft: &mut Draft) {
     }
     let here = random.between(1, segments.len() - 1);
     let there = random.between(1, segments.len() - 1);
-    match random.below(6) {
+    match random.below(8) {
         0 => drop(segments.remove(here)),
         1 => segments.swap(here, there),
         2 => segments.insert(there, segments[here].clone()),
         3 => segments.push(segments[here].clone()),
         4 => segments.truncate(here),
+        5 | 6 => damage_sections(random, draft),
         _ => {
             let tags = ["UNB", "UNG", "UNH", "UNS", "UNT", "UNE", "UNZ", "BGM"];
             let tag = random.pick(&tags);
             segments.insert(there, vec![single(tag), single("1"), single("1")]);
+        }
+    }
+}
+
+/// What stands in a UNS after its tag, more often a section than not.
+fn any_marker(random: &mut Random) -> DraftSegment {
+    let value = random.pick(&["D", "D", "D", "S", "S", "S", "", "X", "DS", "D ", " S", "?"]);
+    match random.below(12) {
+        0 => Vec::new(),
+        1 => vec![vec![value.into(), random.pick(&["S", "D", ""]).into()]],
+        2 => vec![single(""), single(value)],
+        3 => vec![vec![Vec::new(), value.into()]],
+        4 => vec![single(value), single("X")],
+        _ => vec![single(value)],
+    }
+}
+
+/// One or two UNS more, each in a message; or another section in one that is
+/// there. Request 2026-03.
+fn damage_sections(random: &mut Random, draft: &mut Draft) {
+    let there = draft.tagged(&["UNS"]);
+    if !there.is_empty() && random.chance(40) {
+        let number = random.pick(&there);
+        draft.segments[number].truncate(1);
+        draft.segments[number].extend(any_marker(random));
+        return;
+    }
+    for _ in 0..random.between(1, 2) {
+        if let Some(before) = some_tagged(random, draft, &["UNH", "UNS", "BGM"]) {
+            let mut segment = vec![single("UNS")];
+            segment.extend(any_marker(random));
+            draft.segments.insert(before + 1, segment);
+            recount(draft);
+        }
+    }
+}
+
+/// Each UNT counts what stands there now, so that nothing but the sections can
+/// be wrong.
+fn recount(draft: &mut Draft) {
+    let mut first = 0;
+    for number in 0..draft.segments.len() {
+        let segment = &mut draft.segments[number];
+        if segment[0][0] == b"UNH" {
+            first = number;
+        } else if segment[0][0] == b"UNT" && segment.len() > 1 {
+            segment[1] = single((number - first + 1).to_string());
         }
     }
 }

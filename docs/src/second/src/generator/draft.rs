@@ -2,7 +2,7 @@
 //! characters to spell them with. A draft as made here is valid.
 //!
 //! Paper, clauses "Service characters", "From bytes to values" and "Control
-//! elements".
+//! elements"; change request 2026-03, "Section markers".
 
 use super::random::Random;
 use crate::level::{holds, Level};
@@ -238,18 +238,25 @@ impl Maker<'_> {
         let reference = self.palette.reference(self.random);
         let first = self.segments.len();
         self.end_segment(vec![single("UNH"), vec![reference.clone()]]);
-        for _ in 0..self.random.pick(&[0, 1, 1, 2, 3]) {
-            self.user_segment();
+        self.user_segments();
+        for section in self.random.pick(&["", "", "", "D", "S", "DS"]).bytes() {
+            self.end_segment(vec![single("UNS"), single([section])]);
+            self.user_segments();
         }
         let count = self.segments.len() - first + 1;
         self.trailer("UNT", count, reference);
     }
 
+    fn user_segments(&mut self) {
+        for _ in 0..self.random.pick(&[0, 1, 1, 2, 3]) {
+            self.user_segment();
+        }
+    }
+
     fn user_segment(&mut self) {
-        let tags = ["BGM", "LIN", "TXT", "A0Z", "000", "UMN", "XUN", "UNS", "NUN"];
-        let tag = self.random.pick(&tags);
-        let mut element = single(tag);
-        if tag != "UNS" && self.random.chance(30) {
+        let tags = ["BGM", "LIN", "TXT", "A0Z", "000", "UMN", "XUN", "NUN"];
+        let mut element = single(self.random.pick(&tags));
+        if self.random.chance(30) {
             for _ in 0..self.random.between(1, 3) {
                 let figure = self.random.pick(&["1", "2", "", "10"]);
                 element.push(figure.into());

@@ -182,7 +182,7 @@ fn two_inputs(random: &mut Random) -> (Vec<u8>, Vec<u8>) {
 
 /// One byte, space, component or mark other than before.
 fn nearly(random: &mut Random, mut draft: Draft) -> Draft {
-    let user = draft.tagged(&["BGM", "LIN", "TXT", "A0Z", "000", "UMN", "XUN", "UNS", "NUN"]);
+    let user = draft.tagged(&["BGM", "LIN", "TXT", "A0Z", "000", "UMN", "XUN", "NUN"]);
     let number = match random.below(10) {
         0..=6 if !user.is_empty() => random.pick(&user),
         _ => random.below(draft.segments.len()),

@@ -38,7 +38,7 @@ pub fn word_soup(random: &mut Random) -> Vec<u8> {
     text.into_bytes()
 }
 
-const SEGMENTS: [&str; 22] = [
+const SEGMENTS: [&str; 26] = [
     "UNH+1'",
     "UNH+1'",
     "UNH+1+X:1'",
@@ -61,17 +61,23 @@ const SEGMENTS: [&str; 22] = [
     "BGM++:'",
     "UNB+UNOA:1++++1'",
     "UNT+2+1:'",
+    "UNS+D'",
+    "UNS+S'",
+    "UNS+S:+X'",
+    "UNS'",
 ];
 
 /// UNB and then segments in any order, mostly with true control elements.
 pub fn segment_soup(random: &mut Random) -> Vec<u8> {
     let mut text = "UNB+UNOA:1++++1'".to_string();
-    let plans: [&[usize]; 5] = [
+    let plans: [&[usize]; 7] = [
         &[0, 3, 11],
         &[7, 0, 3, 9, 11],
         &[0, 14, 5, 11],
         &[0, 3, 0, 3, 12],
         &[8, 0, 3, 1, 4, 10, 11],
+        &[0, 13, 5, 11],
+        &[0, 23, 5, 0, 13, 5, 12],
     ];
     let mut plan = random.pick(&plans).to_vec();
     for _ in 0..random.below(4) {
