@@ -23,7 +23,7 @@ use Rattle.answers.specs.declared.Listed.the-variants as listed
 use Rattle.answers.specs.Answers.{given, toldJudged, toldStored, toldCompared, toldLocated, toldListed}
 use Rattle.operations.specs.Judge.{figuresOf}
 use Rattle.operations.specs.Compare.{areSame, Part, ofFirst, ofSecond, keep}
-use Rattle.operations.specs.Locate.{located, locate, partOffset, partLength}
+use Rattle.operations.specs.Locate.{located, locate, partOffset}
 use Rattle.operations.specs.Read.{valueBytes, valueTable, readRefusal}
 use Rattle.operations.specs.Write.{writtenText, writeRefusal}
 use Rattle.operations.proofs.Answered.{normalises, read-given}

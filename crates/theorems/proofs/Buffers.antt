@@ -10,7 +10,6 @@ use Rattle.refusals.specs.declared.Refusal.{Refusal}
 use Rattle.refusals.specs.Refusals.{Stage, met, orElse, answering}
 use Rattle.refusals.proofs.Lowest.{lowest-none}
 use Rattle.refusals.proofs.Stages.{met-none}
-use Rattle.stages.specs.Contents.{normalForm}
 use Rattle.stages.specs.Places.{tooLong}
 use Rattle.stages.specs.Stages.{laterStages, refusalOf}
 use Rattle.stages.proofs.Stages.{later-answers, later-none}
