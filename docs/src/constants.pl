@@ -3,26 +3,33 @@
 # all that it stands on in crates.txt. Run at the root; the gate runs it.
 #
 #   perl docs/src/constants.pl            what the source names
-#   perl docs/src/constants.pl ARCHIVE    what the read-only data of the static library holds
+#   perl docs/src/constants.pl ARCHIVE    what the static library holds beside its code
 #
-# In the source it counts every constant array, every list of numbers in a function, every byte string with
-# an escape, and every constant of `level_classes`, whose masks say what a table would. The source is
-# counted because read-only data does not show every table: the compiler may store one by instructions,
-# as it did with a table of 256 class numbers. Not counted, but told: texts, which are byte strings of
-# printable characters, and single numbers elsewhere (limits), which are operands of instructions.
+# The source is counted because the archive does not show every table: the compiler may store one by
+# instructions, as it did with a table of 256 class numbers. Counted there are: every constant but a decimal
+# number (arrays, structs, masks in hexadecimal); every list in a function, eight bytes an entry; every byte
+# string with an escape; and every number in the functions of `level_classes`, a byte each, since the bounds
+# that `is_within` compares with say what a table would.
 #
-# In the archive it counts every byte of the sections that a program maps and can neither write nor run.
-# Not counted, but told: what the linker fills in, which are addresses of code (the jump tables of
-# `match`); and the compiler's operands, one number of at most 16 bytes for one instruction, which x86-64
-# cannot hold in the instruction itself (sections .rodata.cst*, labels .LCPI*; for an instruction on many
-# bytes the same byte stands there 16 times). A table of 16 bytes may be one of them, as that of the
-# positions is: the count of the source has it. Unwinding tables (.eh_frame) are no data of the library.
+# In the archive it counts every byte that a program maps and does not run, but for unwinding tables
+# (.eh_frame). A table of 16 bytes may hide among the compiler's operands, as that of the positions does:
+# the count of the source has it.
 #
-# Prints each size, and fails where a count is above 64.
+# Some things are no tables and are not counted, but each is held to its figure in %at_most, so that a
+# table cannot grow there unseen: what the source names to what it has today, what the compiler makes,
+# which moves with every change of code, to a rounded figure. Whoever raises one says why in the note.
 use strict;
 use warnings;
 
 my $most = 64;
+my %at_most = (
+    'limits' => 16,                      # bytes of constants that are decimal numbers
+    'texts' => 12,                       # bytes of byte strings of printable characters
+    'numbers in one function' => 22,     # the most that one has: a long `match`, a chain of comparisons
+    'jump tables' => 768,                # bytes that the linker fills in: addresses of code, for `match`
+    'operands of instructions' => 1024,  # .rodata.cst*: numbers that x86-64 cannot hold in an instruction;
+                                         # one byte stands 16 times for an instruction on 16 bytes
+);
 my $faults = 0;
 if (@ARGV) { count_archive($ARGV[0]) } else { count_source() }
 exit($faults ? 1 : 0);
@@ -30,59 +37,79 @@ exit($faults ? 1 : 0);
 # ---- the source
 
 sub count_source {
-    my (%text, %size, %number, @counted);
-    my %told = (texts => 0, numbers => 0);
+    my (%code, %fields, %number, @counted);
+    my ($limits, $texts, $longest) = (0, 0, 0);
     for my $crate (library()) {
-        $text{$crate} = join "\n", map { s{(?:^|\s)//.*}{}gmr } map { slurp($_) } sort glob "crates/$crate/src/*.rt";
-        $number{$1} = $2 =~ tr/_//dr while $text{$crate} =~ /\bconst (\w+): \w+ = ([\d_]+);/g;
+        my $code = join "\n", map { slurp($_) } sort glob "crates/$crate/src/*.rt";
+        $code =~ s{(?:^|\s)//.*}{}gm;        # comments,
+        $code =~ s{⌜.*?⌝|#\[.*?\]}{}gs;    # statements about the code, attributes
+        push @{ $fields{$1} }, [$2 =~ /\w+: ([^,\n]+),/g] while $code =~ /\bstruct (\w+) \{(.*?)\}/gs;
+        push @{ $fields{$1} }, [split /,\s*/, $2] while $code =~ /\bstruct (\w+)\((.*?)\);/gs;
+        push @{ $number{$1} }, value_of($2) while $code =~ /\bconst (\w+): \w+ = (\w+);/g;
+        $code{$crate} = $code;
     }
-    my $all = join "\n", values %text;
-    while ($all =~ /\bstruct (\w+) \{(.*?)\}/gs) {
-        my ($name, $fields) = ($1, $2);
-        $size{$name} = [$fields =~ /\w+: ([^,\n]+),/g];
-    }
-    for my $crate (sort keys %text) {
-        my $code = $text{$crate};
-        while ($code =~ s/\bconst (\w+): ([^=]+?) = (.*?);\n//s) {
+    for my $crate (sort keys %code) {
+        my $code = $code{$crate};
+        while ($code =~ s/\b(?:const|static)\s+(\w+)\s*:\s*([^=]+?)\s*=\s*(.*?);//s) {
             my ($name, $type, $value) = ($1, $2, $3);
-            my ($bytes) = size_of($type, \%size, \%number);
-            if ($type =~ /^\[/ || $crate eq 'level_classes') { push @counted, ["$crate $name", $bytes] }
-            else { $told{numbers} += $bytes }
+            my ($bytes) = size_of($type, \%fields, \%number);
+            if ($type =~ /^\w+$/ && $value =~ /^[\d_]+$/) { $limits += $bytes }
+            else { push @counted, ["$crate $name", $bytes] }
         }
-        push @counted, ["$crate, a list in a function", 8 * (1 + ($1 =~ tr/,//))]
-            while $code =~ /\[\s*((?:[\db'][\w']*\s*,\s*)+[\db'][\w']*)\s*,?\s*\]/g;
-        while ($code =~ /\bb"((?:[^"\\]|\\.)*)"/g) {
+        die "crates/$crate: a constant that is not understood\n" if $code =~ /\b(?:const|static)\b/;
+        while ($code =~ s/\bb"((?:[^"\\]|\\.)*)"//) {
             my $string = $1;
             my $bytes = length($string =~ s/\\x..|\\./x/gr);
             if ($string =~ /\\/) { push @counted, ["$crate, a byte string", $bytes] }
-            else { $told{texts} += $bytes }
+            else { $texts += $bytes }
+        }
+        my ($all, @functions) = (0, split /\bfn\s/, $code);
+        for (@functions) {
+            my $numbers = () = /(?<![\w.])\d\w*|\bb'/g;
+            $all += $numbers;
+            $longest = $numbers if $numbers > $longest;
+        }
+        push @counted, ["$crate, numbers in its functions", $all] if $crate eq 'level_classes';
+        1 while $code =~ s/\([^()]*\)/x/;    # a comma between arguments parts no entries of a list
+        while ($code =~ s/\[([^\[\]]*)\]/x/) {
+            my @entries = grep { /\S/ } split /,/, $1;
+            push @counted, ["$crate, a list in a function", 8 * @entries] if @entries > 1;
         }
     }
-    my $total = 0;
-    $total += $_->[1] for @counted;
-    answer('constants that the source names', $total, join(', ', map { "$_->[0] $_->[1]" } @counted),
-        "texts $told{texts}, limits $told{numbers}");
+    answer('constants that the source names', \@counted,
+        'limits' => $limits, 'texts' => $texts, 'numbers in one function' => $longest);
+}
+
+# The number that a literal says; none where it is no literal.
+sub value_of {
+    no warnings 'portable';    # of numbers of 64 bits
+    my $literal = $_[0] =~ tr/_//dr =~ s/[ui](?:\d+|size)$//r;
+    return $literal =~ /^0[xb]/ ? oct $literal : $literal =~ /^\d+$/ ? $literal : undef;
 }
 
 # The bytes of a type, and what they are aligned to.
 sub size_of {
-    my ($type, $size, $number) = @_;
+    my ($type, $fields, $number) = @_;
     return ($1 / 8, $1 / 8) if $type =~ /^[ui](8|16|32|64)$/;
     return (8, 8) if $type =~ /^[ui]size$/;
     return (1, 1) if $type eq 'bool';
-    if ($type =~ /^\[(.+); (\w+)\]$/) {
-        my ($bytes, $aligned) = size_of($1, $size, $number);
-        return ($bytes * ($number->{$2} // $2), $aligned);
+    if ($type =~ /^\[(.+); (.+)\]$/) {
+        my $length = value_of($2) // only($number->{$2}) // die "the length `$2` is not known\n";
+        my ($bytes, $aligned) = size_of($1, $fields, $number);
+        return ($bytes * $length, $aligned);
     }
-    my $fields = $size->{$type} or die "the size of `$type` is not known\n";
+    my $parts = only($fields->{$type}) // die "the size of `$type` is not known\n";
     my ($sum, $widest) = (0, 1);
-    for my $field (@$fields) {
-        my ($bytes, $aligned) = size_of($field, $size, $number);
+    for my $part (@$parts) {
+        my ($bytes, $aligned) = size_of($part, $fields, $number);
         $sum += -$sum % $aligned + $bytes;
         $widest = $aligned if $aligned > $widest;
     }
     return ($sum + -$sum % $widest, $widest);
 }
+
+# What a name says, where it is said once.
+sub only { my ($said) = @_; return $said && @$said == 1 ? $said->[0] : undef }
 
 # The crates of the library: `surface`, and what it stands on.
 sub library {
@@ -99,41 +126,45 @@ sub library {
 
 sub count_archive {
     my ($archive) = @_;
-    my (@sections, %index, %addresses, %named, $code);
-    my %width = (R_X86_64_PC32 => 4, R_X86_64_32 => 4, R_X86_64_32S => 4, R_X86_64_64 => 8, R_X86_64_PC64 => 8);
+    my (%section, %name, $code);
+    my $members = 0;
     for (readelf('-SW', $archive)) {
-        next unless /^\s*\[\s*(\d+)\]\s+(\S+)\s+(\S+)\s+[0-9a-f]+\s+[0-9a-f]+\s+([0-9a-f]+)\s+([0-9a-f]+)\s+(\w*)\s+\d+\s+\d+\s+\d+$/;
-        my ($number, $name, $type, $bytes, $each, $flags) = ($1, $2, $3, hex $4, hex $5, $6);
+        die "$archive: more than one member\n" if /^There are \d+ section headers/ && $members++;
+        next unless /^\s*\[\s*(\d+)\]\s+(.*)/ && $1 > 0;
+        my ($number, $said) = ($1, $2);
+        $said =~ /^(\S+)\s+(\S+)\s+[0-9a-f]+\s+[0-9a-f]+\s+([0-9a-f]+)\s+([0-9a-f]+)\s+(\w*)\s+\d+\s+\d+\s+\d+$/
+            or die "$archive: a section that is not understood: $said\n";
+        my ($name, $type, $bytes, $each, $flags) = ($1, $2, hex $3, hex $4, $5);
         $code ||= $flags =~ /X/ && $bytes > 0;
-        next unless $flags =~ /A/ && $flags !~ /[WX]/ && $type ne 'NOTE' && $name ne '.eh_frame';
-        push @sections, { name => $name, bytes => $bytes, each => $each };
-        $index{$number} = $name;
+        next if $flags !~ /A/ || $flags =~ /X/ || $type =~ /^(?:NOTE|NOBITS)$/ || $name eq '.eh_frame';
+        die "$archive: two sections $name\n" if $section{$name};
+        $section{$name} = { bytes => $bytes, each => $each, filled => 0, named => 0 };
+        $name{$number} = $name;
     }
     die "$archive: no code in it, so that nothing can be said of its data\n" unless $code;
-    my $inside;
+    my %width = (R_X86_64_PC32 => 4, R_X86_64_32 => 4, R_X86_64_32S => 4, R_X86_64_64 => 8, R_X86_64_PC64 => 8);
+    my $inside = '';
     for (readelf('-rW', $archive)) {
         $inside = $1 if /^Relocation section '\.rela(\S+)'/;
-        next unless defined $inside && /^[0-9a-f]{16}\s+[0-9a-f]{16}\s+(R_\w+)/;
-        $addresses{$inside} += $width{$1} // die "$archive: a relocation $1, whose width is not known\n"
-            if grep { $_ eq $inside } values %index;
+        next unless $section{$inside} && /^[0-9a-f]{16}\s+[0-9a-f]{16}\s+(R_\w+)/;
+        $section{$inside}{filled} += $width{$1} // die "$archive: a relocation $1, whose width is not known\n";
     }
     # what has a name of its own among the operands is no operand
     for (readelf('-sW', $archive)) {
         next unless /^\s*\d+:\s+[0-9a-f]+\s+\d+\s+(\w+)\s+\w+\s+\w+\s+(\d+)\s+(\S+)$/;
-        $named{ $index{$2} }++ if $1 ne 'SECTION' && $index{$2} && $3 !~ /^\.LCPI\d+_\d+$/;
+        $section{ $name{$2} }{named}++ if $1 ne 'SECTION' && $name{$2} && $3 !~ /^\.LCPI\d+_\d+$/;
     }
-    my ($total, $jumps, $operands, @held) = (0, 0, 0);
-    for my $section (@sections) {
-        my ($name, $bytes) = @$section{qw(name bytes)};
-        my $filled = $addresses{$name} // 0;
-        my $pooled = $name =~ /^\.rodata\.cst\d+$/ ? $bytes - $section->{each} * ($named{$name} // 0) : 0;
+    my ($jumps, $operands, @counted) = (0, 0);
+    for my $name (sort keys %section) {
+        my ($bytes, $each, $filled, $named) = @{ $section{$name} }{qw(bytes each filled named)};
+        my $pooled = $name =~ /^\.rodata\.cst\d+$/ ? $bytes - $each * $named : 0;
+        my $left = $bytes - $filled - $pooled;
+        die "$archive: $name has $bytes bytes, of which more are filled in\n" if $left < 0 || $pooled < 0;
         $jumps += $filled;
         $operands += $pooled;
-        my $counted = $bytes - $filled - $pooled;
-        $total += $counted;
-        push @held, "$name $counted" if $counted;
+        push @counted, [$name, $left] if $left;
     }
-    answer("tables in the read-only data of $archive", $total, join(', ', @held), "jump tables $jumps, operands of instructions $operands");
+    answer("tables in $archive", \@counted, 'jump tables' => $jumps, 'operands of instructions' => $operands);
 }
 
 sub readelf {
@@ -147,12 +178,18 @@ sub readelf {
 
 # ---- both
 
+# Prints what is counted and what is not; complains of a sum above 64, and of what is above its figure.
 sub answer {
-    my ($what, $total, $counted, $told) = @_;
-    printf "%s: %d of %d bytes%s; not counted: %s\n", $what, $total, $most, ($counted ? " ($counted)" : ''), $told;
-    return if $total <= $most;
-    print STDERR "$what: $total bytes, and $most are allowed\n";
-    $faults++;
+    my ($what, $counted, %told) = @_;
+    my $total = 0;
+    $total += $_->[1] for @$counted;
+    my $each = join ', ', map { "$_->[0] $_->[1]" } @$counted;
+    printf "%s: %d of %d bytes%s; not counted: %s\n", $what, $total, $most, ($each ? " ($each)" : ''),
+        join ', ', map { "$_ $told{$_} of $at_most{$_}" } sort keys %told;
+    my @over = map { "$_: $told{$_}, and $at_most{$_} are allowed" } grep { $told{$_} > $at_most{$_} } sort keys %told;
+    unshift @over, "$total bytes, and $most are allowed" if $total > $most;
+    print STDERR "$what: $_\n" for @over;
+    $faults += @over;
 }
 
 sub slurp {

@@ -1,11 +1,11 @@
 -- What each contract allows, case by case: which answer, which bytes in each buffer, which part of which slice. Assumes nothing.
-use Prim.Native.Nat.{ℕ, _≤_, _<_}
-use mathlib.Core.Path.{_≡_, subst, _∙_}
+use Prim.Native.Nat.{ℕ, _+_, _≤_, _<_}
+use mathlib.Core.Path.{_≡_, ap, subst, _∙_}
 use mathlib.Core.Bool.{true, false}
 use mathlib.Core.List.{List, [], _∷_, _++_}
 use mathlib.Core.Option.{none, some}
-use lib.ListN.{length, drop}
-use denote.Ref.{RefT, now}
+use lib.ListN.{length, take, drop}
+use denote.Ref.{RefT, ptr, now}
 use Rattle.refusals.specs.declared.Refusal.{Refusal}
 use Rattle.values.specs.Values.{Value}
 use Rattle.stages.specs.Contents.{normalForm}
@@ -23,13 +23,14 @@ use Rattle.answers.specs.declared.Listed.the-variants as listed
 use Rattle.answers.specs.Answers.{given, toldJudged, toldStored, toldCompared, toldLocated, toldListed}
 use Rattle.operations.specs.Judge.{figuresOf}
 use Rattle.operations.specs.Compare.{areSame, Part, ofFirst, ofSecond, keep}
-use Rattle.operations.specs.Locate.{located, locate, partOffset, partLength}
+use Rattle.operations.specs.Locate.{located, locate, partOffset}
 use Rattle.operations.specs.Read.{valueBytes, valueTable, readRefusal}
 use Rattle.operations.specs.Write.{writtenText, writeRefusal}
 use Rattle.operations.proofs.Answered.{normalises, read-given}
 use Rattle.operations.proofs.Located.{locate-found, part-is}
 use Rattle.operations.proofs.Cases.{judge-is, first-refused, second-refused, keep-is, write-given}
 use Rattle.contracts.specs.Promises.{Judges, Normalises, Compares, Locates, Reads, Writes, IsPart, Handed, Keeps, HandsBack}
+use Rattle.contracts.specs.Tight.{SameSlice}
 use Rattle.contracts.proofs.Told.{judged-tells, stored-tells, compared-tells, located-tells, listed-tells}
 
 pub judges : (s : List ℕ) (r : Judged) → Judges s r
@@ -108,3 +109,16 @@ hands-back s segment element component r h offset size e =
     let bounds = part-is (now s) segment element component offset size e in
     subst (λ (n : ℕ). IsPart s n size r) (bounds .0)
     (subst (λ (n : ℕ). IsPart s (partOffset (now s) segment element component) n r) (bounds .1) h)
+
+-- written out: where the part begins in memory, how long it is, and its bytes
+pub part-back : (s : RefT (List ℕ)) (segment element component : ℕ) (r : RefT (List ℕ)) → HandsBack s segment element component r
+    → (offset size : ℕ) → locate (now s) segment element component ≡ given (offset ∷ size ∷ [])
+    → (ptr r ≡ (ptr s .0, offset + ptr s .1)) × (length (now r) ≡ size) × (now r ≡ take size (drop offset (now s)))
+part-back s segment element component r h offset size e =
+    let part = hands-back s segment element component r h offset size e in
+    (part .place, part .long, part .bytes)
+
+-- the same slice: the same memory, from the same place on, and the same bytes, so that it is as long
+pub same-slice : (r q : RefT (List ℕ)) → SameSlice r q
+    → (ptr r .0 ≡ ptr q .0) × (ptr r .1 ≡ ptr q .1) × (now r ≡ now q) × (length (now r) ≡ length (now q))
+same-slice r q h = (ap (λ p. p .0) (h .0), ap (λ p. p .1) (h .0), h .1, ap length (h .1))

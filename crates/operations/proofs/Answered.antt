@@ -90,6 +90,11 @@ front-stored buffer text h =
 -- ---- Normalise
 
 module _ (buffer s : List ℕ) where
+  -- the input's refusal answers first, whatever the buffer is
+  pub normalise-judged : {r : Refusal} → refusalOf s ≡ some r → normaliseRefusal buffer s ≡ some r
+  unfolding normaliseRefusal
+  normalise-judged e = input-answers s (shortFor (normalForm s) buffer ∷ []) e
+
   -- what is answered and what the buffer holds, by what is refused
   pub normalise-refused : {r : Refusal} → normaliseRefusal buffer s ≡ some r
       → (normalise buffer s ≡ refused r) × (normaliseBuffer buffer s ≡ buffer)

@@ -28,12 +28,14 @@ use Rattle.operations.specs.Write.{writtenText, writeRefusal, write, wri
 
 -- ---- Judge
 
--- "service characters, counts of segments, messages and groups, length of the normal form": of one group with two messages
-pub figures-are : (s : List ℕ) → kindsOf s ≡ Unz ∷ Une ∷ Unt ∷ Unh ∷ Unt ∷ Unh ∷ Ung ∷ Unb ∷ []
+-- "service characters, counts of segments, messages and groups, length of the normal form": of a group with two messages and
+-- one with a third
+pub figures-are : (s : List ℕ)
+    → kindsOf s ≡ Unz ∷ Une ∷ Unt ∷ Unh ∷ Ung ∷ Une ∷ Unt ∷ Unh ∷ Unt ∷ Unh ∷ Ung ∷ Unb ∷ []
     → (figuresOf s .characters ≡ charactersOf s)
-    × (figuresOf s .segments .0 ≡ 8)
-    × (figuresOf s .messages .0 ≡ 2)
-    × (figuresOf s .groups .0 ≡ 1)
+    × (figuresOf s .segments .0 ≡ 12)
+    × (figuresOf s .messages .0 ≡ 3)
+    × (figuresOf s .groups .0 ≡ 2)
     × (figuresOf s .length ≡ length (normalForm s))
 unfolding figuresOf segmentsIn messagesIn groupsIn those is
 figures-are s e = (refl, ap segmentsIn e, ap messagesIn e, ap groupsIn e, refl)

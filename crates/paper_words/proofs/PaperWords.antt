@@ -1,6 +1,6 @@
 -- All of the statements hold. Assumes nothing.
 use Prim.Native.Nat.{ℕ}
-use mathlib.Core.Path.{_≡_, sym, subst, _∙_}
+use mathlib.Core.Path.{_≡_, refl, sym, subst, _∙_}
 use mathlib.Core.Bool.{true}
 use mathlib.Core.Logic.{_↔_}
 use mathlib.Core.List.{List, [], _∷_, List·Memᴰ}
@@ -13,31 +13,34 @@ use Rattle.characters.proofs.Words.{usable-says, service-says, advised-opening,
 use Rattle.refusals.specs.declared.Refusal.{Refusal}
 use Rattle.refusals.proofs.Words.{numbers-are}
 use Rattle.values.specs.Tokens.{byte, Segment}
-use Rattle.values.specs.Trimming.{contentsOf}
+use Rattle.values.specs.Trimming.{trimElement, trimSegment, contentsOf}
 use Rattle.values.proofs.Words.{read-end, read-separators, read-value, read-released, read-stray, read-last, finished-says, segment-ended, segment-unended, no-segment, start-is, bytes-are, spelled-value, spelled-segment, spelled-list}
+use Rattle.values.proofs.Cases.{element-trimmed, segment-trimmed}
 use Rattle.nesting.proofs.Words.{idle-is}
 use Rattle.normal_form_laws.proofs.Trimmed.{contents-words}
 use Rattle.levels.specs.Levels.{levelOf, inLevel}
 use Rattle.levels.proofs.Words.{level-a-says, level-b-says, in-level-says, names-level, level-none}
 use Rattle.segments.specs.declared.Kind.{Kind}
+use Rattle.segments.specs.declared.Kind.the-variants.{Unb, Unz}
+use Rattle.segments.specs.Order.{isComplete}
 use Rattle.segments.proofs.Cases.{messages-follow, groups-follow}
-use Rattle.segments.proofs.Words.{kinds-are, user-kind, tag-is, tag-says, rule-says, counted, after-interchange, in-group-message, in-message, in-group, between-groups, before-interchange, kind-is, group-allows}
+use Rattle.segments.proofs.Words.{kinds-are, user-kind, tag-is, tag-says, rule-says, counted, after-interchange, in-group-message, in-message, in-group, between-groups, before-interchange, kind-is, open-says, group-allows, between-allows}
 use Rattle.control_elements.proofs.Words.{unb-control, ung-control, unh-control, unt-control, une-control, unz-control, no-control, unt-reference, une-reference, unz-reference, unt-count, une-count, unz-groups, unz-messages, no-trailer, decimal-digits}
-use Rattle.stages.specs.Contents.{bodyTokens, segmentsOf}
+use Rattle.stages.specs.Contents.{bodyTokens, segmentsOf, contents, kindsOf}
 use Rattle.stages.specs.Places.{outsideLevel}
+use Rattle.stages.specs.Stages.{stages, refusalOf}
 use Rattle.stages.proofs.Words.{one-at, two-advised, two-short, two-plain, three-advised, three-plain, four-at, five-at, six-at, seven-at, eight-at, nine-at, ten-at, eleven-at, twelve-at, thirteen-at, stages-are, later-are, form-is}
 use Rattle.answers.proofs.Words.{judged-are, stored-are, compared-are, located-are, listed-are}
-use Rattle.operations.specs.Judge.{figuresOf}
-use Rattle.operations.specs.Write.{writeRefusal, write}
+use Rattle.operations.specs.Judge.{figuresOf, judge}
 use Rattle.operations.proofs.Words as values
-use Rattle.trimming_laws.proofs.Nesting.{listed-listOf, listOf-listed}
-use Rattle.trimming_laws.proofs.Tables.{listed-table, listTable-length}
+use Rattle.trimming_laws.proofs.Tables.{listTable-length}
 use Rattle.control_elements.proofs.Sections.{section-says, section-other}
 use Rattle.normal_form_laws.proofs.Alike.{control-alike, section-rule, references-by-contents, counts-by-contents}
-use Rattle.round_trip_laws.proofs.Numbers.{unrefused}
-use Rattle.round_trip_laws.proofs.Theorems.{written-unchanged}
-use Rattle.paper_words.specs.Relations.{Usable, LevelA, LevelB}
-use Rattle.paper_words.specs.PaperWords.{ServiceCharacters, Reading, Spelling, BytesToValues, Stands, ControlOf, ReferencesOf, CountsOf, ControlElements, SectionMarkers, Told, ValueLists, PlacesOf, PaperWords}
+use Rattle.acceptance_laws.proofs.Stages.{refused-exactly}
+use Rattle.acceptance_laws.proofs.Judged.{judged-refused}
+use Rattle.paper_words.specs.Relations.{Usable, LevelA, LevelB, Answers}
+use Rattle.paper_words.specs.PaperWords.{refuses, ServiceCharacters, Reading, Spelling, Input, BytesToValues, Stands, ControlOf, ReferencesOf, CountsOf, ControlElements, SectionMarkers, Told, ValueLists, PlacesOf, PaperWords}
+use Rattle.paper_words.proofs.Parts.{words-are, answers-exactly}
 use Rattle.paper_words.proofs.Writer.{fine-list, write-refused-exactly}
 
 service-characters : ServiceCharacters
@@ -80,10 +83,19 @@ named-level : (unb : Segment) (l m b : ℕ) (Q : ℕ → Type 0) → ((inLevel m
 named-level unb l m b Q says e named =
     subst (λ (n : ℕ). (inLevel n b ≡ true) ↔ Q b) (Option·some-injective m l (sym e ∙ named)) says
 
+input : (s : List ℕ) → Input s
+unfolding bodyTokens segmentsOf contents kindsOf
+input s = record { tokens-are = refl; segments-are = refl; contents-are = refl; kinds-are = refl }
+
 bytes-to-values : BytesToValues
+unfolding trimElement trimSegment
 bytes-to-values =
     record {
+      input = input;
       reading = reading;
+      words = words-are;
+      element-trimmed = element-trimmed;
+      segment-trimmed = segment-trimmed;
       no-segment = no-segment;
       segment-ended = segment-ended;
       segment-unended = segment-unended;
@@ -107,6 +119,7 @@ bytes-to-values =
     }
 
 stands : (past : List Kind) → Stands past
+unfolding isComplete
 stands past =
     record {
       after = after-interchange past;
@@ -116,6 +129,8 @@ stands past =
       between-groups = between-groups past;
       before = before-interchange past;
       group-allows = group-allows past;
+      between-allows = between-allows past;
+      complete = open-says Unz Unb past;
     }
 
 control-of : (g : Segment) → ControlOf g
@@ -186,20 +201,15 @@ told r =
     }
 
 value-lists : ValueLists
-unfolding write
 value-lists =
     record {
       kinds = values.kinds-are;
-      listed-listOf = listed-listOf;
-      listOf-listed = listOf-listed;
       bytes = values.bytes-are;
       table = values.table-is;
       table-length = listTable-length;
       read-list = values.read-list;
       record-names = values.listed-at;
-      listed-table = listed-table;
       text-is = λ c. values.text-is (c .component) (c .element) (c .mark) (c .release) (c .reserved) (c .terminator);
-      written-unchanged = λ service bytes table output h. written-unchanged service bytes table output (unrefused _ (writeRefusal service bytes table output) h);
     }
 
 -- 8, by the level that UNB names
@@ -234,6 +244,14 @@ places-of p =
       thirteen = λ s. thirteen-at s p;
     }
 
+answers : (s : List ℕ) (r : Refusal) → (judge s ≡ refuses r (r .place ∷ [])) ↔ Answers (stages s) r
+unfolding refusalOf
+answers s r =
+    let judged = judged-refused s (r .fault) (r .place) in
+    let refused = refused-exactly s (r .fault) (r .place) in
+    let exactly = answers-exactly (stages s) r in
+    (λ e. exactly .0 (refused .1 (judged .0 e)), λ a. judged .1 (refused .0 (exactly .1 a)))
+
 pub paper-words : PaperWords
 paper-words =
     record {
@@ -246,5 +264,5 @@ paper-words =
       normal-form = record { byte-by-byte = form-is };
       told = told;
       value-lists = value-lists;
-      refusals = record { numbers = numbers-are; places = places-of; stages-are = stages-are; later-are = later-are; fine-list = fine-list; write-refused = write-refused-exactly };
+      refusals = record { numbers = numbers-are; places = places-of; stages-are = stages-are; answers = answers; later-are = later-are; fine-list = fine-list; write-refused = write-refused-exactly };
     }

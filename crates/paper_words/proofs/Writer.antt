@@ -18,13 +18,13 @@ use Rattle.refusals.specs.declared.Fault.{Fault}
 use Rattle.refusals.specs.declared.Fault.the-variants.{TooLong, UnusableAdvice, BufferShort, BadList, NeedsRelease}
 use Rattle.refusals.specs.declared.Refusal.{Refusal}
 use Rattle.refusals.specs.Refusals.{number}
-use Rattle.stages.specs.Stages.{refusalOf}
+use Rattle.stages.specs.Stages.{stages, refusalOf}
 use Rattle.answers.specs.Answers.{Answer, given, refused}
 use Rattle.operations.specs.Write.{badList, unusableBytes, needsRelease, writtenText, writeRefusal, write}
 use Rattle.operations.proofs.Words.{At15, At2, At16, At1, fifteen-at, six-says, two-at, sixteen-at, write-fifteen, write-two, write-sixteen, write-one, write-fourteen}
 use Rattle.operations.proofs.Cases.{write-given, write-refused}
-use Rattle.acceptance_laws.proofs.Stages.{refused-exactly}
 use Rattle.theorems.proofs.Buffers.{as-judged}
+use Rattle.paper_words.proofs.Parts.{answers-exactly}
 use Rattle.paper_words.specs.Relations.{BadTable, BadRecord, SixUsable, LacksRelease, Nowhere, Lowest}
 use Rattle.paper_words.specs.PaperWords.{FineList, WriteRefused, fifteen, two, sixteen, one, fourteen, later}
 
@@ -152,6 +152,7 @@ module _ (service bytes table output : List ℕ) where
 
   -- each of them answers
   pub refused-so : {n p : ℕ} → WriteRefused service bytes table output n p → Answers n p
+  unfolding refusalOf
   refused-so (fifteen p h) = answered BadList p (write-fifteen service bytes table output p h)
   refused-so (two fine n) =
       answered UnusableAdvice 0
@@ -167,8 +168,8 @@ module _ (service bytes table output : List ℕ) where
       answered BufferShort (length text)
       (write-fourteen service bytes table output (no15 fine) (no2 fine c six) (no16 fine c six clean) (no1 fine c six clean short) (length text)
       ((small, refl), λ q h. omega arith))
-  refused-so (later fine c six clean short fits f p r) =
-      answered f p (judged fine c six clean short fits ∙ refused-exactly text f p .1 r)
+  refused-so (later fine c six clean short fits r a) =
+      answered (r .fault) (r .place) (judged fine c six clean short fits ∙ answers-exactly (stages text) r .1 a)
 
   -- one of them holds, or nothing is refused
   abbrev Found : Type 0
@@ -176,12 +177,12 @@ module _ (service bytes table output : List ℕ) where
 
   by-text : FineList bytes table → (c : Characters) → SixUsable service c → Nowhere (LacksRelease c bytes table)
       → length text ≤ 32000 → length text ≤ length output → Found
-  unfolding given
+  unfolding given refusalOf
   by-text fine c six clean short fits = step (refusalOf text) refl
     where
       step : (o : Option Refusal) → refusalOf text ≡ o → Found
       step none e = inr (ap (λ (a : Answer). a .number) (write-given service bytes table output (judged fine c six clean short fits ∙ e) .0))
-      step (some r) e = inl (number (r .fault), r .place, later fine c six clean short fits (r .fault) (r .place) (refused-exactly text (r .fault) (r .place) .0 e))
+      step (some r) e = inl (number (r .fault), r .place, later fine c six clean short fits r (answers-exactly (stages text) r .0 e))
 
   by-size : FineList bytes table → (c : Characters) → SixUsable service c → Nowhere (LacksRelease c bytes table) → Found
   by-size fine c six clean =

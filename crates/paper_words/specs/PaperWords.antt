@@ -1,10 +1,23 @@
--- Paper 01 in statements: each sentence that a definition computes, with the paper's numbers, in the order of the paper. Each field is a
--- theorem; `proofs/PaperWords.antt` proves the records. Assumes nothing.
+-- Paper 01 in statements, in the order of its headings: what the definitions say, with the paper's letters and numbers written out.
+-- Each field is a theorem; `proofs/PaperWords.antt` proves the records. Assumes nothing.
+--
+-- How to read it. Above a field, or a few, stands the sentence that they say. Names in small letters (`usable`, `tokens`, `allowed`) are definitions
+-- that compute; the `use` lines name their files. Names with a capital letter (`Usable`, `Open`, `Nearest`) are the paper's notions,
+-- said without those definitions: `specs/Relations.antt` has them, or names the file. Most fields say that a definition answers `true`, or
+-- that a place is one of its places (`List·Memᴰ p places`), exactly where (`↔`) the notion holds; `×` is "and", `⊎` is "or", `P → ⊥` is
+-- "not P". Of what passed, the nearest comes first. An input goes through `charactersOf` and `body`, `bodyTokens`, `segmentsOf`,
+-- `contents` (record Input), is asked for the places of each refusal (PlacesOf), and the first stage that fails answers (Refusals).
+--
+-- What is not said here, since it is demanded of whole operations, stands in `crates/theorems/specs/Demands.antt`: that trimming is what the
+-- paper says of any list (`trims`, `trims-only-so`; here are two examples), Judge's figures (`tells`), Normalise's and Read's buffers and 14
+-- (`normalises`, `form-short`, `judged-first`, `reads`, `bytes-short`, `table-short`), Write's output (`writes`, `write-refused`), Locate and
+-- its companion (part 8), "same", Compare and Keep (part 9), that a value list loses nothing (part 10), and the length of a normal form
+-- (`normal-form`).
 use Prim.Native.Nat.{ℕ, _+_, _*_, _-_, _≤_, _<_}
 use mathlib.Core.Path.{_≡_}
 use mathlib.Core.Bool.{Bool, true, false, not, _&&_}
 use mathlib.Core.Logic.{_↔_, _⊎_}
-use mathlib.Core.List.{List, [], _∷_, _++_, map, List·Memᴰ}
+use mathlib.Core.List.{List, [], _∷_, _++_, map, reverse, List·Memᴰ}
 use mathlib.Core.Option.{none, some}
 use lib.ListN.{length, take, drop}
 use lib.Dec.{ltb}
@@ -18,7 +31,7 @@ use Rattle.refusals.specs.declared.Refusal.{Refusal}
 use Rattle.refusals.specs.Refusals.{number, met}
 use Rattle.values.specs.Tokens.{Token, byte, separator, fault, tokens, Segment, segments, start}
 use Rattle.values.specs.Values.{bytesOf, finished}
-use Rattle.values.specs.Trimming.{trimSegment, contentsOf}
+use Rattle.values.specs.Trimming.{trimElement, trimSegment, contentsOf}
 use Rattle.values.specs.Spelling.{Bytes, SegmentList, spellValue, spellSegment, spell}
 use Rattle.levels.specs.Levels.{inLevelA, inLevelB, levelOf, inLevel}
 use Rattle.segments.specs.declared.Kind.{Kind}
@@ -39,13 +52,12 @@ use Rattle.answers.specs.declared.Compared.the-variants as compared
 use Rattle.answers.specs.declared.Located.the-variants as located
 use Rattle.answers.specs.declared.Listed.the-variants as listed
 use Rattle.answers.specs.Answers.{Answer, toldJudged, toldStored, toldCompared, toldLocated, toldListed}
+use Rattle.operations.specs.Judge.{judge}
 use Rattle.operations.specs.ValueList.{Item, listOf, listBytes, listTable, listedIn, segmentsListed, trimList}
 use Rattle.operations.specs.Read.{valueBytes, valueTable}
 use Rattle.operations.specs.Write.{badList, writtenText, write}
-use Rattle.spelling_laws.specs.Bodies.{wordsOf, Shaped}
-use Rattle.trimming_laws.specs.Kinds.{Kinds}
-use Rattle.acceptance_laws.specs.Refused.{Refused}
-use Rattle.paper_words.specs.Relations.{six, Usable, Service, advised, NoAdvice, BeginsUnb, Unended, Open, LevelA, LevelB, Names, Reference, Count, Nearest, Marks, Marked, StartsAt, Record, BadTable, BadRecord, SixUsable, LacksRelease, Nowhere, Lowest}
+use Rattle.spelling_laws.specs.Bodies.{wordsOf}
+use Rattle.paper_words.specs.Relations.{six, Usable, Service, advised, NoAdvice, BeginsUnb, Unended, Unseparated, Open, LevelA, LevelB, Names, Reference, Count, Nearest, Marks, Marked, StartsAt, Record, BadTable, BadRecord, SixUsable, LacksRelease, Nowhere, Lowest, Answers}
 
 -- ---- "Service characters"
 
@@ -97,7 +109,18 @@ pub record Spelling (c : Characters) : Type 0 where
       ≡ spellValue c u ++ c .component ∷ spellValue c v ++ c .element ∷ spellValue c w ++ c .terminator ∷ []
   pub list : (g : List (List Bytes)) (gs : SegmentList) → (spell c [] ≡ []) × (spell c (g ∷ gs) ≡ spellSegment c g ++ spell c gs)
 
+-- what is read of an input, step by step
+pub record Input (s : List ℕ) : Type 0 where
+  -- the body's bytes under the input's characters; its first byte stands at 0, or at 9 after an advice
+  pub tokens-are : bodyTokens s ≡ tokens (charactersOf s) (bodyStart s) (body s)
+  pub segments-are : segmentsOf s ≡ segments (bodyTokens s)
+  -- "The contents are the trimmed list.", segment by segment
+  pub contents-are : contents s ≡ map contentsOf (segmentsOf s)
+  -- the kinds of its segments, the last first
+  pub kinds-are : kindsOf s ≡ reverse (map kindOf (segmentsOf s))
+
 pub record BytesToValues : Type 0 where
+  pub input : (s : List ℕ) → Input s
   pub reading : (c : Characters) → Usable c → (place : ℕ) → Reading c place
   -- "An unreleased terminator ends a segment", and is its last token
   pub no-segment : segments [] ≡ []
@@ -107,22 +130,38 @@ pub record BytesToValues : Type 0 where
   -- "segment start": where its first token is spelled
   pub starts : (ts : List Token) (b from place rank : ℕ)
       → (start (byte b from place ∷ ts) ≡ from) × (start (separator rank place ∷ ts) ≡ place) × (start (fault place ∷ ts) ≡ place)
-  -- "A segment is finished when its terminator ends it and no fault 4 lies in it."
-  pub finished-when : (g : Segment)
-      → (finished g ≡ true)
-      ↔ (((before : List Token) × (q : ℕ) × (g ≡ before ++ separator 0 q ∷ [])) × ((q : ℕ) → List·Memᴰ (fault q) g → ⊥))
+  -- "an element separator [ends] an element, a component separator a component": the values of `u:v+w'`, which hold no separator
+  pub words : (u v w : List Token) (i j k : ℕ) → Unseparated u → Unseparated v → Unseparated w
+      → wordsOf (u ++ separator 2 i ∷ v ++ separator 1 j ∷ w ++ separator 0 k ∷ [])
+      ≡ (bytesOf u ∷ bytesOf v ∷ []) ∷ (bytesOf w ∷ []) ∷ []
   -- "Values keep every byte"
   pub value-bytes : (b from place rank : ℕ) (ts : List Token)
       → (bytesOf [] ≡ [])
       × (bytesOf (byte b from place ∷ ts) ≡ b ∷ bytesOf ts)
       × (bytesOf (separator rank place ∷ ts) ≡ bytesOf ts)
       × (bytesOf (fault place ∷ ts) ≡ bytesOf ts)
-  pub spelling : (c : Characters) → Spelling c
   -- "The first element is the tag": the bytes before the first separator of any kind
   pub tag : (inside : List Token) (rank place : ℕ) (rest : List Token) → rank ≤ 2
       → ((k q : ℕ) → List·Memᴰ (separator k q) inside → k ≤ 2 → ⊥)
       → (tagPiece (inside ++ separator rank place ∷ rest) ≡ inside ++ separator rank place ∷ [])
       × (tagOf (inside ++ separator rank place ∷ rest) ≡ bytesOf (inside ++ separator rank place ∷ []))
+  pub spelling : (c : Characters) → Spelling c
+  -- "empty components at the end of an element go, down to one": of `A::B::`, and of `:`
+  pub element-trimmed : (trimElement isEmpty (text "A" ∷ [] ∷ text "B" ∷ [] ∷ [] ∷ []) ≡ text "A" ∷ [] ∷ text "B" ∷ [])
+      × (trimElement (isEmpty {A = ℕ}) ([] ∷ [] ∷ []) ≡ [] ∷ [])
+  -- "then elements at a segment's end that are a single empty value go, but never the tag": of `A+:+B:+::+'`, and of `:+'`
+  pub segment-trimmed : (trimSegment isEmpty ((text "A" ∷ []) ∷ ([] ∷ [] ∷ []) ∷ (text "B" ∷ [] ∷ []) ∷ ([] ∷ [] ∷ [] ∷ []) ∷ ([] ∷ []) ∷ [])
+      ≡ (text "A" ∷ []) ∷ ([] ∷ []) ∷ (text "B" ∷ []) ∷ [])
+      × (trimSegment (isEmpty {A = ℕ}) (([] ∷ [] ∷ []) ∷ ([] ∷ []) ∷ []) ≡ ([] ∷ []) ∷ [])
+  -- "a single empty value"
+  pub idle : (t : Bytes → Bool) (x y : Bytes) (ys : List Bytes)
+      → (isIdle t [] ≡ false) × (isIdle t (x ∷ []) ≡ t x) × (isIdle t (x ∷ y ∷ ys) ≡ false)
+  -- "The contents are the trimmed list." of any segment, allowed or not
+  pub contents-trimmed : (g : Segment) → contentsOf g ≡ trimSegment isEmpty (wordsOf g)
+  -- "A segment is finished when its terminator ends it and no fault 4 lies in it."
+  pub finished-when : (g : Segment)
+      → (finished g ≡ true)
+      ↔ (((before : List Token) × (q : ℕ) × (g ≡ before ++ separator 0 q ∷ [])) × ((q : ℕ) → List·Memᴰ (fault q) g → ⊥))
   -- "three bytes, each `A`-`Z` or `0`-`9`"
   pub tag-bytes : (tag : List ℕ)
       → (isTag tag ≡ true)
@@ -138,11 +177,6 @@ pub record BytesToValues : Type 0 where
   pub user-tags : (tag : List ℕ) → ((last : ℕ) → List·Memᴰ last (text "BGHSTEZ") → tag ≡ text "UN" ++ last ∷ [] → ⊥) → kindNamed tag ≡ User
   -- a segment's kind is the one that its tag names
   pub kind : (g : Segment) → kindOf g ≡ kindNamed (tagOf g)
-  -- "The contents are the trimmed list." of any segment, allowed or not
-  pub contents-trimmed : (g : Segment) → contentsOf g ≡ trimSegment isEmpty (wordsOf g)
-  -- "a single empty value"
-  pub idle : (t : Bytes → Bool) (x y : Bytes) (ys : List Bytes)
-      → (isIdle t [] ≡ false) × (isIdle t (x ∷ []) ≡ t x) × (isIdle t (x ∷ y ∷ ys) ≡ false)
   -- "A tag beginning `UN` must be [one of these], and no component separator may follow it": what follows ends the element or the segment
   pub tag-rule : (g : Segment)
       → (tagRule g ≡ true)
@@ -173,6 +207,12 @@ pub record Stands (past : List Kind) : Type 0 where
   pub group-allows : (allowedAt InGroup past Unh ≡ true)
       × (allowedAt InGroup past Une ≡ ltb 0 (messagesSinceGroup past))
       × (allowedAt InGroup past Unz ≡ false)
+  -- "then one or more groups, or one or more messages, not both; then UNZ": however many passed
+  pub between-allows : ((allowedAt BetweenGroups past Unz ≡ true) ↔ (0 < messagesIn past))
+      × ((allowedAt BetweenGroups past Unh ≡ true) ↔ (groupsIn past ≡ 0))
+      × ((allowedAt BetweenGroups past Ung ≡ true) ↔ ((0 < groupsIn past) ⊎ (messagesIn past ≡ 0)))
+  -- 9: "or the end before UNZ": what passed is complete where UNZ passed, and no UNB since
+  pub complete : (isComplete past ≡ true) ↔ Open Unz Unb past
 
 -- the kinds of segments that may follow what passed, the nearest first
 abbrev next : List Kind → List Kind
@@ -317,9 +357,6 @@ pub record ValueLists : Type 0 where
       ∷ record { kind = 1; value = w }
       ∷ record { kind = 0; value = x }
       ∷ []
-  -- the kinds give back the segments that were listed, and the segments the kinds
-  pub listed-listOf : (list : SegmentList) → Shaped list → segmentsListed (listOf list) ≡ list
-  pub listOf-listed : (items : List Item) → Kinds items → listOf (segmentsListed items) ≡ items
   -- "a byte buffer of values .. end to end"
   pub bytes : (l : Item) (ls : List Item) → (listBytes [] ≡ []) × (listBytes (l ∷ ls) ≡ l .value ++ listBytes ls)
   -- "a table of three 32-bit numbers a value: kind .., start, length": a record for each value, an empty one too, that starts where those
@@ -332,15 +369,9 @@ pub record ValueLists : Type 0 where
   -- a record names the part of the bytes that begins at its start and has its length
   pub record-names : (bytes table : List ℕ) (n kind start size : ℕ) → Record table n kind start size
       → at {A = Item} (listedIn bytes table) n ≡ some (record { kind = kind; value = take size (drop start bytes) })
-  pub listed-table : (items : List Item) → listedIn (listBytes items) (listTable items) ≡ items
   -- Write's text: "always an advice, then the trimmed list"
   pub text-is : (c : Characters) (bytes table : List ℕ)
       → writtenText (six c) bytes table ≡ advised c (spell c (trimList (segmentsListed (listedIn bytes table))))
-  -- a list that was written with nothing to trim is read as it was, value by value
-  pub written-unchanged : (service bytes table output : List ℕ) → write service bytes table output .number ≡ 0
-      → trimList (segmentsListed (listedIn bytes table)) ≡ segmentsListed (listedIn bytes table)
-      → let text = writtenText service bytes table in
-      (valueBytes text ≡ listBytes (listedIn bytes table)) × (valueTable text ≡ listTable (listedIn bytes table))
 
 -- ---- "Refusals by number"
 
@@ -407,7 +438,7 @@ pub data WriteRefused (service bytes table output : List ℕ) : ℕ → ℕ → 
       → WriteRefused service bytes table output 14 (length (writtenText service bytes table))
   later : FineList bytes table → (c : Characters) → SixUsable service c → Nowhere (LacksRelease c bytes table)
       → length (writtenText service bytes table) ≤ 32000 → length (writtenText service bytes table) ≤ length output
-      → (f : Fault) (p : ℕ) → Refused (writtenText service bytes table) f p → WriteRefused service bytes table output (number f) p
+      → (r : Refusal) → Answers (stages (writtenText service bytes table)) r → WriteRefused service bytes table output (number (r .fault)) (r .place)
 
 -- in the order of the table
 abbrev faults : List Fault
@@ -431,6 +462,8 @@ pub record Refusals : Type 0 where
       ∷ (met BadControl (badControls s) ++ (met ReferenceDiffers (differingReferences s) ++ met CountWrong (wrongCounts s)))
       ∷ met NormalTooLong (normalTooLong s)
       ∷ []
+  -- "The first failing stage answers; within a stage, bracketed or single, the lowest place, then the lowest number."
+  pub answers : (s : List ℕ) (r : Refusal) → (judge s ≡ refuses r (r .place ∷ [])) ↔ Answers (stages s) r
   -- "then 3 to 13 as Judge would answer for the text"
   pub later-are : (s : List ℕ) → stages s ≡ met TooLong (tooLong s) ∷ met UnusableAdvice (unusableAdvice s) ∷ laterStages s
   -- 15 is not met exactly by a list that is fine

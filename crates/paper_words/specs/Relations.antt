@@ -1,7 +1,7 @@
 -- The paper's notions that the record uses, with its numbers written out: none of them goes through the definition that it is held
 -- against. Those passed on here stand in `specs/Notions.antt` of the crate that they are about. `P → ⊥` says that P does not hold.
 -- Assumes nothing.
-use Prim.Native.Nat.{ℕ}
+use Prim.Native.Nat.{ℕ, _<_}
 use mathlib.Core.Path.{_≡_}
 use mathlib.Core.Bool.{Bool, true}
 use mathlib.Core.Logic.{_⊎_}
@@ -9,7 +9,9 @@ use mathlib.Core.List.{List, [], _∷_, _++_, reverse, List·Memᴰ}
 use mathlib.Core.Option.{some}
 use Rattle.lists.specs.Lists.{text, at}
 use Rattle.characters.specs.declared.Characters.{Characters}
-use Rattle.values.specs.Tokens.{Segment, start}
+use Rattle.refusals.specs.declared.Refusal.{Refusal}
+use Rattle.refusals.specs.Refusals.{number}
+use Rattle.values.specs.Tokens.{Token, separator, Segment, start}
 use Rattle.values.specs.Trimming.{contentsOf}
 use Rattle.segments.specs.declared.Kind.the-variants.{Uns}
 use Rattle.segments.specs.Tags.{kindOf}
@@ -38,6 +40,10 @@ advised c rest = text "UNA" ++ six c ++ rest
 
 abbrev pub NoAdvice : List ℕ → Type 0
 NoAdvice s = (rest : List ℕ) → s ≡ text "UNA" ++ rest → ⊥
+
+-- no separator is among the tokens
+abbrev pub Unseparated : List Token → Type 0
+Unseparated ts = (k q : ℕ) → List·Memᴰ (separator k q) ts → ⊥
 
 -- "begins `UNB`" and a byte
 abbrev pub BeginsUnb : List ℕ → ℕ → Type 0
@@ -68,3 +74,15 @@ StartsAt fails gs p =
 -- 2: "six usable bytes"
 abbrev pub SixUsable : List ℕ → Characters → Type 0
 SixUsable service c = (service ≡ six c) × Usable c
+
+-- "The first failing stage answers; within a stage, bracketed or single, the lowest place, then the lowest number.": of the stages, each of
+-- which is all that is met of what it brackets, this refusal answers
+pub record Answers (stages : List (List Refusal)) (r : Refusal) : Type 0 where
+  pub before : List (List Refusal)
+  pub stage : List Refusal
+  pub after : List (List Refusal)
+  pub split : stages ≡ before ++ stage ∷ after
+  pub earlier : (other : List Refusal) → List·Memᴰ other before → other ≡ []
+  pub met : List·Memᴰ r stage
+  pub lowest : (q : Refusal) → List·Memᴰ q stage
+      → (q .place < r .place) ⊎ ((q .place ≡ r .place) × (number (q .fault) < number (r .fault))) → ⊥

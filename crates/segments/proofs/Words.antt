@@ -1,5 +1,5 @@
 -- What the definitions say in the paper's letters: the tags by their bytes, what is counted, and where the check stands. Assumes nothing.
-use Prim.Native.Nat.{ℕ, _+_, _≤_}
+use Prim.Native.Nat.{ℕ, _+_, _≤_, _<_}
 use mathlib.Core.Path.{_≡_, refl, sym, ap, _∙_}
 use mathlib.Core.Bool.{Bool, true, false, not, _&&_, _||_, false≢true}
 use mathlib.Core.List.{List, [], _∷_, _++_, List·Memᴰ, List·Memᴰ·head, List·Memᴰ·tail, List·Memᴰ·not-nil, Memᴰ·cast, nil≢cons, head-eq-of-cons-eq, tail-eq-of-cons-eq}
@@ -9,7 +9,7 @@ use lib.Dec.{eqb, ltb}
 use lib.ListN.{length, getD, length-append}
 use borrow.Author.Tests.{eqb-true, eq-eqb}
 use Rattle.lists.specs.Lists.{if_then_else_, text, same, begins, all, those}
-use Rattle.lists.proofs.Tests.{Says, says-eq, says-both, says-either, says-not, says-same, says-begins, says-all, fails, through-is}
+use Rattle.lists.proofs.Tests.{Says, says-eq, says-lt, says-both, says-either, says-not, says-same, says-begins, says-all, fails, through-is}
 use Rattle.characters.specs.Characters.{upper, digit}
 use Rattle.characters.proofs.Words.{upper-says, digit-says}
 use Rattle.values.specs.Tokens.{Token, separator, Segment, ends}
@@ -254,6 +254,24 @@ pub group-allows : (past : List Kind)
     → (allowedAt InGroup past Unh ≡ true) × (allowedAt InGroup past Une ≡ ltb 0 (messagesSinceGroup past)) × (allowedAt InGroup past Unz ≡ false)
 unfolding allowedAt is
 group-allows past = (refl, refl, refl)
+
+-- "then one or more groups, or one or more messages, not both; then UNZ": however many passed
+pub between-allows : (past : List Kind)
+    → Says (allowedAt BetweenGroups past Unz) (0 < messagesIn past)
+    × Says (allowedAt BetweenGroups past Unh) (groupsIn past ≡ 0)
+    × Says (allowedAt BetweenGroups past Ung) ((0 < groupsIn past) ⊎ (messagesIn past ≡ 0))
+unfolding allowedAt is
+between-allows past =
+    let started : Bool = ltb 0 (groupsIn past) || eqb (messagesIn past) 0 in (
+      says-lt 0 (messagesIn past),
+      alone (eqb (groupsIn past) 0) (says-eq (groupsIn past) 0),
+      alone (started || false) (alone started
+          (says-either (ltb 0 (groupsIn past)) (eqb (messagesIn past) 0) (says-lt 0 (groupsIn past)) (says-eq (messagesIn past) 0))),
+    )
+  where
+    alone : (b : Bool) {P : Type 0} → Says b P → Says (b || false) P
+    alone true h = h
+    alone false h = h
 
 -- outside of every message, UNT, UNE, UNS and user segments are never allowed; after UNZ nothing is
 pub outside-allows : (past : List Kind)

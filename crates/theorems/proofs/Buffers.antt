@@ -10,7 +10,6 @@ use Rattle.refusals.specs.declared.Refusal.{Refusal}
 use Rattle.refusals.specs.Refusals.{Stage, met, orElse, answering}
 use Rattle.refusals.proofs.Lowest.{lowest-none}
 use Rattle.refusals.proofs.Stages.{met-none}
-use Rattle.stages.specs.Contents.{normalForm}
 use Rattle.stages.specs.Places.{tooLong}
 use Rattle.stages.specs.Stages.{laterStages, refusalOf}
 use Rattle.stages.proofs.Stages.{later-answers, later-none}
@@ -18,7 +17,7 @@ use Rattle.answers.specs.Answers.{Answer, given}
 use Rattle.operations.specs.Judge.{shortFor, normaliseRefusal}
 use Rattle.operations.specs.Read.{valueBytes, valueTable, readRefusal, read, readBytes, readTable}
 use Rattle.operations.specs.Write.{badList, unusableBytes, needsRelease, writtenText, writeStages, writeRefusal, write, writeOutput}
-use Rattle.operations.proofs.Answered.{input-answers, room-answers, read-given, read-judged, read-passes}
+use Rattle.operations.proofs.Answered.{room-answers, normalise-judged, read-given, read-judged, read-passes}
 use Rattle.operations.proofs.Cases.{write-given}
 use Rattle.acceptance_laws.specs.Allowed.{Allowed}
 use Rattle.acceptance_laws.proofs.Acceptance.{allowed-exactly}
@@ -37,8 +36,7 @@ clear-answers stage last e = ap (λ (o : Option Refusal). orElse o (answering la
 
 module _ (buffer table s : List ℕ) where
   pub judged-first : {r : Refusal} → refusalOf s ≡ some r → (normaliseRefusal buffer s ≡ some r) × (readRefusal buffer table s ≡ some r)
-  unfolding normaliseRefusal
-  judged-first e = (input-answers s (shortFor (normalForm s) buffer ∷ []) e, read-judged buffer table s e)
+  judged-first e = (normalise-judged buffer s e, read-judged buffer table s e)
 
   pub reads : refusalOf s ≡ none → length (valueBytes s) ≤ length buffer → length (valueTable s) ≤ length table
       → (read buffer table s ≡ given (length (valueBytes s) ∷ length (valueTable s) ∷ []))
@@ -64,7 +62,7 @@ module _ (service bytes table output : List ℕ) where
   text = writtenText service bytes table
 
   -- the number 0 says that nothing is refused, and the other way round
-  write-none : (write service bytes table output .number ≡ 0) ↔ (writeRefusal service bytes table output ≡ none)
+  pub write-none : (write service bytes table output .number ≡ 0) ↔ (writeRefusal service bytes table output ≡ none)
   unfolding write given
   write-none = (
     unrefused (length text ∷ []) (writeRefusal service bytes table output),

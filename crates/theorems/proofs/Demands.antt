@@ -12,6 +12,8 @@ use Rattle.operations.specs.ValueList.{trimList}
 use Rattle.operations.proofs.Answered.{normalise-refused, normalises, form-short, read-refused, bytes-short, table-short}
 use Rattle.spelling_laws.specs.Bodies.{Spelled, wordsOf, listed, readList}
 use Rattle.spelling_laws.proofs.Laws.{passes-exactly, only-one, spell-read, read-spelling, spelling-unique}
+use Rattle.trimming_laws.proofs.Nesting.{listed-listOf, listOf-listed}
+use Rattle.trimming_laws.proofs.Tables.{listed-table}
 use Rattle.trimming_laws.proofs.Trimmed.{trimList-trimmed, list-only, trimList-again, same-trimmed}
 use Rattle.normal_form_laws.specs.Forms.{markOf, formCharacters}
 use Rattle.normal_form_laws.proofs.Accepted.{passes-accepted}
@@ -27,9 +29,9 @@ use Rattle.acceptance_laws.proofs.Acceptance.{allowed-exactly, list-read}
 use Rattle.acceptance_laws.proofs.Fakes.{x-allowed, empty-not-allowed}
 use Rattle.acceptance_laws.proofs.Same.{compared-same, compared-different, same-self, same-back, same-on, keep-same, keep-other}
 use Rattle.round_trip_laws.proofs.Placed.{one-placed}
-use Rattle.round_trip_laws.proofs.Theorems.{written-back, read-back, located-contents, located-placed, located-named, part-spelled}
+use Rattle.round_trip_laws.proofs.Theorems.{written-unchanged, written-back, read-back, located-contents, located-placed, located-named, part-spelled}
 use Rattle.theorems.specs.Demands.{Demands}
-use Rattle.theorems.proofs.Buffers.{judged-first, reads-exactly, reads, writes-exactly, writes, as-judged, rewrites}
+use Rattle.theorems.proofs.Buffers.{judged-first, reads-exactly, reads, writes-exactly, writes, as-judged, rewrites, write-none}
 use Rattle.operations.proofs.Cases.{first-refused, second-refused, write-refused}
 use Rattle.operations.proofs.Located.{locate-refused, locate-absent, locate-found, part-is, part-none}
 
@@ -135,4 +137,8 @@ demands =
       same-on = same-on;
       keeps = keep-same;
       kept-none = keep-other;
+      listed-listOf = listed-listOf;
+      listOf-listed = listOf-listed;
+      listed-table = listed-table;
+      written-unchanged = λ service bytes table output n. written-unchanged service bytes table output (write-none service bytes table output .0 n);
     }

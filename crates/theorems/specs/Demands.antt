@@ -27,9 +27,10 @@ use Rattle.operations.specs.Locate.{located, locate, partOffset, partLength, pa
 use Rattle.operations.specs.Read.{valueBytes, valueTable, readRefusal, read, readBytes, readTable}
 use Rattle.operations.specs.Write.{badList, unusableBytes, needsRelease, writtenText, writeRefusal, write, writeOutput}
 use Rattle.starred_cases.specs.Cases.{x}
-use Rattle.operations.specs.ValueList.{trimList}
+use Rattle.operations.specs.ValueList.{Item, listOf, listBytes, listTable, listedIn, segmentsListed, trimList}
 use Rattle.spelling_laws.specs.Bodies.{Passes, Spelled, Shaped, Releasable, wordsOf, readList}
 use Rattle.grammar_laws.specs.Grammar.{size, Group, Ordered, Agrees, Interchange}
+use Rattle.trimming_laws.specs.Kinds.{Kinds}
 use Rattle.trimming_laws.specs.Trimmed.{TrimmedList}
 use Rattle.trimming_laws.specs.Ends.{DifferByEnds}
 use Rattle.normal_form_laws.specs.Forms.{markOf, formCharacters, BodyPasses, listRead, Normalised, NormalForms, endToEnd, cutForms}
@@ -231,3 +232,15 @@ pub record Demands : Type 0 where
   pub keeps : (a b : List ℕ) → Same a b
       → ((keep a b ≡ ofFirst 0 (length a)) × (length a ≤ length b)) ⊎ ((keep a b ≡ ofSecond 0 (length b)) × (length b < length a))
   pub kept-none : (a b : List ℕ) → (Same a b → ⊥) → keep a b ≡ ofFirst 0 0
+  -- ---- 10. Value lists, which lose nothing
+
+  -- the kinds give back the segments that were listed, and the segments the kinds
+  pub listed-listOf : (list : SegmentList) → Shaped list → segmentsListed (listOf list) ≡ list
+  pub listOf-listed : (items : List Item) → Kinds items → listOf (segmentsListed items) ≡ items
+  -- the bytes and the table give back the values that were listed
+  pub listed-table : (items : List Item) → listedIn (listBytes items) (listTable items) ≡ items
+  -- a list that was written with nothing to trim is read as it was, value by value
+  pub written-unchanged : (service bytes table output : List ℕ) → write service bytes table output .number ≡ 0
+      → trimList (segmentsListed (listedIn bytes table)) ≡ segmentsListed (listedIn bytes table)
+      → let text = writtenText service bytes table in
+      (valueBytes text ≡ listBytes (listedIn bytes table)) × (valueTable text ≡ listTable (listedIn bytes table))
