@@ -7,10 +7,10 @@ use mathlib.Core.List.{List, map}
 use Rattle.lists.specs.Lists.{all}
 use Rattle.nesting.specs.Nesting.{shaped, every, byDepth}
 use Rattle.characters.specs.declared.Characters.{Characters}
-use Rattle.characters.specs.Characters.{hasRelease, isService}
+use Rattle.characters.specs.Characters.{hasRelease, isService, isBreak}
 use Rattle.values.specs.Tokens.{Token, Segment, ends, segments, tokens}
 use Rattle.values.specs.Values.{elementsOf, isFault, endsInside}
-use Rattle.values.specs.Spelling.{Bytes, SegmentList, spell}
+use Rattle.values.specs.Spelling.{Bytes, SegmentList, beginsBroken, spellApart}
 
 -- ---- by depth: a value is of depth 0, an element of depth 1, a segment of depth 2
 
@@ -57,9 +57,17 @@ Shaped list = all shapedSegment list ≡ true
 unfoldable pub Releasable : Characters → SegmentList → Type 0
 Releasable c list = hasRelease c ≡ false → every (all (λ b. not (isService c b))) 3 list ≡ true
 
--- "some list of segments is spelled by it, each service character inside a value being released and nothing else"
+-- "No segment of a list may begin with a break."
+unfoldable pub Unbroken : SegmentList → Type 0
+Unbroken list = all (λ segment. not (beginsBroken segment)) list ≡ true
+
+-- "some list of segments is spelled by it, each service character inside a value being released and nothing else"; after each segment
+-- there may stand any number of line breaks
 pub record Spelled (c : Characters) (body : Bytes) : Type 0 where
   pub list : SegmentList
   pub shaped : Shaped list
   pub releasable : Releasable c list
-  pub spelled : spell c list ≡ body
+  pub unbroken : Unbroken list
+  pub between : List Bytes
+  pub only-breaks : all (all isBreak) between ≡ true
+  pub spelled : spellApart c list between ≡ body
