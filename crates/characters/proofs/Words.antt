@@ -227,7 +227,17 @@ advice-is c = refl
 
 -- ---- line breaks
 
--- "Carriage returns and line feeds .. are to be passed over, however many": the bytes 13 and 10, up to the first other one
+-- "Carriage returns and line feeds": the bytes 13 and 10
+pub break-says : (b : ℕ) → Says (isBreak b) ((b ≡ 13) ⊎ (b ≡ 10))
+unfolding isBreak member
+break-says b =
+    says-as
+    (says-either (eqb b 13) (eqb b 10 || false) (says-eq b 13)
+    (says-either (eqb b 10) false (says-eq b 10) (λ h. h, λ h. h)))
+    (⊎-elim inl (⊎-elim inr (λ h. absurd (false≢true h))))
+    (⊎-elim inl (λ h. inr (inl h)))
+
+-- ".. are to be passed over, however many": up to the first other byte
 pub breaks-are : (more : List ℕ)
     → (breaks [] ≡ 0)
     × (breaks (13 ∷ more) ≡ suc (breaks more))

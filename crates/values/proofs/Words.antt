@@ -4,7 +4,7 @@ use mathlib.Core.Path.{_≡_, refl, sym, ap, _∙_}
 use mathlib.Core.Bool.{true, false, not, false≢true}
 use mathlib.Core.List.{List, [], _∷_, _++_, append-nil, append-assoc, nil≢cons, cons≢nil, head-eq-of-cons-eq, List·Memᴰ, Memᴰ·cast}
 use mathlib.Core.Option.{none, some}
-use mathlib.Core.Logic.{_⊎_, ⊎-elim}
+use mathlib.Core.Logic.{_⊎_, inl, inr, ⊎-elim}
 use native.Mathlib.Omega.{arith}
 use borrow.Author.Tests.{leb-true, le-leb, ne-eqb}
 use Rattle.lists.specs.Lists.{if_then_else_, member, isEmpty, through, at, lastOr, cut, eachLedBy, joined, gather, maybe, all}
@@ -14,11 +14,11 @@ use Rattle.characters.specs.declared.Characters.{Characters}
 use Rattle.characters.specs.declared.Role.{Role}
 use Rattle.characters.specs.declared.Role.the-variants.{Separator, Release, Plain}
 use Rattle.characters.specs.Characters.{isService, role, isBreak, breaks}
-use Rattle.characters.proofs.Words.{Usable, terminator-role, element-role, component-role, release-role, plain-role, service-role}
+use Rattle.characters.proofs.Words.{Usable, break-says, terminator-role, element-role, component-role, release-role, plain-role, service-role}
 use Rattle.values.specs.Tokens.{Token, byte, separator, fault, Reading, inside, released, passing, unreleased, reading, taken, tokensFrom, tokens, ends, placeOf, Segment, segments, start}
 use Rattle.values.specs.Values.{byteOf, bytesOf, isFault, endedBy, endsInside, finished}
 use Rattle.values.specs.Trimming.{valueAt}
-use Rattle.values.specs.Spelling.{Bytes, SegmentList, spellByte, spellValue, spellElement, spellSegment, spell}
+use Rattle.values.specs.Spelling.{Bytes, SegmentList, spellByte, spellValue, spellElement, spellSegment, spell, leadsBreak, beginsBroken, spellApart}
 use Rattle.values.proofs.Steps.{tokens-role}
 
 module _ (c : Characters) (u : Usable c) (place : ℕ) where
@@ -259,3 +259,31 @@ module _ (c : Characters) where
       → (spell c [] ≡ []) × (spell c (segment ∷ list) ≡ spellSegment c segment ++ spell c list)
   unfolding spell gather
   spelled-list segment list = (refl, refl)
+
+-- ---- line breaks
+
+-- the value begins with a carriage return or a line feed
+abbrev pub LeadsBreak : Bytes → Type 0
+LeadsBreak value = (rest : Bytes) × ((value ≡ 13 ∷ rest) ⊎ (value ≡ 10 ∷ rest))
+
+pub leads-says : (value : Bytes) → Says (leadsBreak value) (LeadsBreak value)
+unfolding leadsBreak at maybe
+leads-says [] = (λ h. absurd (false≢true h), λ h. ⊎-elim (λ e. absurd (nil≢cons e)) (λ e. absurd (nil≢cons e)) (h .1))
+leads-says (b ∷ bs) =
+    says-as (break-says b)
+    (⊎-elim (λ e. (bs, inl (ap (λ (x : ℕ). x ∷ bs) e))) (λ e. (bs, inr (ap (λ (x : ℕ). x ∷ bs) e))))
+    (λ h. ⊎-elim (λ e. inl (head-eq-of-cons-eq e)) (λ e. inr (head-eq-of-cons-eq e)) (h .1))
+
+-- "No segment of a list may begin with a break": it is its first value that does
+pub broken-says : (value : Bytes) (values : List Bytes) (elements : List (List Bytes))
+    → Says (beginsBroken ((value ∷ values) ∷ elements)) (LeadsBreak value)
+unfolding beginsBroken valueAt at maybe
+broken-says value values elements = leads-says value
+
+-- the list with what stands between its segments: after each segment its own
+pub spell-apart : (c : Characters) (segment : List (List Bytes)) (segments : SegmentList) (gap : Bytes) (between : List Bytes)
+    → (spellApart c [] (gap ∷ between) ≡ [])
+    × (spellApart c (segment ∷ segments) [] ≡ spellSegment c segment ++ spellApart c segments [])
+    × (spellApart c (segment ∷ segments) (gap ∷ between) ≡ spellSegment c segment ++ (gap ++ spellApart c segments between))
+unfolding spellApart
+spell-apart c segment segments gap between = (refl, refl, refl)
