@@ -4,6 +4,7 @@ use Prim.Native.Nat.{ℕ, zero, suc}
 use mathlib.Core.Path.{_≡_}
 use mathlib.Core.Bool.{Bool, true, false, not}
 use mathlib.Core.List.{List, map}
+use lib.ListN.{length}
 use Rattle.lists.specs.Lists.{all}
 use Rattle.nesting.specs.Nesting.{shaped, every, byDepth}
 use Rattle.characters.specs.declared.Characters.{Characters}
@@ -61,13 +62,19 @@ Releasable c list = hasRelease c ≡ false → every (all (λ b. not (isService 
 unfoldable pub Unbroken : SegmentList → Type 0
 Unbroken list = all (λ segment. not (beginsBroken segment)) list ≡ true
 
--- "some list of segments is spelled by it, each service character inside a value being released and nothing else"; after each segment
--- there may stand any number of line breaks
+-- for each segment of the list, the line breaks that stand after it, perhaps none: "Carriage returns and line feeds directly after a
+-- segment terminator .. however many"
+pub record Breaks (list : SegmentList) (between : List Bytes) : Type 0 where
+  pub each : length between ≡ length list
+  pub only-breaks : all (all isBreak) between ≡ true
+
+-- "some list of segments is spelled by it, each service character inside a value being released and nothing else", with line breaks after
+-- its segments
 pub record Spelled (c : Characters) (body : Bytes) : Type 0 where
   pub list : SegmentList
   pub shaped : Shaped list
   pub releasable : Releasable c list
   pub unbroken : Unbroken list
   pub between : List Bytes
-  pub only-breaks : all (all isBreak) between ≡ true
+  pub breaks : Breaks list between
   pub spelled : spellApart c list between ≡ body
