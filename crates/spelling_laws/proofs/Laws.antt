@@ -1,19 +1,21 @@
 -- The laws of reading and spelling under usable service characters (paper 01, "From bytes to values"). Assumes nothing.
 use Prim.Native.Nat.{ℕ, _+_}
-use mathlib.Core.Path.{_≡_, refl, sym, ap, _∙_, subst}
+use mathlib.Core.Path.{_≡_, refl, sym, ap, ap₂, _∙_, subst}
 use mathlib.Core.Bool.{Bool, true, false, not, _||_, true≢false}
-use mathlib.Core.List.{List, [], _∷_, _++_, map}
+use mathlib.Core.List.{List, [], _∷_, _++_, map, head-eq-of-cons-eq, tail-eq-of-cons-eq}
 use mathlib.Core.Logic.{_↔_}
+use native.Mathlib.Omega.{arith}
 use lib.ListN.{length}
-use Rattle.lists.specs.Lists.{all, those, gather}
+use Rattle.lists.specs.Lists.{all, those, at, maybe, gather}
+use Rattle.lists.proofs.Texts.{and-left, and-right}
 use Rattle.nesting.specs.Nesting.{every}
 use Rattle.nesting_laws.proofs.Shape.{every-true}
 use Rattle.characters.specs.declared.Characters.{Characters}
 use Rattle.characters.specs.Characters.{hasRelease, isService, usable, isBreak}
 use Rattle.values.specs.Tokens.{Token, tokens, ends}
 use Rattle.values.specs.Values.{endsInside}
-use Rattle.values.specs.Spelling.{Bytes, SegmentList, spellSegment, spell, leadsBreak, spellApart}
-use Rattle.spelling_laws.specs.Bodies.{listed, readList, Sound, Passes, Shaped, Releasable, Unbroken, Breaks, Spelled}
+use Rattle.values.specs.Spelling.{Bytes, SegmentList, spellSegment, spell, leadsBreak, beginsBroken, spellApart}
+use Rattle.spelling_laws.specs.Bodies.{listed, readList, Sound, Passes, shapedSegment, Shaped, Releasable, Unbroken, Breaks, Spelled}
 use Rattle.spelling_laws.proofs.Tokens.{placeless, unbrokenFrom, unbroken-inside, unbroken-placeless, ended-placeless, afterAll, spellable, spellTokens, sayable, Lexed, Standing, lexed-tokens, lexed-said, lexed-unbroken, lexed-apart, lexed-alone, lexed-start, passing-inside, spelled-placeless, said-placeless, said-faultless, spelled-lexed, spelled-leads, read-lexed}
 use Rattle.spelling_laws.proofs.Listing.{listed-placeless, tokensOf, listed-tokens, tokens-ended, all-tokens, apart-tokens, ended-tokens, unbroken-tokens, inside-placeless, tokens-listed}
 
@@ -32,6 +34,24 @@ pub apart-nothing : (c : Characters) (list : SegmentList) → spellApart c list 
 unfolding spellApart spell gather
 apart-nothing c [] = refl
 apart-nothing c (g ∷ list) = ap (λ (bs : Bytes). spellSegment c g ++ bs) (apart-nothing c list)
+
+-- what follows the same bytes
+append-cancel : (xs : Bytes) {ys zs : Bytes} → xs ++ ys ≡ xs ++ zs → ys ≡ zs
+append-cancel [] e = e
+append-cancel (x ∷ xs) e = append-cancel xs (tail-eq-of-cons-eq e)
+
+-- breaks and what follows them, which does not begin with one
+breaks-apart : (x y more other : Bytes) → all isBreak x ≡ true → all isBreak y ≡ true → leadsBreak more ≡ false → leadsBreak other ≡ false
+    → x ++ more ≡ y ++ other → (x ≡ y) × (more ≡ other)
+unfolding all leadsBreak at maybe
+breaks-apart [] [] more other h k l m e = (refl, e)
+breaks-apart [] (b ∷ y) more other h k l m e =
+    absurd (true≢false (sym (and-left (isBreak b) (all isBreak y) k) ∙ sym (ap leadsBreak e) ∙ l))
+breaks-apart (b ∷ x) [] more other h k l m e =
+    absurd (true≢false (sym (and-left (isBreak b) (all isBreak x) h) ∙ ap leadsBreak e ∙ m))
+breaks-apart (b ∷ x) (d ∷ y) more other h k l m e =
+    let parts = breaks-apart x y more other (and-right (isBreak b) (all isBreak x) h) (and-right (isBreak d) (all isBreak y) k) l m (tail-eq-of-cons-eq e) in
+    (ap₂ _∷_ (head-eq-of-cons-eq e) (parts .0), parts .1)
 
 module _ (c : Characters) (u : usable c ≡ true) where
   -- ---- reading what was spelled
@@ -179,6 +199,37 @@ module _ (c : Characters) (u : usable c ≡ true) where
 
   pub only-one : (body : Bytes) (x y : Spelled c body) → x .list ≡ y .list
   only-one body x y = sym (list-read 0 body x) ∙ list-read 0 body y
+
+  -- and so are the breaks after each segment
+  between-one : (list : SegmentList) → Shaped list → Releasable c list → Unbroken list → (x y : List Bytes) → Breaks list x → Breaks list y
+      → spellApart c list x ≡ spellApart c list y → x ≡ y
+  unfolding Shaped Releasable Unbroken all spellApart
+  between-one [] s r n [] [] k l e = refl
+  between-one [] s r n (gap ∷ x) y k l e = absurd (omega (arith, k .each))
+  between-one [] s r n [] (gap ∷ y) k l e = absurd (omega (arith, l .each))
+  between-one (g ∷ list) s r n [] y k l e = absurd (omega (arith, k .each))
+  between-one (g ∷ list) s r n (gap ∷ x) [] k l e = absurd (omega (arith, l .each))
+  between-one (g ∷ list) s r n (gap ∷ x) (hap ∷ y) k l e =
+      let s′ : Shaped list = and-right (shapedSegment g) (all shapedSegment list) s in
+      let r′ : Releasable c list = λ f. and-right (every (all (λ b. not (isService c b))) 2 g) (every (all (λ b. not (isService c b))) 3 list) (r f) in
+      let n′ : Unbroken list = and-right (not (beginsBroken g)) (all (λ segment. not (beginsBroken segment)) list) n in
+      let gaps = and-left (all isBreak gap) (all (all isBreak) x) (k .only-breaks) in
+      let haps = and-left (all isBreak hap) (all (all isBreak) y) (l .only-breaks) in
+      let xs = and-right (all isBreak gap) (all (all isBreak) x) (k .only-breaks) in
+      let ys = and-right (all isBreak hap) (all (all isBreak) y) (l .only-breaks) in
+      let parts = breaks-apart gap hap (spellApart c list x) (spellApart c list y) gaps haps (apart-leads 0 list s′ r′ n′ x xs) (apart-leads 0 list s′ r′ n′ y ys)
+      (append-cancel (spellSegment c g) e) in
+      ap₂ _∷_ (parts .0)
+      (between-one list s′ r′ n′ x y (record { each = omega (arith, k .each); only-breaks = xs }) (record { each = omega (arith, l .each); only-breaks = ys })
+      (parts .1))
+
+  pub only-breaks-one : (body : Bytes) (x y : Spelled c body) → x .between ≡ y .between
+  only-breaks-one body x y =
+      let same : x .list ≡ y .list = only-one body x y in
+      between-one (y .list) (y .shaped) (y .releasable) (y .unbroken) (x .between) (y .between)
+      (subst (λ (list : SegmentList). Breaks list (x .between)) same (x .breaks))
+      (y .breaks)
+      (ap (λ (list : SegmentList). spellApart c list (x .between)) (sym same) ∙ x .spelled ∙ sym (y .spelled))
 
   -- two different lists are never spelled alike
   pub spelling-unique : (a b : SegmentList) → Shaped a → Releasable c a → Unbroken a → Shaped b → Releasable c b → Unbroken b
