@@ -25,9 +25,9 @@ use Rattle.spelling_laws.proofs.Listing.{tokensOf, spelled-tokens}
 use Rattle.normal_form_laws.specs.Forms.{markOf, formCharacters, BodyPasses, listRead}
 use Rattle.refusals.proofs.Stages.{place-none, place-none-not}
 use Rattle.normal_form_laws.proofs.Trimmed.{contents-read, contents-trimmed}
-use Rattle.normal_form_laws.proofs.Openings.{advice-characters, advice-body, advice-good, interchange-passes, interchange-read, interchange-contents}
+use Rattle.normal_form_laws.proofs.Openings.{advice-characters, advice-good, interchange-body, interchange-passes, interchange-read, interchange-contents}
 use Rattle.normal_form_laws.proofs.Accepted.{Accepted, accepted-exactly, passes-accepted}
-use Rattle.normal_form_laws.proofs.Normal.{contents-shaped, normal-read, normal-passes}
+use Rattle.normal_form_laws.proofs.Normal.{contents-shaped, contents-unbroken, normal-usable, normal-releasable, normal-read, normal-passes}
 use Rattle.normal_form_laws.proofs.Tags.{tags-words, all-finished}
 use Rattle.normal_form_laws.proofs.Alike.{Alike, controls-by-contents, references-by-contents, counts-by-contents}
 use Rattle.normal_form_laws.proofs.LevelBytes.{level-bytes}
@@ -126,7 +126,7 @@ module _ (n t : List ℕ) (nowhere : Accepted n) (passes : BodyPasses n) (passes
   alike = contents-read n ∙ ap trimList (sym same) ∙ sym (contents-read t)
 
   -- 4 to 12 are not met in the other either
-  same-nowhere : tooLong t ≡ [] → unusableAdvice t ≡ [] → noOpening t ≡ [] → normalTooLong t ≡ [] → Accepted t
+  pub same-nowhere : tooLong t ≡ [] → unusableAdvice t ≡ [] → noOpening t ≡ [] → normalTooLong t ≡ [] → Accepted t
   unfolding brokenTags badControls differingReferences wrongCounts segmentsOf bodyTokens readList listed Passes
   same-nowhere short advice opening normal =
       let reading = passes-accepted t .1 passes′ in
@@ -161,7 +161,7 @@ module _ (s : List ℕ) (accepted : refusalOf s ≡ none) (c : Characters) (u : 
   nowhere = accepted-exactly n .0 (normal-accepted s accepted)
 
   pub respelled-contents : contents t ≡ contents s
-  respelled-contents = interchange-contents c (contents s) u (contents-shaped s accepted) r ∙ contents-trimmed s
+  respelled-contents = interchange-contents c (contents s) u (contents-shaped s accepted) r (contents-unbroken s accepted) ∙ contents-trimmed s
 
   respelled-opens : opens t ≡ true
   unfolding opens noOpening interchange normalForm normalCharacters sixBytes separates between upper lower digit all member
@@ -170,9 +170,12 @@ module _ (s : List ℕ) (accepted : refusalOf s ≡ none) (c : Characters) (u : 
       let form : Characters = formCharacters s in
       let opened : opens n ≡ true = place-none-not (opens n) (bodyStart n) .0 (nowhere .opening) in
       let shaped = contents-shaped s accepted in
-      rw (advice-characters c (spell c list), advice-body c (spell c list), ← spelled-tokens c list shaped)
+      let unbroken = contents-unbroken s accepted in
+      let body = interchange-body c list u shaped r unbroken in
+      let form-body = interchange-body form list (normal-usable s accepted) shaped (normal-releasable (markOf s) list) unbroken in
+      rw (advice-characters c (spell c list), body, ← spelled-tokens c list shaped)
       (same-opening (markOf s) c u (text "UNB") refl (tokensOf list)
-      (rw (advice-characters form (spell form list), advice-body form (spell form list), ← spelled-tokens form list shaped) at opened))
+      (rw (advice-characters form (spell form list), form-body, ← spelled-tokens form list shaped) at opened))
 
   -- its normal form is as long as that of s: the mark is one byte, and no spelling goes by it
   respelled-normal : length (normalForm t) ≡ length n
@@ -185,11 +188,12 @@ module _ (s : List ℕ) (accepted : refusalOf s ≡ none) (c : Characters) (u : 
   respelled-accepted h =
       let list : SegmentList = contents s in
       let shaped = contents-shaped s accepted in
+      let unbroken = contents-unbroken s accepted in
       let over : ℕ → Bool = ltb mostBytes in
       let short : over (length n) ≡ false = place-none (over (length n)) 0 .0 (nowhere .short) in
       accepted-exactly t .1
-      (same-nowhere n t nowhere (normal-passes s accepted) (interchange-passes c list u shaped r)
-      (interchange-read c list u shaped r ∙ sym (normal-read s accepted))
+      (same-nowhere n t nowhere (normal-passes s accepted) (interchange-passes c list u shaped r unbroken)
+      (interchange-read c list u shaped r unbroken ∙ sym (normal-read s accepted))
       (place-none (over (length t)) 0 .1 (le-ltb mostBytes (length t) h))
       (place-none (badAdvice t) 0 .1 (advice-good c (spell c list) u))
       (place-none-not (opens t) (bodyStart t) .1 respelled-opens)

@@ -513,6 +513,27 @@ module _ (c : Characters) (u : usable c ≡ true) where
       step true s k = s
       step false s k = stands-after true p t s k
 
+  -- past the breaks in front of them, tokens stand as they do inside a segment
+  pub lexed-inside : {after : Bool} {p : ℕ} {body : Bytes} {ts : List Token} → Lexed c after p body ts
+      → (front : Bytes) × (rest : Bytes) × (body ≡ front ++ rest) × Lexed c false (p + length front) rest ts
+  unfolding tokens
+  lexed-inside nothing = ([], [], refl, nothing)
+  lexed-inside (passed {p} {b} {rest} {ts} h l) =
+      let (front, more, e, k) = lexed-inside l in
+      (b ∷ front, more, ap (λ (bs : Bytes). b ∷ bs) e, subst (λ (n : ℕ). Lexed c false n more ts) (omega arith) k)
+  lexed-inside (next {after} {p} {t} {rest} {ts} s l) =
+      ([], spellToken c t ++ rest, refl, subst (λ (n : ℕ). Lexed c false n (spellToken c t ++ rest) (t ∷ ts)) (omega arith) (next (step after s) l))
+    where
+      step : (after : Bool) → Stands c after p t → Stands c false p t
+      step true s = record {
+        said = s .said;
+        placed = s .placed;
+        starts = refl;
+        reads = λ more.
+            sym (passing-inside true p (spellToken c t ++ more) (leads-token t (s .said) more ∙ s .starts)) ∙ s .reads more;
+      }
+      step false s = s
+
   -- directly after a terminator a break is passed over
   from-there : (p b : ℕ) (bs : Bytes) → Read true (p + 1) bs → Read false p (b ∷ bs) → (after : Bool) → Read after p (b ∷ bs)
   unfolding tokens tokensFrom leadsBreak at maybe
