@@ -8,3 +8,4 @@ pub mod Counts
 pub mod Judged
 pub mod Same
 pub mod Fakes
+pub mod Breaks

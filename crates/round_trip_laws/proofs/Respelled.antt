@@ -14,24 +14,20 @@ use Rattle.characters.specs.declared.Characters.{Characters}
 use Rattle.characters.specs.Characters.{between, upper, lower, digit, space, separates, hasRelease, serviceCharacters, isService, usable, sixBytes, adviceOf, spelledOut, bodyStart, badAdvice, opens}
 use Rattle.values.specs.Tokens.{Token, byte, separator, fault}
 use Rattle.values.specs.Spelling.{Bytes, SegmentList, spellByte, spellValue, spellElement, spellSegment, spell}
-use Rattle.control_elements.specs.Control.{referenceDiffers, countWrong}
-use Rattle.stages.specs.Contents.{bodyTokens, segmentsOf, contents, normalCharacters, interchange, normalForm}
-use Rattle.stages.specs.Places.{isOver, tooLong, unusableAdvice, noOpening, brokenTags, level, badControls, differingReferences, wrongCounts, normalTooLong, badControl}
+use Rattle.stages.specs.Contents.{contents, normalCharacters, interchange, normalForm}
+use Rattle.stages.specs.Places.{isOver, tooLong, unusableAdvice, noOpening, normalTooLong}
 use Rattle.stages.specs.Stages.{refusalOf}
-use Rattle.operations.specs.ValueList.{trimList}
-use Rattle.spelling_laws.specs.Bodies.{separatorOf, listed, readList, Passes, Releasable}
+use Rattle.spelling_laws.specs.Bodies.{separatorOf, Releasable}
 use Rattle.spelling_laws.proofs.Tokens.{spellToken}
 use Rattle.spelling_laws.proofs.Listing.{tokensOf, spelled-tokens}
-use Rattle.normal_form_laws.specs.Forms.{markOf, formCharacters, BodyPasses, listRead}
+use Rattle.normal_form_laws.specs.Forms.{markOf, formCharacters}
 use Rattle.refusals.proofs.Stages.{place-none, place-none-not}
-use Rattle.normal_form_laws.proofs.Trimmed.{contents-read, contents-trimmed}
+use Rattle.normal_form_laws.proofs.Trimmed.{contents-trimmed}
 use Rattle.normal_form_laws.proofs.Openings.{advice-characters, advice-good, interchange-body, interchange-passes, interchange-read, interchange-contents}
-use Rattle.normal_form_laws.proofs.Accepted.{Accepted, accepted-exactly, passes-accepted}
+use Rattle.normal_form_laws.proofs.Accepted.{Accepted, accepted-exactly}
 use Rattle.normal_form_laws.proofs.Normal.{contents-shaped, contents-unbroken, normal-usable, normal-releasable, normal-read, normal-passes}
-use Rattle.normal_form_laws.proofs.Tags.{tags-words, all-finished}
-use Rattle.normal_form_laws.proofs.Alike.{Alike, controls-by-contents, references-by-contents, counts-by-contents}
-use Rattle.normal_form_laws.proofs.LevelBytes.{level-bytes}
-use Rattle.normal_form_laws.proofs.Accepting.{same-level, same-named, same-starts, same-order, normal-accepted}
+use Rattle.normal_form_laws.proofs.Accepting.{normal-accepted}
+use Rattle.normal_form_laws.proofs.SameList.{same-nowhere}
 use Rattle.refusals.specs.Limits.{mostBytes}
 
 -- ---- the opening
@@ -117,36 +113,6 @@ module _ (mark : ℕ) (c : Characters) (u : usable c ≡ true) where
       subst (λ (first : Bytes). begins (x ∷ (w ++ c .element ∷ [])) (first ++ more) ≡ true) (sym bare)
       (and-both (eqb x b) (begins (w ++ c .element ∷ []) more) (eq-eqb x b (f .1))
       (same-opening w (and-right (not (separates x)) (all (λ x. not (separates x)) w) k) ts (f .2)))
-
--- ---- inputs that are read as the same list
-
-module _ (n t : List ℕ) (nowhere : Accepted n) (passes : BodyPasses n) (passes′ : BodyPasses t) (same : listRead t ≡ listRead n) where
-  alike : Alike (segmentsOf n) (segmentsOf t)
-  unfolding contents
-  alike = contents-read n ∙ ap trimList (sym same) ∙ sym (contents-read t)
-
-  -- 4 to 12 are not met in the other either
-  pub same-nowhere : tooLong t ≡ [] → unusableAdvice t ≡ [] → noOpening t ≡ [] → normalTooLong t ≡ [] → Accepted t
-  unfolding brokenTags badControls differingReferences wrongCounts segmentsOf bodyTokens readList listed Passes
-  same-nowhere short advice opening normal =
-      let reading = passes-accepted t .1 passes′ in
-      record {
-        short = short;
-        advice = advice;
-        opening = opening;
-        releases = reading .0;
-        ending = reading .1;
-        tags =
-            tags-words [] (segmentsOf t) (all-finished (bodyTokens t) passes′) .1
-            (rw same (tags-words [] (segmentsOf n) (all-finished (bodyTokens n) passes) .0 (nowhere .tags)));
-        level = same-named n t alike (nowhere .level);
-        bytes = level-bytes t .1 (rw (same, ← same-level n t alike) (level-bytes n .0 (nowhere .bytes)));
-        order = same-order n t alike (nowhere .order);
-        controls = same-starts n t alike badControl controls-by-contents (nowhere .controls);
-        references = same-starts n t alike referenceDiffers references-by-contents (nowhere .references);
-        counts = same-starts n t alike countWrong counts-by-contents (nowhere .counts);
-        normal = normal;
-      }
 
 -- ---- other service characters
 

@@ -1,0 +1,26 @@
+-- Request 2026-01, "Line breaks between segments": inputs that differ in nothing but the breaks that are passed over. Assumes nothing.
+use Prim.Native.Nat.{ℕ}
+use mathlib.Core.Path.{_≡_}
+use mathlib.Core.List.{List, _++_}
+use Rattle.lists.specs.Lists.{if_then_else_}
+use Rattle.characters.specs.Characters.{advised, adviceOf, charactersOf, body}
+use Rattle.values.specs.Spelling.{Bytes, spellApart}
+use Rattle.spelling_laws.specs.Bodies.{Spelled}
+use Rattle.normal_form_laws.specs.Forms.{listRead}
+use Rattle.acceptance_laws.specs.Allowed.{WellOpened}
+
+-- Both open as an interchange does, use the same service characters, and their bodies are spelled by the same list of segments. What stands
+-- after their advices and after their segments may be any breaks.
+pub record ButForBreaks (s t : List ℕ) : Type 0 where
+  pub first : WellOpened s
+  pub second : WellOpened t
+  pub characters : charactersOf s ≡ charactersOf t
+  pub first-spelled : Spelled (charactersOf s) (body s)
+  pub second-spelled : Spelled (charactersOf t) (body t)
+  pub same-list : first-spelled .list ≡ second-spelled .list
+
+-- An input with other breaks: `gap` after its advice, if it has one, and after each of its segments what stands in `between`.
+unfoldable pub respaced : List ℕ → Bytes → List Bytes → List ℕ
+respaced s gap between =
+    if advised s then adviceOf (charactersOf s) ++ (gap ++ spellApart (charactersOf s) (listRead s) between)
+    else spellApart (charactersOf s) (listRead s) between
