@@ -1,16 +1,21 @@
-//! A second program for the paper "What we will build and its rules": it
-//! judges one EDIFACT interchange, reads its values, writes interchanges,
-//! makes a normal form and says whether two interchanges are the same.
+//! A second program for the paper "What we will build and its rules" and for
+//! the change requests that have landed: it judges one EDIFACT interchange,
+//! reads its values, writes interchanges, makes a normal form and says whether
+//! two interchanges are the same.
 //!
 //! One module for one idea; the first comment of each module names the clause
-//! of the paper it follows. The operations stand in `operations`.
+//! of the paper, or the request, that it follows. The operations stand in
+//! `operations`.
 
+pub mod break_cases;
+pub mod break_checks;
 pub mod cases;
 pub mod contents;
 pub mod control;
 pub mod generator;
 pub mod judging;
 pub mod level;
+pub mod line_breaks;
 pub mod normal_form;
 pub mod operations;
 pub mod order;

@@ -1,8 +1,10 @@
 //! Properties that hold for every input, tried on generated ones.
 //!
 //! Paper, clauses "From bytes to values", "Normal form", "Operations" and the
-//! exit buffers of "Refusals by number".
+//! exit buffers of "Refusals by number". The checks of a change request stand in
+//! a module of its own.
 
+use crate::break_checks::check_breaks;
 use crate::generator::{any_input, any_valid, request, same_contents, Random};
 use crate::level::{holds, Level};
 use crate::normal_form::normal_characters;
@@ -34,6 +36,7 @@ fn ensure(holds: bool, what: &str, input: &[u8]) -> Check {
 pub fn run() -> Result<usize, String> {
     let mut tried = 0;
     check_levels()?;
+    check_breaks()?;
     if let Some(line) = crate::cases::check_cases().pop() {
         return Err(line);
     }
