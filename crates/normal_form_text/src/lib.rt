@@ -15,6 +15,8 @@ use emission_laws::Measure;
 use held_separators::nothing_held;
 use held_separators::put_separator;
 use held_separators::put_value_byte;
+use line_breaks::copy_unbroken;
+use line_breaks::unbroken_length;
 use scanner::Lexed;
 use scanner::lex;
 use storing::copy;
@@ -63,14 +65,25 @@ fn put_by_token(
     }
 }
 
+// Stores a text without its line breaks. A text that has none is copied.
+fn put_unbroken(buffer: &mut [u8], from: usize, s: &[u8], start: usize)
+{
+    let count = unbroken_length(s, start);
+    if count == s.len() - start {
+        copy(buffer, from, s, start);
+        return;
+    }
+    copy_unbroken(buffer, from, s, start, count);
+}
+
 // Stores the contents of the body that begins at `start`, from a place of the buffer on. A body that
-// is already spelled as in its normal form is copied.
+// is already spelled as in its normal form, but for line breaks, is copied without them.
 pub fn put_contents(buffer: &mut [u8], from: usize, s: &[u8], c: Characters, start: usize)
     requires { ⌜ (from + length (emitted (normalCharacters (c .mark)) nothing (tokensAt c (now s) start)) ≤ length (now buffer)) × (from ≤ 9) × (length (now s) ≤ mostBytes) × (faultless (tokensAt c (now s) start) ≡ true) ⌝ }
     ensures { λ _. ⌜ now (buffer .exit) ≡ sets (now (buffer .entry)) from (emitted (normalCharacters (c .mark)) nothing (tokensAt c (now (s .entry)) start)) ⌝ }
 {
     if is_verbatim(s, c, start) {
-        copy(buffer, from, s, start);
+        put_unbroken(buffer, from, s, start);
         return;
     }
     put_by_token(buffer, from, normal_characters(c.mark), s, c, start);

@@ -17,11 +17,14 @@ lexTaken (role.Separator rank) b place next = Byte b place next
 lexTaken role.Release b place next = Byte b place next
 lexTaken role.Plain b place next = Stray next
 
+-- a separator that is not released, with `next` the place after it; after a terminator the next segment starts past the breaks
+unfoldable pub lexSeparator : List ℕ → ℕ → ℕ → Lexed
+lexSeparator s next zero = Separator 0 (afterBreaks s next)
+lexSeparator s next (suc rank) = Separator (suc rank) next
+
 module _ (c : Characters) (s : List ℕ) (at : ℕ) where
-  -- after a terminator the next segment starts past the breaks
   unfoldable pub lexRole : Role → Lexed
-  lexRole (role.Separator zero) = Separator 0 (afterBreaks s (at + 1))
-  lexRole (role.Separator (suc rank)) = Separator (suc rank) (at + 1)
+  lexRole (role.Separator rank) = lexSeparator s (at + 1) rank
   lexRole role.Plain = Byte (getD s at 0) at (at + 1)
   lexRole role.Release =
       if ltb (at + 1) (length s)
