@@ -10,3 +10,4 @@ pub mod Same
 pub mod Fakes
 pub mod Breaks
 pub mod Respaced
+pub mod Breakless

@@ -2,36 +2,33 @@
 -- such a spacing of its segments. Assumes nothing.
 use Prim.Native.Nat.{ℕ, suc, _≤_}
 use mathlib.Core.Path.{_≡_, refl, sym, ap, ap₂, subst, _∙_}
-use mathlib.Core.Bool.{Bool, true, false, _||_, true≢false, false≢true}
+use mathlib.Core.Bool.{Bool, true, false, true≢false}
 use mathlib.Core.List.{List, [], _∷_, _++_, map, append-assoc, append-nil, nil≢cons}
 use mathlib.Core.Option.{none}
 use mathlib.Core.Logic.{inl, inr}
 use native.Mathlib.Omega.{arith}
 use lib.Dec.{eqb}
-use lib.ListN.{length, drop}
+use lib.ListN.{length}
 use borrow.Author.Tests.{eqb-true, eq-eqb, ne-eqb}
-use Rattle.lists.specs.Lists.{if_then_else_, text, begins, member, isEmpty, all, at, maybe, gather, joined}
+use Rattle.lists.specs.Lists.{if_then_else_, text, begins, member, isEmpty, all, at, maybe, joined}
 use Rattle.lists.proofs.Texts.{and-left, and-right, and-both, or-none-left, or-none-right, all-append, if-true, if-false}
 use Rattle.lists.proofs.Tests.{says-begins}
 use Rattle.characters.specs.declared.Characters.{Characters}
-use Rattle.characters.specs.Characters.{usable, sixBytes, isBreak, breaks, afterBreaks, advised, adviceOf, plusCharacters, controlCharacters, charactersOf, bodyStart, body, opens}
+use Rattle.characters.specs.Characters.{usable, sixBytes, isBreak, breaks, advised, adviceOf, plusCharacters, controlCharacters, charactersOf, bodyStart, body, opens}
 use Rattle.characters.proofs.Words.{SeparatorByte, usable-says}
 use Rattle.refusals.proofs.Stages.{place-none-not}
 use Rattle.values.specs.Spelling.{Bytes, SegmentList, spellElement, spellSegment, leadsBreak, spellApart}
 use Rattle.stages.specs.Places.{noOpening}
 use Rattle.stages.specs.Stages.{refusalOf}
-use Rattle.spelling_laws.specs.Bodies.{Passes, Shaped, Releasable, Unbroken, Breaks, Spelled}
+use Rattle.spelling_laws.specs.Bodies.{Shaped, Releasable, Unbroken, Breaks}
 use Rattle.spelling_laws.proofs.Laws.{apart-leads, spell-read, read-shaped, read-releasable, read-unbroken}
-use Rattle.normal_form_laws.specs.Forms.{BodyPasses, listRead}
+use Rattle.normal_form_laws.specs.Forms.{listRead}
 use Rattle.normal_form_laws.proofs.Openings.{advice-advised, advice-characters, apart-body}
 use Rattle.normal_form_laws.proofs.Normal.{accepted-usable, accepted-passes, accepted-leads}
-use Rattle.refusals.specs.Limits.{mostBytes}
 use Rattle.acceptance_laws.specs.Allowed.{WellOpened, advice, plus, control, Allowed}
-use Rattle.acceptance_laws.specs.Same.{Same}
 use Rattle.acceptance_laws.specs.Breaks.{ButForBreaks, BreaksFor, respaced}
 use Rattle.acceptance_laws.proofs.Opening.{opening-clear}
 use Rattle.acceptance_laws.proofs.Acceptance.{allowed-exactly, list-read}
-use Rattle.acceptance_laws.proofs.Breaks.{breaks-same}
 
 -- ---- what a body begins with, whatever stands after its segments
 
