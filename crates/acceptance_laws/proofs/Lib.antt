@@ -9,3 +9,5 @@ pub mod Judged
 pub mod Same
 pub mod Fakes
 pub mod Breaks
+pub mod Respaced
+pub mod Breakless

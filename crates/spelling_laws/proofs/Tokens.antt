@@ -6,9 +6,9 @@ use mathlib.Core.Bool.{Bool, true, false, not, _&&_, _||_, false≢true, true≢
 use mathlib.Core.List.{List, [], _∷_, _++_, map, append-assoc, append-nil, nil≢cons, tail-eq-of-cons-eq}
 use native.Mathlib.Omega.{arith}
 use lib.Dec.{leb}
-use borrow.Author.Tests.{le-leb, leb-true, not-true, not-false}
+use borrow.Author.Tests.{le-leb, leb-true, not-true}
 use lib.ListN.{length, getD, drop, length-append}
-use Rattle.lists.specs.Lists.{if_then_else_, at, maybe, all, those, gather}
+use Rattle.lists.specs.Lists.{if_then_else_, at, maybe, all, those}
 use Rattle.lists.proofs.Texts.{and-left, and-right, and-both, if-true, if-false}
 use Rattle.characters.specs.declared.Characters.{Characters}
 use Rattle.characters.specs.declared.Role.{Role}

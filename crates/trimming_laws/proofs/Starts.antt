@@ -2,7 +2,7 @@
 -- Assumes nothing.
 use mathlib.Core.Path.{_≡_, refl, sym, ap, ap₂, fun-ext, _∙_}
 use mathlib.Core.Bool.{Bool, true, not, _&&_, false≢true, and-true}
-use mathlib.Core.List.{List, [], _∷_, _++_, map}
+use mathlib.Core.List.{List, [], _∷_, map}
 use Rattle.lists.specs.Lists.{isEmpty, all, at, maybe, gather, trimEnd}
 use Rattle.lists.proofs.Texts.{and-left, and-right, all-append, all-mapped}
 use Rattle.values.specs.Trimming.{trimElement, trimSegment, valueAt}

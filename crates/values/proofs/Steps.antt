@@ -1,6 +1,6 @@
 -- Reading from a place on, token by token: what stands at a place, and where reading goes on. Assumes nothing.
 use Prim.Native.Nat.{ℕ, zero, suc, _+_, _≤_, _<_}
-use mathlib.Core.Path.{_≡_, refl, sym, ap, ap₂, _∙_}
+use mathlib.Core.Path.{_≡_, refl, ap, _∙_}
 use mathlib.Core.List.{List, [], _∷_}
 use native.Mathlib.Omega.{arith}
 use lib.ListN.{length, getD, drop, drop-of-length-le}
@@ -13,7 +13,7 @@ use Rattle.characters.specs.declared.Characters.{Characters}
 use Rattle.characters.specs.declared.Role.{Role}
 use Rattle.characters.specs.declared.Role.the-variants.{Separator, Release, Plain}
 use Rattle.characters.specs.Characters.{role, isBreak, breaks, afterBreaks}
-use Rattle.values.specs.Tokens.{Token, byte, separator, fault, Reading, inside, released, passing, unreleased, reading, taken, tokensFrom, tokens, tokensAt, ends}
+use Rattle.values.specs.Tokens.{Token, byte, separator, fault, inside, released, passing, unreleased, reading, taken, tokensFrom, tokens, tokensAt, ends}
 
 -- a separator ends what those of its own rank and of every greater one end
 pub ends-yes : (rank place : ℕ) {k : ℕ} → k ≤ rank → ends rank (separator k place) ≡ true

@@ -7,15 +7,15 @@ use mathlib.Core.Option.{none, some}
 use mathlib.Core.Logic.{_⊎_, inl, inr, ⊎-elim}
 use native.Mathlib.Omega.{arith}
 use borrow.Author.Tests.{leb-true, le-leb, ne-eqb}
-use Rattle.lists.specs.Lists.{if_then_else_, member, isEmpty, through, at, lastOr, cut, eachLedBy, joined, gather, maybe, all}
+use Rattle.lists.specs.Lists.{member, isEmpty, through, at, lastOr, cut, eachLedBy, joined, gather, maybe, all}
 use Rattle.lists.proofs.Pieces.{cut-append, cut-none, cut-first}
 use Rattle.lists.proofs.Tests.{Says, says-both, says-not, says-as, says-all, last-stands, last-is, never-empty}
 use Rattle.characters.specs.declared.Characters.{Characters}
 use Rattle.characters.specs.declared.Role.{Role}
 use Rattle.characters.specs.declared.Role.the-variants.{Separator, Release, Plain}
-use Rattle.characters.specs.Characters.{isService, role, isBreak, breaks}
+use Rattle.characters.specs.Characters.{isService, role, isBreak}
 use Rattle.characters.proofs.Words.{Usable, break-says, terminator-role, element-role, component-role, release-role, plain-role, service-role}
-use Rattle.values.specs.Tokens.{Token, byte, separator, fault, Reading, inside, released, passing, unreleased, reading, taken, tokensFrom, tokens, ends, placeOf, Segment, segments, start}
+use Rattle.values.specs.Tokens.{Token, byte, separator, fault, inside, released, passing, unreleased, reading, taken, tokensFrom, tokens, ends, placeOf, Segment, segments, start}
 use Rattle.values.specs.Values.{byteOf, bytesOf, isFault, endedBy, endsInside, finished}
 use Rattle.values.specs.Trimming.{valueAt}
 use Rattle.values.specs.Spelling.{Bytes, SegmentList, spellByte, spellValue, spellElement, spellSegment, spell, leadsBreak, beginsBroken, spellApart}

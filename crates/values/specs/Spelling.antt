@@ -4,7 +4,6 @@ use Prim.Native.Nat.{ℕ}
 use mathlib.Core.Bool.{Bool, true, false}
 use mathlib.Core.List.{List, [], _∷_, _++_, map}
 use Rattle.characters.specs.declared.Characters.{Characters}
-use mathlib.Core.Option.{Option, none, some}
 use Rattle.characters.specs.Characters.{isService, isBreak}
 use Rattle.lists.specs.Lists.{if_then_else_, at, maybe, gather, joined}
 use Rattle.values.specs.Trimming.{valueAt}
