@@ -1,5 +1,5 @@
 -- A text without its control bytes, byte by byte: how long it is, and how it is stored. Assumes nothing.
-use Prim.Native.Nat.{ℕ, zero, suc, _+_, _≤_, _<_}
+use Prim.Native.Nat.{ℕ, zero, suc, _+_, _-_, _≤_, _<_}
 use mathlib.Core.Path.{_≡_, refl, sym, ap, _∙_}
 use mathlib.Core.Bool.{Bool, true, false}
 use mathlib.Core.List.{List, [], _∷_}
@@ -7,7 +7,7 @@ use native.Mathlib.Decide.{decLe}
 use native.Mathlib.Nat.{add-zero, lt-of-not-le}
 use native.Mathlib.Omega.{arith}
 use lib.Dec.{leb}
-use lib.ListN.{length, set, getD, drop, drop-of-length-le}
+use lib.ListN.{length, set, getD, drop, length-drop, drop-of-length-le}
 use lib.Seq.{sets, set-set}
 use mir.Val.{boolByte}
 use Rattle.lists.specs.Lists.{if_then_else_, those}
@@ -25,11 +25,29 @@ unbroken-most (b ∷ bs) = step (leb 32 b) (unbroken-most bs)
     step true h = omega arith
     step false h = omega arith
 
+-- where it is as long, it is the text
+pub unbroken-whole : (bytes : List ℕ) → length (unbroken bytes) ≡ length bytes → unbroken bytes ≡ bytes
+unfolding unbroken those
+unbroken-whole [] e = refl
+unbroken-whole (b ∷ bs) e = step (leb 32 b) (unbroken-whole bs) e
+  where
+    step : (t : Bool) → (length (unbroken bs) ≡ length bs → unbroken bs ≡ bs)
+        → length (if t then b ∷ unbroken bs else unbroken bs) ≡ length (b ∷ bs) → (if t then b ∷ unbroken bs else unbroken bs) ≡ b ∷ bs
+    step true ih h = ap (λ (l : List ℕ). b ∷ l) (ih (omega arith))
+    step false ih h = absurd (omega (arith, unbroken-most bs))
+
 module _ (s : List ℕ) (at : ℕ) where
   -- after the last byte nothing is left
-  pub unbroken-end : length s ≤ at → length (unbroken (drop at s)) ≡ 0
+  pub unbroken-none : length s ≤ at → unbroken (drop at s) ≡ []
   unfolding unbroken those
-  unbroken-end h = ap (λ (l : List ℕ). length (unbroken l)) (drop-of-length-le s h)
+  unbroken-none h = ap unbroken (drop-of-length-le s h)
+
+  pub unbroken-end : length s ≤ at → length (unbroken (drop at s)) ≡ 0
+  unbroken-end h = ap length (unbroken-none h)
+
+  -- as many as there are bytes
+  pub unbroken-all : {count : ℕ} → count ≡ length (unbroken (drop at s)) → count ≡ length s - at → unbroken (drop at s) ≡ drop at s
+  unbroken-all e d = unbroken-whole (drop at s) (sym e ∙ d ∙ sym (length-drop at s))
 
   -- where something is left, a byte stands
   pub unbroken-inside : 0 < length (unbroken (drop at s)) → at < length s

@@ -6,6 +6,7 @@ ghost use lib.ListN.{length, drop};
 ghost use lib.Seq.{sets};
 ghost use Rattle.characters.specs.Characters.{isBreak, afterBreaks};
 ghost use Rattle.line_breaks.specs.Unbroken.{unbroken, PartEnd};
+use storing::copy;
 
 // A carriage return or a line feed.
 pub fn is_break(b: u8) -> bool
@@ -71,7 +72,7 @@ pub fn unbroken_length(s: &[u8], start: usize) -> usize
 // Stores the text from a place on without its breaks, of which `count` bytes are left, from a place of
 // the buffer on. A break is stored too, and the byte after it takes its place: the loop ends with the
 // last byte that is none.
-pub fn copy_unbroken(buffer: &mut [u8], from: usize, s: &[u8], start: usize, count: usize)
+fn copy_unbroken(buffer: &mut [u8], from: usize, s: &[u8], start: usize, count: usize)
     requires { ⌜ (count ≡ length (unbroken (drop start (now s)))) × (from + count ≤ length (now buffer)) ⌝ }
     ensures { λ _. ⌜ now (buffer .exit) ≡ sets (now (buffer .entry)) from (unbroken (drop start (now (s .entry)))) ⌝ }
 {
@@ -84,4 +85,20 @@ pub fn copy_unbroken(buffer: &mut [u8], from: usize, s: &[u8], start: usize, cou
         to += (32 <= b) as usize;
         at += 1;
     }
+}
+
+// The same of any text; one that has no breaks is copied.
+pub fn put_unbroken(buffer: &mut [u8], from: usize, s: &[u8], start: usize)
+    requires { ⌜ from + length (unbroken (drop start (now s))) ≤ length (now buffer) ⌝ }
+    ensures { λ _. ⌜ now (buffer .exit) ≡ sets (now (buffer .entry)) from (unbroken (drop start (now (s .entry)))) ⌝ }
+{
+    if s.len() <= start {
+        return;
+    }
+    let count = unbroken_length(s, start);
+    if count == s.len() - start {
+        copy(buffer, from, s, start);
+        return;
+    }
+    copy_unbroken(buffer, from, s, start, count);
 }

@@ -5,7 +5,7 @@ ghost use lib.ListN.{drop};
 ghost use Rattle.refusals.specs.Refusals.{outcome};
 ghost use Rattle.values.specs.Tokens.{tokensAt};
 ghost use Rattle.stage_walks.specs.Walks.{leveled};
-ghost use Rattle.stage_bytes.specs.Orderly.{releases, mayBreak, orderly, unbroken, openingOrderly, allOrderly};
+ghost use Rattle.stage_bytes.specs.Orderly.{releases, mayBreak, orderly, serviceApart, openingOrderly, allOrderly};
 use characters::Characters;
 use level_classes::all_in_level;
 use level_classes::is_in_level;
@@ -52,13 +52,12 @@ fn is_orderly(
     (is_in_level(level, b) & !is_break(b)) | (separates | breaks)
 }
 
-// No service character is a line break, and the terminator is not the byte 0, which stands for what is
-// before the first byte.
-fn has_no_breaks(c: Characters) -> bool
-    ensures { λ r. ⌜ r ≡ unbroken c ⌝ }
+// Neither a line break nor the byte 0, which stands for what is before the first byte, is a service
+// character.
+fn service_apart(c: Characters) -> bool
+    ensures { λ r. ⌜ r ≡ serviceApart c ⌝ }
 {
-    let separators = is_break(c.element) | is_break(c.component);
-    !(is_break(c.release) | (is_break(c.terminator) | (separators | (c.terminator == 0))))
+    !(is_service(c, 13) | (is_service(c, 10) | is_service(c, 0)))
 }
 
 // The first four bytes are orderly.
@@ -80,7 +79,7 @@ fn all_orderly(s: &[u8], c: Characters, level: u8, start: usize) -> bool
     if s.len() - start < 4 {
         return false;
     }
-    let mut found = has_no_breaks(c)
+    let mut found = service_apart(c)
         & opening_is_orderly(c, level, s[start], s[start + 1], s[start + 2], s[start + 3]);
     let last = s.len() - 4;
     let mut at = start;

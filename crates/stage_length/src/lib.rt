@@ -7,7 +7,7 @@ ghost use lib.ListN.{length};
 ghost use Rattle.stages.specs.Contents.{normalCharacters};
 ghost use Rattle.values.specs.Tokens.{tokensAt};
 ghost use Rattle.emission_laws.specs.Emission.{nothing, emitted};
-ghost use Rattle.verbatim.specs.Verbatim.{faultless};
+ghost use Rattle.verbatim.specs.Verbatim.{faultless, visible};
 ghost use Rattle.refusals.specs.Limits.{mostBytes};
 use characters::Characters;
 use emission_laws::Measure;
@@ -58,7 +58,7 @@ fn measured_by_token(s: &[u8], c: Characters, start: usize, n: Characters) -> us
 // How long the contents of the body that begins at `start` are. A body that is already spelled as in
 // its normal form, but for line breaks, has the length that it has without them.
 pub fn measured(s: &[u8], c: Characters, start: usize) -> usize
-    requires { ⌜ (length (now s) ≤ mostBytes) × (start ≤ length (now s)) × (faultless (tokensAt c (now s) start) ≡ true) ⌝ }
+    requires { ⌜ (length (now s) ≤ mostBytes) × (faultless (tokensAt c (now s) start) ≡ true) × (visible (tokensAt c (now s) start) ≡ true) ⌝ }
     ensures { λ r. ⌜ r ≡ length (emitted (normalCharacters (c .mark)) nothing (tokensAt c (now (s .entry)) start)) ⌝ }
 {
     if is_verbatim(s, c, start) {

@@ -53,7 +53,7 @@ fn main() {
     report(&measured(&interchanges, rounds, &mut ours, &mut theirs), bytes);
     report_passes(&interchanges[..INTERCHANGES / 4], rounds);
     pairs::report(&interchanges[..INTERCHANGES / 4], rounds);
-    lines::report(&interchanges[..INTERCHANGES / 4], rounds, &mut ours, &mut theirs);
+    lines::report(&mut random, rounds, &mut ours, &mut theirs);
 }
 
 /// How many are accepted, after both have answered the same on all, with the
