@@ -36,31 +36,30 @@ module _ (c : Characters) (level : ℕ) where
   taken-inside Release b from place ts h e = passes b from place ts h e
   taken-inside Plain b from place ts h e = e
 
-  from-inside : (state : Reading) (place : ℕ) (bs : List ℕ) → all (inLevel level) bs ≡ true
-      → leveled level (tokensFrom c state place bs) ≡ none
+  from-inside : (bs : List ℕ) (state : Reading) (place : ℕ) → all (inLevel level) bs ≡ true → leveled level (tokensFrom c state place bs) ≡ none
   unfolding leveled tokensFrom all
-  from-inside inside place [] h = refl
-  from-inside (released from) place [] h = refl
-  from-inside passing place [] h = refl
-  from-inside inside place (b ∷ bs) h =
+  from-inside [] inside place h = refl
+  from-inside [] (released from) place h = refl
+  from-inside [] passing place h = refl
+  from-inside (b ∷ bs) inside place h =
       unreleased-inside (role c b) b place _
       (and-left (inLevel level b) (all (inLevel level) bs) h)
-      (from-inside (reading (role c b) place) (place + 1) bs (and-right (inLevel level b) (all (inLevel level) bs) h))
-  from-inside (released from) place (b ∷ bs) h =
+      (from-inside bs (reading (role c b) place) (place + 1) (and-right (inLevel level b) (all (inLevel level) bs) h))
+  from-inside (b ∷ bs) (released from) place h =
       taken-inside (role c b) b from place _
       (and-left (inLevel level b) (all (inLevel level) bs) h)
-      (from-inside inside (place + 1) bs (and-right (inLevel level b) (all (inLevel level) bs) h))
-  from-inside passing place (b ∷ bs) h =
-      step (isBreak b)
-      (from-inside passing (place + 1) bs (and-right (inLevel level b) (all (inLevel level) bs) h))
+      (from-inside bs inside (place + 1) (and-right (inLevel level b) (all (inLevel level) bs) h))
+  from-inside (b ∷ bs) passing place h =
+      step (isBreak b) (tokensFrom c passing (place + 1) bs) (unreleased (role c b) b place (tokensFrom c (reading (role c b) place) (place + 1) bs))
+      (from-inside bs passing (place + 1) (and-right (inLevel level b) (all (inLevel level) bs) h))
       (unreleased-inside (role c b) b place (tokensFrom c (reading (role c b) place) (place + 1) bs)
       (and-left (inLevel level b) (all (inLevel level) bs) h)
-      (from-inside (reading (role c b) place) (place + 1) bs (and-right (inLevel level b) (all (inLevel level) bs) h)))
+      (from-inside bs (reading (role c b) place) (place + 1) (and-right (inLevel level b) (all (inLevel level) bs) h)))
     where
-      step : (t : Bool) {ts us : List Token} → leveled level ts ≡ none → leveled level us ≡ none → leveled level (if t then ts else us) ≡ none
-      step true p q = p
-      step false p q = q
+      step : (t : Bool) (ts us : List Token) → leveled level ts ≡ none → leveled level us ≡ none → leveled level (if t then ts else us) ≡ none
+      step true ts us p q = p
+      step false ts us p q = q
 
   pub all-leveled : (s : List ℕ) (start : ℕ) → all (inLevel level) (drop start s) ≡ true → leveled level (tokensAt c s start) ≡ none
   unfolding tokensAt tokens
-  all-leveled s start h = from-inside inside start (drop start s) h
+  all-leveled s start h = from-inside (drop start s) inside start h

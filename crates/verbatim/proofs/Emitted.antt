@@ -35,13 +35,13 @@ Printed c = (b : ℕ) → isService c b ≡ true → leb 32 b ≡ true
 
 -- none of a normal form is
 normal-printed : (mark : ℕ) → Printed (normalCharacters mark)
-unfolding isService serviceCharacters hasRelease all
+unfolding isService serviceCharacters hasRelease all normalCharacters sixBytes
 normal-printed mark b h =
     let service = serviceCharacters (normalCharacters mark) in
     says-all (leb 32) (λ x. (λ e. e, λ e. e)) service .0 refl b (says-member b service .0 h)
 
 normal-release : (mark : ℕ) → isService (normalCharacters mark) (normalCharacters mark .release) ≡ true
-unfolding isService serviceCharacters hasRelease member
+unfolding isService serviceCharacters hasRelease member normalCharacters sixBytes
 normal-release mark = refl
 
 module _ (b : ℕ) (bs : List ℕ) where
