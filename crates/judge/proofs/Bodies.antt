@@ -53,7 +53,7 @@ level-visible : (level b : ℕ) → (level ≡ 0 → ⊥) → inLevel level b �
 unfolding inLevel
 level-visible level b n h =
     elim (decLe 32 b) [
-        yes k ↦ le-leb 32 b k
+      | yes k ↦ le-leb 32 b k
       | no k ↦ absurd (n (omega (arith, leb-true level (classOf b) h, low-classless b (lt-of-not-le k))))
     ]
 

@@ -52,20 +52,20 @@ module _ (c : Characters) where
           && (not (eqb (c .release) 32)
           && not (eqb (c .release) (c .terminator) || (eqb (c .release) (c .element) || eqb (c .release) (c .component)))))
           ≡ isRelease
-              (if eqb b (c .terminator) then Separator 0
-              else if eqb b (c .element) then Separator 1
-              else if eqb b (c .component) then Separator 2
-              else if not (eqb (c .release) 32) && f then Release else Plain)
+          (if eqb b (c .terminator) then Separator 0
+          else if eqb b (c .element) then Separator 1
+          else if eqb b (c .component) then Separator 2
+          else if not (eqb (c .release) 32) && f then Release else Plain)
       step false e = no-release (eqb b (c .terminator)) (eqb b (c .element)) (eqb b (c .component)) (not (eqb (c .release) 32))
       step true e =
           subst
           (λ (n : ℕ). (not (eqb (c .release) 32)
-              && not (eqb (c .release) (c .terminator) || (eqb (c .release) (c .element) || eqb (c .release) (c .component))))
-              ≡ isRelease
-                  (if eqb n (c .terminator) then Separator 0
-                  else if eqb n (c .element) then Separator 1
-                  else if eqb n (c .component) then Separator 2
-                  else if not (eqb (c .release) 32) && true then Release else Plain))
+          && not (eqb (c .release) (c .terminator) || (eqb (c .release) (c .element) || eqb (c .release) (c .component))))
+          ≡ isRelease
+          (if eqb n (c .terminator) then Separator 0
+          else if eqb n (c .element) then Separator 1
+          else if eqb n (c .component) then Separator 2
+          else if not (eqb (c .release) 32) && true then Release else Plain))
           (sym (eqb-true b (c .release) e))
           (the-release (eqb (c .release) (c .terminator)) (eqb (c .release) (c .element)) (eqb (c .release) (c .component)) (not (eqb (c .release) 32)))
 

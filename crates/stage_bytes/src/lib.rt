@@ -84,8 +84,7 @@ fn all_orderly(s: &[u8], c: Characters, level: u8, start: usize) -> bool
     let last = s.len() - 4;
     let mut at = start;
     while at < last {
-        found = found
-            & is_orderly(c, level, s[at], s[at + 1], s[at + 2], s[at + 3], s[at + 4]);
+        found = found & is_orderly(c, level, s[at], s[at + 1], s[at + 2], s[at + 3], s[at + 4]);
         at += 1;
     }
     found
