@@ -7,7 +7,7 @@
 #   `crate/edit`                         an edit of its must-fail/
 #   `docs/..`, `crates/..`, [..](..)     a file or a folder; * stands for any
 #   D12                                  an entry of docs/DECISIONS.md
-# In the tables of docs/PAPER-01.md all but the first column hold names, each in one of these forms or
+# In the tables of docs/PAPER-*.md all but the first column hold names, each in one of these forms or
 # the name of a crate alone. The layers of README.md name every crate of crates.txt.
 # Run at the root. Says a line for each name that does not exist, and fails where there is one.
 use strict;
@@ -19,7 +19,7 @@ my %crate = map { $_ => 1 } map { /^(\w+):/ } lines('crates.txt');
 my %entry = map { $_ => 1 } map { /^(\d+)\. \*\*/ } lines('docs/DECISIONS.md');
 
 check_names($_) for 'README.md', sort grep { $_ ne 'docs/FUNCTIONS.md' } glob 'docs/*.md';
-check_map('docs/PAPER-01.md');
+check_map($_) for glob 'docs/PAPER-*.md';
 check_layers('README.md');
 exit($faults ? 1 : 0);
 

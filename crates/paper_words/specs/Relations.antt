@@ -53,6 +53,16 @@ NoAdvice s = (rest : List ℕ) → s ≡ 85 ∷ 78 ∷ 65 ∷ rest → ⊥
 abbrev pub BeginsUnb : List ℕ → ℕ → Type 0
 BeginsUnb s b = (rest : List ℕ) × (s ≡ 85 ∷ 78 ∷ 66 ∷ b ∷ rest)
 
+-- ---- line breaks (request 2026-01)
+
+-- "Carriage returns and line feeds", any number of them
+abbrev pub OnlyBreaks : List ℕ → Type 0
+OnlyBreaks gap = (b : ℕ) → List·Memᴰ b gap → (b ≡ 13) ⊎ (b ≡ 10)
+
+-- the bytes begin with one of them
+abbrev pub BeginsBreak : List ℕ → Type 0
+BeginsBreak bytes = (rest : List ℕ) × ((bytes ≡ 13 ∷ rest) ⊎ (bytes ≡ 10 ∷ rest))
+
 -- ---- "From bytes to values"
 
 -- no terminator is among the tokens
@@ -131,10 +141,14 @@ abbrev pub BadTable : List ℕ → Type 0
 BadTable table =
     (96000 < length table) ⊎ (length table % 3 ≡ 0 → ⊥) ⊎ ((kind : ℕ) × (at table 0 ≡ some kind) × (kind ≡ 0 → ⊥))
 
--- "kind above 2; start plus length above the number of bytes"
+-- "kind above 2; start plus length above the number of bytes"; "No segment of a list may begin with a break": a value of kind 0 does
 abbrev pub BadRecord : List ℕ → List ℕ → ℕ → Type 0
 BadRecord bytes table n =
-    (kind : ℕ) × (start : ℕ) × (size : ℕ) × Record table n kind start size × ((2 < kind) ⊎ (length bytes < start + size))
+    (kind : ℕ)
+    × (start : ℕ)
+    × (size : ℕ)
+    × Record table n kind start size
+    × ((2 < kind) ⊎ (length bytes < start + size) ⊎ ((kind ≡ 0) × BeginsBreak (take size (drop start bytes))))
 
 -- 2: "six usable bytes"
 abbrev pub SixUsable : List ℕ → Characters → Type 0

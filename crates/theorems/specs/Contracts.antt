@@ -1,13 +1,17 @@
 -- What follows for a caller from the contracts alone, whatever code meets them: for all answers and buffers that they allow, one
 -- operation after the other. Each field of `Contracts` is a theorem; `proofs/Contracts.antt` proves the record. Assumes nothing.
-use Prim.Native.Nat.{ℕ}
+use Prim.Native.Nat.{ℕ, _≤_}
 use mathlib.Core.Path.{_≡_}
-use mathlib.Core.List.{List}
-use lib.ListN.{take}
-use Rattle.characters.specs.Characters.{sixBytes, charactersOf}
+use mathlib.Core.Bool.{true}
+use mathlib.Core.List.{List, _++_}
+use lib.ListN.{length, take}
+use Rattle.lists.specs.Lists.{all}
+use Rattle.characters.specs.Characters.{isBreak, sixBytes, charactersOf}
 use Rattle.refusals.specs.declared.Fault.the-variants.{BufferShort}
 use Rattle.refusals.specs.declared.Refusal.{Refusal}
+use Rattle.refusals.specs.Limits.{mostBytes}
 use Rattle.stages.specs.Contents.{contents}
+use Rattle.answers.specs.declared.Figures.{Figures}
 use Rattle.answers.specs.declared.Judged.{Judged}
 use Rattle.answers.specs.declared.Judged.the-variants.{Accepted}
 use Rattle.answers.specs.declared.Stored.the-variants.{Length}
@@ -56,3 +60,6 @@ pub record Contracts : Type 0 where
       → Writes service (take b bytesAfter) (take k tableAfter) output (Length n) after → WriteAfterRead s service (take n after)
   -- what Normalise stores is the same interchange
   pub normalise-compare : (buffer s : List ℕ) (n : ℕ) (after : List ℕ) → Normalises buffer s (Length n) after → AreSame s (take n after)
+  -- an input that Judge accepts is the same with any line breaks behind it, as long as it is not too long (request 2026-01)
+  pub breaks-compare : (s gap : List ℕ) (i : Figures) → Judges s (Accepted i) → all isBreak gap ≡ true → length (s ++ gap) ≤ mostBytes
+      → AreSame s (s ++ gap)
