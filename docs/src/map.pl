@@ -9,6 +9,7 @@
 #   D12                                  an entry of docs/DECISIONS.md
 # In the tables of docs/PAPER-*.md all but the first column hold names, each in one of these forms or
 # the name of a crate alone. The layers of README.md name every crate of crates.txt.
+# The notes in docs/landings are left out: they also name what a landing took away.
 # Run at the root. Says a line for each name that does not exist, and fails where there is one.
 use strict;
 use warnings;

@@ -6,37 +6,43 @@ ghost use Rattle.control_elements.specs.Positions.{positionsOf};
 use control_elements::Positions;
 use segments::Kind;
 
+// An entry of the table: `Positions` in two bytes.
+struct Entry {
+    count: u8,
+    reference: u8,
+}
+
 // By kind of segment: UNB, UNG, UNH, UNS, UNT, UNE, UNZ, any other.
-const POSITIONS: [Positions; 8] = [
-    Positions {
+const POSITIONS: [Entry; 8] = [
+    Entry {
         count: 0,
         reference: 5,
     },
-    Positions {
+    Entry {
         count: 0,
         reference: 5,
     },
-    Positions {
+    Entry {
         count: 0,
         reference: 1,
     },
-    Positions {
+    Entry {
         count: 0,
         reference: 0,
     },
-    Positions {
+    Entry {
         count: 1,
         reference: 2,
     },
-    Positions {
+    Entry {
         count: 1,
         reference: 2,
     },
-    Positions {
+    Entry {
         count: 1,
         reference: 2,
     },
-    Positions {
+    Entry {
         count: 0,
         reference: 0,
     },
@@ -62,5 +68,9 @@ pub fn positions_of(kind: Kind) -> Positions
     ensures { λ r. ⌜ r ≡ positionsOf kind ⌝ }
 {
     let at = index_of(kind);
-    POSITIONS[at]
+    let entry = POSITIONS[at];
+    Positions {
+        count: entry.count as usize,
+        reference: entry.reference as usize,
+    }
 }

@@ -9,6 +9,7 @@ ghost use Rattle.stage_bytes.specs.Orderly.{releases, mayBreak, orderly,
 use characters::Characters;
 use level_classes::all_in_level;
 use level_classes::is_in_level;
+use level_classes::is_within;
 use line_breaks::is_break;
 use refusals::Fault;
 use refusals::Outcome;
@@ -49,7 +50,7 @@ fn is_orderly(
 {
     let separates = is_service(c, b) & !releases(c, before);
     let breaks = is_break(b) & may_break(c, fourth, third, second, before);
-    (is_in_level(level, b) & !is_break(b)) | (separates | breaks)
+    (is_within(level, b) & !is_break(b)) | (separates | breaks)
 }
 
 // Neither a line break nor the byte 0, which stands for what is before the first byte, is a service

@@ -16,8 +16,8 @@ is-break-requires c κs = search needs
 may-break-requires : tie.Need-may-break-requires
 may-break-requires c κs = search needs
 
-is-in-level-requires : tie.Need-is-in-level-requires
-is-in-level-requires c κs = search needs
+is-within-requires : tie.Need-is-within-requires
+is-within-requires c κs = search needs
 
 is-break-requires-2 : tie.Need-is-break-requires-2
 is-break-requires-2 c κs = search needs
@@ -30,7 +30,7 @@ returns c =
     (c .before .before .before .before .releases .ensures)
     (c .before .before .before .is-break .ensures)
     (c .before .before .may-break .ensures)
-    (c .before .is-in-level .ensures)
+    (c .before .is-within .ensures)
     (c .is-break2 .ensures)
 
 pub is-orderly-spec : {M : Type 1} → statement M
@@ -41,6 +41,6 @@ is-orderly-spec =
     releases-requires
     is-break-requires
     may-break-requires
-    is-in-level-requires
+    is-within-requires
     is-break-requires-2
     returns)
