@@ -5,7 +5,8 @@ use mathlib.Core.Bool.{Bool, true, false}
 use mathlib.Core.List.{List, [], _∷_}
 use native.Mathlib.Omega.{arith}
 use lib.ListN.{length, getD, drop, length-drop, drop-of-length-le}
-use Rattle.lists.specs.Lists.{if_then_else_}
+use borrow.Author.Tests.{ne-eqb}
+use Rattle.lists.specs.Lists.{if_then_else_, member}
 use Rattle.lists.proofs.Numbers.{drop-next}
 use Rattle.characters.specs.Characters.{isBreak, breaks, afterBreaks}
 
@@ -45,6 +46,11 @@ module _ (s : List ℕ) (at : ℕ) where
   -- another byte is not,
   pub after-none : at < length s → isBreak (getD s at 0) ≡ false → at ≡ afterBreaks s at
   after-none h e = sym (after-by false h e ∙ omega arith)
+
+  -- and so of a byte above both,
+  pub after-high : at < length s → 13 < getD s at 0 → at ≡ afterBreaks s at
+  unfolding isBreak member
+  after-high h k = after-none h (simp (ne-eqb (getD s at 0) 13 (λ e. omega arith), ne-eqb (getD s at 0) 10 (λ e. omega arith)))
 
   -- and after the last byte there is none
   pub after-all : length s ≤ at → at ≡ afterBreaks s at
