@@ -7,15 +7,17 @@ use mathlib.Core.List.{List, [], _∷_, _++_, List·Memᴰ}
 use mathlib.Core.Option.{none}
 use lib.ListN.{length}
 use Rattle.lists.specs.Lists.{all}
-use Rattle.characters.specs.Characters.{usable, charactersOf, bodyStart, body}
+use Rattle.characters.specs.Characters.{usable, charactersOf, bodyStart, body, opens}
+use Rattle.refusals.proofs.Stages.{place-none-not}
 use Rattle.stages.specs.Contents.{normalForm}
-use Rattle.stages.specs.Places.{tooLong, normalTooLong}
+use Rattle.stages.specs.Places.{tooLong, noOpening, normalTooLong}
 use Rattle.stages.specs.Stages.{refusalOf}
 use Rattle.stages.proofs.Over.{within}
-use Rattle.spelling_laws.specs.Bodies.{readList, Spelled}
-use Rattle.spelling_laws.proofs.Laws.{passes-exactly, read-spelling}
+use Rattle.spelling_laws.specs.Bodies.{Spelled}
+use Rattle.spelling_laws.proofs.Laws.{passes-exactly, list-read as body-list}
 use Rattle.grammar_laws.proofs.Theorem.{input-interchange}
 use Rattle.normal_form_laws.specs.Forms.{listRead}
+use Rattle.normal_form_laws.proofs.Openings.{opened-leads}
 use Rattle.normal_form_laws.proofs.Accepted.{Accepted, accepted-exactly, passes-accepted, usable-accepted}
 use Rattle.acceptance_laws.specs.Allowed.{holds, Allowed}
 use Rattle.acceptance_laws.proofs.Opening.{opening-clear}
@@ -25,17 +27,16 @@ use Rattle.acceptance_laws.proofs.Levels.{levels-clear, clear-levels, i
 module _ (s : List ℕ) where
   -- under usable service characters, the list by which the body is spelled is the one that it is read as
   list-is : usable (charactersOf s) ≡ true → (d : Spelled (charactersOf s) (body s)) → d .list ≡ listRead s
-  list-is u d =
-      sym (read-spelling (charactersOf s) u (bodyStart s) (d .list) (d .shaped) (d .releasable))
-      ∙ ap (readList (charactersOf s) (bodyStart s)) (d .spelled)
+  list-is u d = sym (body-list (charactersOf s) u (bodyStart s) (body s) d)
 
   -- from the places, at which nothing is met, to the rules
   clear-allowed : Accepted s → Allowed s
-  unfolding tooLong normalTooLong
+  unfolding tooLong noOpening normalTooLong
   clear-allowed a =
       let u = usable-accepted s (a .advice) in
       let passes = passes-accepted s .0 (a .releases, a .ending) in
-      let d = passes-exactly (charactersOf s) u (bodyStart s) (body s) .0 passes in
+      let leads = opened-leads s (place-none-not (opens s) (bodyStart s) .0 (a .opening)) in
+      let d = passes-exactly (charactersOf s) u (bodyStart s) (body s) .0 (passes, leads) in
       let order = input-interchange s .0 (a .order, a .controls, a .references, a .counts) in
       let (l, c, named) = levels-clear s (order .head) (order .middle ++ order .tail ∷ []) (order .shape) (a .level) in
       record {
@@ -63,7 +64,7 @@ module _ (s : List ℕ) where
   unfolding tooLong normalTooLong
   allowed-clear a =
       let opened = opening-clear s .1 (a .opening) in
-      let passes = passes-exactly (charactersOf s) (usable-allowed a) (bodyStart s) (body s) .1 (a .spelled) in
+      let passes = passes-exactly (charactersOf s) (usable-allowed a) (bodyStart s) (body s) .1 (a .spelled) .0 in
       let ended = passes-accepted s .1 passes in
       let rest = a .order .middle ++ a .order .tail ∷ [] in
       let levels = clear-levels s (a .order .head) rest (a .order .shape) (a .level) (a .named) in

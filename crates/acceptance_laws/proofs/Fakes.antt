@@ -45,7 +45,7 @@ unfolding adviceOf
 empty-not-allowed a = begun (a .opening)
   where
     begun : WellOpened [] → ⊥
-    begun (advice c rest u e) = omega (arith, ap length e)
+    begun (advice c gap rest u only e) = omega (arith, ap length e)
     begun (plus rest e) = omega (arith, ap length e)
     begun (control rest e) = omega (arith, ap length e)
 

@@ -8,3 +8,7 @@ pub mod Counts
 pub mod Judged
 pub mod Same
 pub mod Fakes
+pub mod Breaks
+pub mod Respaced
+pub mod Breakless
+pub mod Cases

@@ -1,21 +1,22 @@
 -- The opening: refusals 2 and 3 are not met exactly where the input begins as an interchange does. Assumes nothing.
-use Prim.Native.Nat.{ℕ, _≤_}
-use mathlib.Core.Path.{_≡_, refl, sym, ap, _∙_}
+use Prim.Native.Nat.{ℕ, suc, _+_, _≤_}
+use mathlib.Core.Path.{_≡_, refl, sym, ap, ap₂, _∙_}
 use mathlib.Core.Logic.{_↔_}
 use mathlib.Core.Bool.{Bool, true, false, not, _&&_, _||_, false≢true}
 use mathlib.Core.List.{List, [], _∷_, _++_}
 use native.Mathlib.Omega.{arith}
-use lib.ListN.{length, drop, length-drop}
+use lib.ListN.{length, take, drop, length-drop, take-append-drop}
 use lib.Seq.{drop-drop}
 use lib.Dec.{eqb, ltb}
 use borrow.Author.Tests.{eqb-true, eq-eqb, ltb-false, not-false}
-use Rattle.lists.specs.Lists.{text, begins}
-use Rattle.lists.proofs.Texts.{and-left, and-right, and-both, or-none-left, or-none-right}
+use Rattle.lists.specs.Lists.{if_then_else_, text, begins, member, all, at, maybe}
+use Rattle.lists.proofs.Texts.{and-left, and-right, and-both, or-none-left, or-none-right, if-true}
 use Rattle.characters.specs.declared.Characters.{Characters}
-use Rattle.characters.specs.Characters.{usable, sixBytes, spelledOut, advised, adviceOf, plusCharacters, controlCharacters, charactersOf, bodyStart, body, badAdvice, opens}
+use Rattle.characters.specs.Characters.{usable, sixBytes, spelledOut, advised, adviceOf, plusCharacters, controlCharacters, charactersOf, isBreak, breaks, afterBreaks, bodyStart, body, badAdvice, opens}
+use Rattle.values.specs.Spelling.{leadsBreak}
 use Rattle.stages.specs.Places.{unusableAdvice, noOpening}
 use Rattle.refusals.proofs.Stages.{place-none, place-none-not}
-use Rattle.normal_form_laws.proofs.Openings.{advice-good}
+use Rattle.normal_form_laws.proofs.Openings.{advice-characters, advice-good, apart-body}
 use Rattle.acceptance_laws.specs.Allowed.{WellOpened, advice, plus, control}
 
 -- an input that begins with a text is the text and a rest
@@ -43,6 +44,17 @@ six-split (a ∷ b ∷ c ∷ d ∷ []) h = absurd (omega arith)
 six-split (a ∷ b ∷ c ∷ d ∷ e ∷ []) h = absurd (omega arith)
 six-split (a ∷ b ∷ c ∷ d ∷ e ∷ f ∷ xs) h = refl
 
+-- what stands in front of the body are breaks
+breaks-only : (bs : List ℕ) → all isBreak (take (breaks bs) bs) ≡ true
+unfolding breaks all
+breaks-only [] = refl
+breaks-only (b ∷ bs) = step (isBreak b) refl (breaks-only bs)
+  where
+    step : (t : Bool) → isBreak b ≡ t → all isBreak (take (breaks bs) bs) ≡ true
+        → all isBreak (take (if t then suc (breaks bs) else 0) (b ∷ bs)) ≡ true
+    step true e h = and-both (isBreak b) (all isBreak (take (breaks bs) bs)) e h
+    step false e h = refl
+
 module _ (s : List ℕ) where
   -- ---- where neither refusal is met
 
@@ -51,18 +63,24 @@ module _ (s : List ℕ) where
   body-opens = begins-split (text "UNB" ++ charactersOf s .element ∷ []) (body s)
 
   opening-advice : advised s ≡ true → badAdvice s ≡ false → opens s ≡ true → WellOpened s
-  unfolding advised badAdvice charactersOf body bodyStart adviceOf
+  unfolding advised badAdvice charactersOf body bodyStart afterBreaks adviceOf
   opening-advice e bad o =
       let fit : (short || unusable) ≡ false = sym (ap (λ (t : Bool). t && (short || unusable)) e) ∙ bad in
       let long : 9 ≤ length s = ltb-false (length s) 9 (or-none-left short unusable fit) in
       let six : charactersOf s ≡ sixBytes (drop 3 s) = simp e in
-      let follows : body s ≡ drop 9 s = simp e in
-      advice (charactersOf s) (drop 4 (body s))
+      let gap : List ℕ = take (breaks (drop 9 s)) (drop 9 s) in
+      let follows : body s ≡ drop (breaks (drop 9 s)) (drop 9 s) =
+      ap (λ (n : ℕ). drop n s) (if-true (advised s) (9 + breaks (drop 9 s)) 0 e) ∙ sym (drop-drop (breaks (drop 9 s)) 9 s) in
+      advice (charactersOf s) gap (drop 4 (body s))
       (not-false (usable (charactersOf s)) (or-none-right short unusable fit))
+      (breaks-only (drop 9 s))
       (begins-split (text "UNA") s e
       ∙ ap (λ (l : List ℕ). text "UNA" ++ l) (six-split (drop 3 s) (omega (arith, length-drop 3 s)))
       ∙ ap (λ (c : Characters). adviceOf c ++ drop 6 (drop 3 s)) (sym six)
-      ∙ ap (λ (l : List ℕ). adviceOf (charactersOf s) ++ l) (drop-drop 6 3 s ∙ sym follows ∙ body-opens o))
+      ∙ ap (λ (l : List ℕ). adviceOf (charactersOf s) ++ l)
+      (drop-drop 6 3 s
+      ∙ sym (take-append-drop (breaks (drop 9 s)) (drop 9 s))
+      ∙ ap (λ (l : List ℕ). gap ++ l) (sym follows ∙ body-opens o)))
     where
       short : Bool
       short = ltb (length s) 9
@@ -88,13 +106,19 @@ module _ (s : List ℕ) where
 
 good-advice : {s : List ℕ} → WellOpened s → badAdvice s ≡ false
 unfolding badAdvice advised begins
-good-advice (advice c rest u e) = ap badAdvice e ∙ advice-good c (text "UNB" ++ c .element ∷ rest) u
+good-advice (advice c gap rest u only e) = ap badAdvice e ∙ advice-good c (gap ++ (text "UNB" ++ c .element ∷ rest)) u
 good-advice (plus rest e) = ap badAdvice e
 good-advice (control rest e) = ap badAdvice e
 
 opens-opening : {s : List ℕ} → WellOpened s → opens s ≡ true
-unfolding opens advised begins adviceOf charactersOf sixBytes spelledOut body bodyStart plusCharacters controlCharacters
-opens-opening (advice c rest u e) = ap opens e ∙ begins-own (text "UNB" ++ c .element ∷ []) rest
+unfolding opens advised begins charactersOf sixBytes body bodyStart plusCharacters controlCharacters leadsBreak at maybe isBreak member
+opens-opening (advice c gap rest u only e) =
+    let opening : List ℕ = text "UNB" ++ c .element ∷ rest in
+    ap opens e
+    ∙ ap₂ (λ (d : Characters) (l : List ℕ). begins (text "UNB" ++ d .element ∷ []) l)
+    (advice-characters c (gap ++ opening))
+    (apart-body c gap opening only refl)
+    ∙ begins-own (text "UNB" ++ c .element ∷ []) rest
 opens-opening (plus rest e) = ap opens e
 opens-opening (control rest e) = ap opens e
 

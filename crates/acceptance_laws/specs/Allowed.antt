@@ -8,7 +8,7 @@ use mathlib.Core.Option.{some}
 use lib.ListN.{length}
 use Rattle.lists.specs.Lists.{text, member, all}
 use Rattle.characters.specs.declared.Characters.{Characters}
-use Rattle.characters.specs.Characters.{usable, adviceOf, charactersOf, body}
+use Rattle.characters.specs.Characters.{usable, isBreak, adviceOf, charactersOf, body}
 use Rattle.values.specs.Tokens.{Segment}
 use Rattle.values.specs.Trimming.{valueAt, contentsOf}
 use Rattle.values.specs.Spelling.{Bytes}
@@ -20,10 +20,11 @@ use Rattle.refusals.specs.Limits.{mostBytes}
 
 -- ---- "Service characters"
 
--- An advice of six usable bytes, and after it `UNB` and the element separator; or, without advice, one of the two beginnings.
+-- An advice of six usable bytes, line breaks or none, and after them `UNB` and the element separator; or, without advice, one of the two
+-- beginnings.
 pub data WellOpened (s : List ℕ) : Type 0 where
-  advice : (c : Characters) (rest : List ℕ) → usable c ≡ true → s ≡ adviceOf c ++ (text "UNB" ++ c .element ∷ rest)
-      → WellOpened s
+  advice : (c : Characters) (gap rest : List ℕ) → usable c ≡ true → all isBreak gap ≡ true
+      → s ≡ adviceOf c ++ (gap ++ (text "UNB" ++ c .element ∷ rest)) → WellOpened s
   plus : (rest : List ℕ) → s ≡ text "UNB+" ++ rest → WellOpened s
   control : (rest : List ℕ) → s ≡ text "UNB" ++ 29 ∷ rest → WellOpened s
 
@@ -72,7 +73,8 @@ pub record Allowed (s : List ℕ) : Type 0 where
   pub size : length s ≤ mostBytes
   -- 2, 3: it begins as an interchange does, with usable service characters
   pub opening : WellOpened s
-  -- 4, 5: the body is the spelling of a list of segments, "each service character inside a value being released and nothing else"
+  -- 4, 5: the body is the spelling of a list of segments, "each service character inside a value being released and nothing else", with
+  -- line breaks after its segments
   pub spelled : Spelled (charactersOf s) (body s)
   -- 6: every segment keeps the rule for tags
   pub tags : (segment : List (List Bytes)) → List·Memᴰ segment (spelled .list) → Tagged segment

@@ -1,20 +1,21 @@
 -- What the definitions say in numbers: which bytes are usable, which six an input uses, where its body begins, and what part a byte
 -- plays. Assumes nothing.
-use Prim.Native.Nat.{ℕ, _≤_, _<_}
+use Prim.Native.Nat.{ℕ, suc, _+_, _≤_, _<_}
 use mathlib.Core.Path.{_≡_, refl, sym, ap, _∙_}
 use mathlib.Core.Bool.{Bool, true, false, not, _&&_, _||_, false≢true}
 use mathlib.Core.List.{List, [], _∷_, _++_}
 use mathlib.Core.Logic.{_⊎_, inl, inr, ⊎-elim}
 use native.Mathlib.Omega.{arith}
 use lib.Dec.{eqb, leb}
-use lib.ListN.{length}
+use lib.ListN.{length, drop}
+use lib.Seq.{drop-drop}
 use borrow.Author.Tests.{eq-eqb, ne-eqb, le-ltb, lt-ltb}
 use Rattle.lists.specs.Lists.{if_then_else_, text, begins, member, allDiffer, all}
 use Rattle.lists.proofs.Texts.{and-left, and-both}
 use Rattle.lists.proofs.Tests.{Says, says-eq, says-le, says-both, says-either, says-not, says-as, fails, says-begins}
 use Rattle.characters.specs.declared.Characters.{Characters}
 use Rattle.characters.specs.declared.Role.the-variants.{Separator, Release, Plain}
-use Rattle.characters.specs.Characters.{between, upper, lower, digit, separates, hasRelease, serviceCharacters, isService, usable, sixBytes, spelledOut, advised, adviceOf, plusCharacters, controlCharacters, charactersOf, bodyStart, body, badAdvice, opens, role}
+use Rattle.characters.specs.Characters.{between, upper, lower, digit, separates, hasRelease, serviceCharacters, isService, usable, sixBytes, spelledOut, advised, adviceOf, plusCharacters, controlCharacters, charactersOf, isBreak, breaks, afterBreaks, bodyStart, body, badAdvice, opens, role}
 pub use Rattle.characters.specs.Notions.{SeparatorByte, Usable}
 
 -- ---- bytes
@@ -205,14 +206,39 @@ pub advice-is : (c : Characters)
 unfolding adviceOf spelledOut
 advice-is c = refl
 
--- an input that begins with one
+-- ---- line breaks
+
+-- "Carriage returns and line feeds": the bytes 13 and 10
+pub break-says : (b : ℕ) → Says (isBreak b) ((b ≡ 13) ⊎ (b ≡ 10))
+unfolding isBreak member
+break-says b =
+    says-as
+    (says-either (eqb b 13) (eqb b 10 || false) (says-eq b 13)
+    (says-either (eqb b 10) false (says-eq b 10) (λ h. h, λ h. h)))
+    (⊎-elim inl (⊎-elim inr (λ h. absurd (false≢true h))))
+    (⊎-elim inl (λ h. inr (inl h)))
+
+-- ".. are to be passed over, however many": up to the first other byte
+pub breaks-are : (more : List ℕ)
+    → (breaks [] ≡ 0)
+    × (breaks (13 ∷ more) ≡ suc (breaks more))
+    × (breaks (10 ∷ more) ≡ suc (breaks more))
+    × ((b : ℕ) → (b ≡ 13 → ⊥) → (b ≡ 10 → ⊥) → breaks (b ∷ more) ≡ 0)
+unfolding breaks isBreak member
+breaks-are more = (refl, refl, refl, λ b cr lf. rw (ne-eqb b 13 cr, ne-eqb b 10 lf))
+
+-- ---- an input that begins with an advice
+
 module _ (c : Characters) (rest : List ℕ) where
   abbrev pub advising : List ℕ
   advising = 85 ∷ 78 ∷ 65 ∷ c .component ∷ c .element ∷ c .mark ∷ c .release ∷ c .reserved ∷ c .terminator ∷ rest
 
-  pub advised-opening : (charactersOf advising ≡ c) × (bodyStart advising ≡ 9) × (body advising ≡ rest)
-  unfolding charactersOf advised begins sixBytes bodyStart body
-  advised-opening = (refl, refl, refl)
+  pub advised-opening : (charactersOf advising ≡ c) × (bodyStart advising ≡ 9 + breaks rest) × (body advising ≡ drop (breaks rest) rest)
+  unfolding charactersOf advised begins sixBytes bodyStart body afterBreaks
+  advised-opening = (refl, refl, dropped (breaks rest))
+    where
+      dropped : (n : ℕ) → drop (9 + n) advising ≡ drop n rest
+      dropped n = sym (drop-drop n 9 advising)
 
   -- 2 is met by six bytes that are not usable,
   pub advised-bad : Says (badAdvice advising) (Usable c → ⊥)
@@ -220,9 +246,10 @@ module _ (c : Characters) (rest : List ℕ) where
   advised-bad = rw (le-ltb (length advising) 9 (omega arith)) (says-not (usable c) (usable-says c))
 
   -- 3 where the body does not begin `UNB` and the element separator
-  pub advised-opens : Says (opens advising) ((more : List ℕ) × (rest ≡ 85 ∷ 78 ∷ 66 ∷ c .element ∷ more))
-  unfolding opens charactersOf advised begins sixBytes bodyStart body
-  advised-opens = says-begins (85 ∷ 78 ∷ 66 ∷ c .element ∷ []) rest
+  pub advised-opens : Says (opens advising) ((more : List ℕ) × (drop (breaks rest) rest ≡ 85 ∷ 78 ∷ 66 ∷ c .element ∷ more))
+  unfolding opens charactersOf advised begins sixBytes
+  advised-opens =
+      rw (advised-opening .2) (says-begins (85 ∷ 78 ∷ 66 ∷ c .element ∷ []) (drop (breaks rest) rest))
 
 -- "shorter than its 9 bytes"
 pub short-bad : (rest : List ℕ) → length rest < 6 → badAdvice (85 ∷ 78 ∷ 65 ∷ rest) ≡ true

@@ -1,5 +1,5 @@
--- Paper 01, "Service characters". A byte is a number below 256. Assumes nothing.
-use Prim.Native.Nat.{ℕ, _+_}
+-- Paper 01, "Service characters"; request 2026-01, line breaks. A byte is a number below 256. Assumes nothing.
+use Prim.Native.Nat.{ℕ, zero, suc, _+_}
 use mathlib.Core.Bool.{Bool, true, false, not, _&&_, _||_}
 use mathlib.Core.List.{List, [], _∷_, _++_}
 use lib.ListN.{length, getD, drop}
@@ -52,6 +52,21 @@ usable c =
     && all separates (serviceCharacters c)
     && allDiffer (c .mark ∷ serviceCharacters c)
 
+-- ---- line breaks
+
+-- "Carriage returns and line feeds"
+unfoldable pub isBreak : ℕ → Bool
+isBreak b = member b (13 ∷ 10 ∷ [])
+
+-- how many breaks stand in front: "passed over, however many"
+unfoldable pub breaks : List ℕ → ℕ
+breaks [] = zero
+breaks (b ∷ bs) = if isBreak b then suc (breaks bs) else zero
+
+-- the place after the breaks that stand at a place
+unfoldable pub afterBreaks : List ℕ → ℕ → ℕ
+afterBreaks s at = at + breaks (drop at s)
+
 -- ---- the opening, with and without advice
 
 -- six bytes in the advice's order; a missing one is 0, which is never usable
@@ -84,9 +99,9 @@ charactersOf s =
     if advised s then sixBytes (drop 3 s)
     else if begins (text "UNB+") s then plusCharacters else controlCharacters
 
--- "The body is all that follows the advice, or the whole input."
+-- "The body is all that follows the advice, or the whole input." Breaks "directly after the service string advice, are to be passed over"
 unfoldable pub bodyStart : List ℕ → ℕ
-bodyStart s = if advised s then 9 else 0
+bodyStart s = if advised s then afterBreaks s 9 else 0
 
 unfoldable pub body : List ℕ → List ℕ
 body s = drop (bodyStart s) s

@@ -2,17 +2,16 @@
 -- them have stood since the nearest UNH. What passed is a list of segments, the nearest first. Assumes nothing.
 use Prim.Native.Nat.{ℕ}
 use mathlib.Core.Path.{_≡_, refl, sym, ap, _∙_}
-use mathlib.Core.Bool.{Bool, true, false, not, _&&_, _||_, false≢true, true≢false}
+use mathlib.Core.Bool.{Bool, true, false, not, false≢true, true≢false}
 use mathlib.Core.List.{List, [], _∷_, _++_, head-eq-of-cons-eq, List·Memᴰ, List·Memᴰ·head, List·Memᴰ·tail, List·Memᴰ·not-nil, List·Memᴰ·cases-cons, List·Memᴰ·eq-of-singleton, List·Memᴰ·append-cases, Memᴰ·append-left}
 use mathlib.Core.Option.{Option, none, some}
 use mathlib.Core.Logic.{_⊎_, inl, inr, ⊎-elim, _↔_}
 use native.Mathlib.Omega.{arith}
-use Rattle.lists.specs.Lists.{if_then_else_, same, any, those, through, at, maybe}
+use Rattle.lists.specs.Lists.{if_then_else_, same, those, through, at, maybe}
 use Rattle.lists.proofs.Texts.{and-left, and-right, and-both}
-use Rattle.lists.proofs.Tests.{Says, says-both, says-either, says-not, says-same, says-as, says-any, says-maybe, fails, through-is}
+use Rattle.lists.proofs.Tests.{Says, says-not, says-same, says-as, says-any, says-maybe, fails, through-is}
 use Rattle.values.specs.Tokens.{Segment}
 use Rattle.values.specs.Trimming.{contentsOf}
-use Rattle.segments.specs.declared.Kind.{Kind}
 use Rattle.segments.specs.declared.Kind.the-variants.{Unh, Uns}
 use Rattle.segments.specs.declared.Section.{Section}
 use Rattle.segments.specs.declared.Section.the-variants.{None, Detail, Summary}

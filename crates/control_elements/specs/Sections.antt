@@ -24,14 +24,14 @@ sectionNamed name = if same name (text "D") then Detail else if same name (text 
 unfoldable pub sectionOf : Segment → Section
 sectionOf segment = maybe None sectionNamed (controlElement segment 1)
 
--- the place of a section in a message: before all sections, the detail section, the summary section
-abbrev pub place : Section → ℕ
-place None = 0
-place Detail = 1
-place Summary = 2
+-- the turn of a section in a message: before all sections, the detail section, the summary section
+abbrev pub turn : Section → ℕ
+turn None = 0
+turn Detail = 1
+turn Summary = 2
 
 unfoldable pub isSection : Section → Section → Bool
-isSection section other = eqb (place other) (place section)
+isSection section other = eqb (turn other) (turn section)
 
 -- ---- the sections of a message
 

@@ -3,7 +3,6 @@ use Prim.Native.Nat.{ℕ, suc, _+_}
 use mathlib.Core.Path.{_≡_, refl}
 use mathlib.Core.Bool.{Bool, true, false, _&&_}
 use mathlib.Core.List.{List, [], _∷_}
-use mathlib.Core.Option.{Option, none, some}
 use lib.Dec.{leb, eqb}
 use lib.ListN.{length}
 use Rattle.lists.specs.Lists.{if_then_else_, all}
@@ -11,8 +10,8 @@ use Rattle.lists.proofs.Texts.{and-both}
 use Rattle.characters.specs.declared.Characters.{Characters}
 use Rattle.characters.specs.declared.Role.{Role}
 use Rattle.characters.specs.declared.Role.the-variants.{Separator, Release, Plain}
-use Rattle.characters.specs.Characters.{isService, role, hasRelease}
-use Rattle.values.specs.Tokens.{Token, byte, separator, fault, unreleased, releasing, taken, tokensFrom, tokens}
+use Rattle.characters.specs.Characters.{isService, isBreak, role, hasRelease}
+use Rattle.values.specs.Tokens.{Token, byte, separator, fault, Reading, inside, released, passing, unreleased, reading, taken, tokensFrom, tokens}
 use Rattle.values.specs.Spelling.{spellByte}
 
 -- a byte of a value is spelled with its release character or alone
@@ -53,23 +52,41 @@ role-known c b = step (eqb b (c .terminator)) (eqb b (c .element)) (eqb b (c .co
 module _ (P : ℕ → List Token → Type 0) (end : P 0 []) (stray : (from : ℕ) → P 0 (fault from ∷ []))
     (token : (n : ℕ) (t : Token) (ts : List Token) → known t ≡ true → P n ts → P (suc n) (t ∷ ts))
     (silent : (n : ℕ) (ts : List Token) → P n ts → P (suc n) ts) (c : Characters) where
-  pub of-reading : (release : Option ℕ) (place : ℕ) (bs : List ℕ) → P (length bs) (tokensFrom c release place bs)
-  unfolding tokensFrom unreleased releasing taken known knownRole
-  of-reading none place [] = end
-  of-reading (some from) place [] = stray from
-  of-reading none place (b ∷ bs) = step (role c b) (role-known c b) (of-reading (releasing (role c b) place) (place + 1) bs)
+  -- an unreleased byte
+  first : (place b : ℕ) (bs : List ℕ) → P (length bs) (tokensFrom c (reading (role c b) place) (place + 1) bs)
+      → P (suc (length bs)) (unreleased (role c b) b place (tokensFrom c (reading (role c b) place) (place + 1) bs))
+  unfolding unreleased reading known knownRole
+  first place b bs = step (role c b) (role-known c b)
     where
-      step : (r : Role) → knownRole r ≡ true → P (length bs) (tokensFrom c (releasing r place) (place + 1) bs)
-          → P (suc (length bs)) (unreleased r b place (tokensFrom c (releasing r place) (place + 1) bs))
+      step : (r : Role) → knownRole r ≡ true → P (length bs) (tokensFrom c (reading r place) (place + 1) bs)
+          → P (suc (length bs)) (unreleased r b place (tokensFrom c (reading r place) (place + 1) bs))
       step (Separator rank) h p = token _ (separator rank place) _ h p
       step Release h p = silent _ _ p
       step Plain h p = token _ (byte b place place) _ refl p
-  of-reading (some from) place (b ∷ bs) = step (role c b) (of-reading none (place + 1) bs)
+
+  -- a byte after a release character
+  second : (from place b : ℕ) {n : ℕ} {ts : List Token} → P n ts → P (suc n) (taken (role c b) b from place ts)
+  unfolding taken known
+  second from place b = step (role c b)
     where
-      step : (r : Role) {ts : List Token} → P (length bs) ts → P (suc (length bs)) (taken r b from place ts)
+      step : (r : Role) {n : ℕ} {ts : List Token} → P n ts → P (suc n) (taken r b from place ts)
       step (Separator rank) p = token _ (byte b from place) _ refl p
       step Release p = token _ (byte b from place) _ refl p
       step Plain p = token _ (fault from) _ refl p
+
+  pub of-reading : (r : Reading) (place : ℕ) (bs : List ℕ) → P (length bs) (tokensFrom c r place bs)
+  unfolding tokensFrom
+  of-reading inside place [] = end
+  of-reading (released from) place [] = stray from
+  of-reading passing place [] = end
+  of-reading inside place (b ∷ bs) = first place b bs (of-reading (reading (role c b) place) (place + 1) bs)
+  of-reading (released from) place (b ∷ bs) = second from place b (of-reading inside (place + 1) bs)
+  of-reading passing place (b ∷ bs) =
+      step (isBreak b) (of-reading passing (place + 1) bs) (first place b bs (of-reading (reading (role c b) place) (place + 1) bs))
+    where
+      step : (t : Bool) {ts us : List Token} → P (length bs) ts → P (suc (length bs)) us → P (suc (length bs)) (if t then ts else us)
+      step true p q = silent _ _ p
+      step false p q = q
 
 -- every token that is read is known
 pub reading-known : (c : Characters) (place : ℕ) (bs : List ℕ) → all known (tokens c place bs) ≡ true
@@ -82,6 +99,6 @@ reading-known c place bs =
     (λ n t ts h p. and-both (known t) (all known ts) h p)
     (λ n ts p. p)
     c
-    none
+    inside
     place
     bs

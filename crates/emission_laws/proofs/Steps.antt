@@ -5,13 +5,12 @@ use native.Mathlib.Nat.{add-zero}
 use mathlib.Core.Path.{_≡_, refl, sym, ap, ap₂, _∙_}
 use mathlib.Core.Bool.{Bool, true, false}
 use mathlib.Core.List.{List, [], _∷_, _++_, append-nil, append-assoc}
-use mathlib.Core.Option.{Option, none}
 use lib.Dec.{leb}
 use borrow.Author.Tests.{le-leb, lt-leb}
 use lib.ListN.{length, replicate, length-append, length-replicate}
 use Rattle.lists.specs.Lists.{if_then_else_}
 use Rattle.characters.specs.declared.Characters.{Characters}
-use Rattle.values.specs.Tokens.{Token, byte, separator, fault, tokensFrom, tokens}
+use Rattle.values.specs.Tokens.{Token, byte, separator, fault, Reading, inside, tokensFrom, tokens}
 use Rattle.values.specs.Spelling.{spellByte}
 use Rattle.emission_laws.specs.declared.Held.{Held}
 use Rattle.emission_laws.specs.declared.Measure.{Measure}
@@ -149,7 +148,7 @@ module _ (c : Characters) where
   after-most m ts d = omega (arith, ap (λ (n : Measure). n .total + waiting (n .held)) d, tokens-add ts (m .held))
 
   -- so what was read adds at most two for each of its bytes
-  reading-adds : (d : Characters) (release : Option ℕ) (place : ℕ) (bs : List ℕ) → Adds (2 * length bs) (tokensFrom d release place bs)
+  reading-adds : (d : Characters) (r : Reading) (place : ℕ) (bs : List ℕ) → Adds (2 * length bs) (tokensFrom d r place bs)
   unfolding emitted spelledNext heldAfter heldNext
   reading-adds =
       of-reading
@@ -161,4 +160,4 @@ module _ (c : Characters) where
 
   pub at-most-twice : (d : Characters) (place : ℕ) (body : List ℕ) → length (emitted c nothing (tokens d place body)) ≤ 2 * length body
   unfolding tokens
-  at-most-twice d place body = omega (arith, reading-adds d none place body nothing)
+  at-most-twice d place body = omega (arith, reading-adds d inside place body nothing)

@@ -1,13 +1,12 @@
 -- The rule that a UNS keeps where it stands, and the sections of a message as the grammar has them, each from the other. What passed is a
 -- list of segments, the nearest first. Assumes nothing.
-use mathlib.Core.Path.{_≡_, refl, sym, ap, _∙_, subst}
+use mathlib.Core.Path.{_≡_, refl, sym, ap, _∙_}
 use mathlib.Core.Bool.{Bool, true, false, not, _&&_, _||_, false≢true}
-use mathlib.Core.List.{List, [], _∷_, _++_, map, map-append, nil≢cons, cons≢nil, head-eq-of-cons-eq, tail-eq-of-cons-eq}
+use mathlib.Core.List.{List, [], _∷_, _++_, map, nil≢cons, head-eq-of-cons-eq, tail-eq-of-cons-eq}
 use Rattle.lists.specs.Lists.{if_then_else_, any, those}
-use Rattle.lists.proofs.Texts.{if-true, if-false}
 use Rattle.values.specs.Tokens.{Segment}
 use Rattle.segments.specs.declared.Kind.{Kind}
-use Rattle.segments.specs.declared.Kind.the-variants.{Unb, Ung, Unh, Uns, Unt, Une, Unz, User}
+use Rattle.segments.specs.declared.Kind.the-variants.{Unh, Uns, User}
 use Rattle.segments.specs.declared.Section.{Section}
 use Rattle.segments.specs.declared.Section.the-variants.{None, Detail, Summary}
 use Rattle.segments.specs.Kinds.{is}

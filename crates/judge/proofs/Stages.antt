@@ -7,15 +7,15 @@ use mathlib.Core.Option.{Option, none, some}
 use native.Mathlib.Omega.{arith}
 use lib.ListN.{length}
 use lib.Dec.{eqb, ltb}
-use borrow.Author.Tests.{lt-ltb, le-ltb, eq-eqb, ne-eqb}
-use Rattle.lists.specs.Lists.{if_then_else_, all, those, text, same, at, maybe, through}
+use borrow.Author.Tests.{lt-ltb, le-ltb, eqb-false, eq-eqb, ne-eqb}
+use Rattle.lists.specs.Lists.{if_then_else_, all, any, those, text, same, at, maybe, through}
 use Rattle.lists.proofs.Pieces.{cut-first}
 use Rattle.characters.specs.Characters.{charactersOf, bodyStart, body}
-use Rattle.refusals.specs.declared.Fault.the-variants.{TooLong, ForeignLevel, NormalTooLong}
+use Rattle.refusals.specs.declared.Fault.the-variants.{TooLong, ForeignLevel, OutsideLevel, NormalTooLong}
 use Rattle.refusals.specs.declared.Refusal.{Refusal}
 use Rattle.refusals.specs.declared.Outcome.{Outcome}
 use Rattle.refusals.specs.Refusals.{number, met, placeIf, orElse, answering, outcome}
-use Rattle.refusals.proofs.Stages.{one-place}
+use Rattle.refusals.proofs.Stages.{one-place, place-none}
 use Rattle.values.specs.Tokens.{Token, Segment, ends, segments, start as startOf, tokensAt}
 use Rattle.values.specs.Trimming.{valueAt, contentsOf}
 use Rattle.levels.specs.Levels.{levelNamed, isOurVersion, levelOf}
@@ -26,11 +26,11 @@ use Rattle.control_elements.specs.Sections.{lastSection}
 use Rattle.scanner.specs.Scan.{segmentAt}
 use Rattle.scanner.proofs.Segments.{stands, segment-start}
 use Rattle.stages.specs.Contents.{bodyTokens, segmentsOf, kindsOf, normalCharacters, normalForm}
-use Rattle.stages.specs.Places.{isOver, tooLong, foreignLevel, level, normalTooLong}
+use Rattle.stages.specs.Places.{isOver, tooLong, foreignLevel, level, outsideLevel, normalTooLong}
 use Rattle.stages.specs.Stages.{placesOf, brackets, bracketsIn, bracketed, stagesIn, stages, refusalOf}
-use Rattle.stages.proofs.Stages.{run-on, run-none}
+use Rattle.stages.proofs.Stages.{unmet, run-on, run-none}
 use Rattle.emission_laws.specs.Emission.{nothing, emitted}
-use Rattle.verbatim.specs.Verbatim.{faultless}
+use Rattle.verbatim.specs.Verbatim.{faultless, visible}
 use Rattle.stage_walks.specs.Walks.{ordered}
 use Rattle.stage_walks.proofs.Walks.{ordered-answers}
 use Rattle.stage_opening.specs.declared.Found.{Found}
@@ -46,7 +46,7 @@ use Rattle.answers.specs.declared.Judged.the-variants as judged-as
 use Rattle.answers.specs.Answers.{toldJudged, accepted, refused}
 use Rattle.operations.specs.Judge.{figuresOf, judge}
 use Rattle.judge.specs.Judging.{after, judged}
-use Rattle.judge.proofs.Bodies.{body-tokens, short, begun, sound, form-length, measure-bound}
+use Rattle.judge.proofs.Bodies.{none-outside, body-tokens, short, begun, sound, form-length, measure-bound}
 use Rattle.refusals.specs.Limits.{mostBytes}
 
 -- ---- 1, before the others
@@ -211,6 +211,22 @@ module _ (s : List ℕ) {before : Progress} {found : Found} (e : before ≡ prog
       ap₂ (λ (g : Found) (v : Walk). Passed (record { characters = g .characters; start = g .start; level = g .level; walk = v })) (passed-is s 1 8 e d .1) walk
       ∙ asked-next s 1 8 e 9 refl d (ordered-answers s ∙ o)
 
+-- ---- 7 and 8 pass
+
+-- no byte of a value is below the space
+module _ (s : List ℕ) where
+  visible-body : answering (stagesIn s 1 8) ≡ none → visible (bodyTokens s) ≡ true
+  unfolding bracketsIn brackets those all any placesOf outsideLevel
+  visible-body e =
+      let read = run-none s 1 6 8 refl e .0 in
+      let named = place-none (eqb (level s) 0) (bodyStart s) .0 (sym (foreign-is s read) ∙ unmet s 1 8 e ForeignLevel refl) in
+      none-outside s (eqb-false (level s) 0 named) (bodyTokens s) (unmet s 1 8 e OutsideLevel refl)
+
+  -- and so where all pass
+  pub accepted-visible : refusalOf s ≡ none → visible (bodyTokens s) ≡ true
+  unfolding refusalOf stages stagesIn bracketsIn brackets those all
+  accepted-visible a = visible-body (run-none s 1 8 13 refl a .0)
+
 -- ---- 13
 
 module _ (s : List ℕ) (e : answering (stagesIn s 1 12) ≡ none) {found : Found} (d : found ≡ foundBy 12 s) where
@@ -219,12 +235,14 @@ module _ (s : List ℕ) (e : answering (stagesIn s 1 12) ≡ none) {found : Foun
   read = run-none s 1 6 12 refl e .0
 
   -- what is found may be measured
-  pub measurable : (length s ≤ mostBytes) × (found .start ≤ length s) × (faultless (tokensAt (found .characters) s (found .start)) ≡ true)
-  unfolding foundBy
-  measurable =
-      let start = ap (λ (f : Found). f .start) d in
-      let fits = begun s read in
-      (short s read, omega arith, ap faultless (body-tokens s 12 d) ∙ sound s read)
+  pub measurable : (length s ≤ mostBytes) × (faultless (tokensAt (found .characters) s (found .start)) ≡ true)
+      × (visible (tokensAt (found .characters) s (found .start)) ≡ true)
+  unfolding bracketsIn brackets those all
+  measurable = (
+    short s read,
+    ap faultless (body-tokens s 12 d) ∙ sound s read,
+    ap visible (body-tokens s 12 d) ∙ visible-body s (run-none s 1 8 12 refl e .0),
+  )
 
   measure : length (emitted (normalCharacters (found .characters .mark)) nothing (tokensAt (found .characters) s (found .start)))
       ≡ length (emitted (normalCharacters (charactersOf s .mark)) nothing (bodyTokens s))

@@ -41,7 +41,7 @@ fn holds(level: u8, in_a: bool, letter: bool) -> bool
 
 // A byte belongs in the level, by comparisons. Nothing here branches, so that many bytes are asked at
 // once.
-fn is_within(level: u8, b: u8) -> bool
+pub fn is_within(level: u8, b: u8) -> bool
     ensures { λ r. ⌜ r ≡ inLevel level b ⌝ }
 {
     let in_a = is_between(32, 34, b) | (is_between(37, 63, b) | is_between(65, 90, b));

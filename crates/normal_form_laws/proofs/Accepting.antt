@@ -30,9 +30,9 @@ use Rattle.operations.specs.ValueList.{trimList}
 use Rattle.spelling_laws.specs.Bodies.{listed, readList, Passes}
 use Rattle.normal_form_laws.specs.Forms.{markOf, formCharacters, listRead}
 use Rattle.normal_form_laws.proofs.Trimmed.{allBytes, contents-read, trim-bytes}
-use Rattle.normal_form_laws.proofs.Openings.{advice-characters, advice-body, advice-good}
+use Rattle.normal_form_laws.proofs.Openings.{advice-characters, advice-good, interchange-body}
 use Rattle.normal_form_laws.proofs.Accepted.{Accepted, accepted-exactly, passes-accepted, order-accepted}
-use Rattle.normal_form_laws.proofs.Normal.{accepted-passes, normal-usable, normal-passes, normal-read, normal-contents, normal-again}
+use Rattle.normal_form_laws.proofs.Normal.{accepted-passes, contents-shaped, contents-unbroken, normal-releasable, normal-usable, normal-passes, normal-read, normal-contents, normal-again}
 use Rattle.normal_form_laws.proofs.Tags.{firstValue, isSingle, lone, tagStands, tag-trim, tag-first, tags-words, all-finished}
 use Rattle.normal_form_laws.proofs.Alike.{Alike, ByContents, first-alike, level-alike, kinds-alike, starts-alike, order-by-contents, controls-by-contents, references-by-contents, counts-by-contents}
 use Rattle.normal_form_laws.proofs.LevelBytes.{level-bytes}
@@ -173,7 +173,11 @@ module _ (s : List ℕ) (accepted : refusalOf s ≡ none) where
   unfolding opens normalForm interchange kindsOf foreignLevel contents normalCharacters sixBytes
   normal-opens =
       let c : Characters = formCharacters s in
-      rw (advice-characters c (spell c (contents s)), advice-body c (spell c (contents s)))
+      let list : SegmentList = contents s in
+      let shaped = contents-shaped s accepted in
+      let releasable = normal-releasable (markOf s) list in
+      let unbroken = contents-unbroken s accepted in
+      rw (advice-characters c (spell c list), interchange-body c list (normal-usable s accepted) shaped releasable unbroken)
       (opening (markOf s) (segmentsOf s) (order .0) (order .1) contents-tags (nowhere .level))
 
   -- what is met nowhere in the input is met nowhere in its normal form

@@ -7,6 +7,7 @@ pub mod Tags
 pub mod Alike
 pub mod LevelBytes
 pub mod Accepting
+pub mod SameList
 pub mod Trailers
 pub mod EndToEnd
 pub mod Theorems

@@ -10,17 +10,20 @@ use borrow.Author.Tests.{eqb-true}
 use Rattle.lists.specs.Lists.{text, member, all, allDiffer}
 use Rattle.lists.proofs.Texts.{and-left, and-right, or-cases}
 use Rattle.characters.specs.declared.Characters.{Characters}
-use Rattle.characters.specs.Characters.{between, upper, lower, digit, space, separates, hasRelease, serviceCharacters, usable, sixBytes, charactersOf, bodyStart, body}
-use Rattle.values.specs.Spelling.{SegmentList, spell}
+use Rattle.characters.specs.Characters.{between, upper, lower, digit, space, separates, hasRelease, serviceCharacters, usable, sixBytes, charactersOf, bodyStart, body, opens}
+use Rattle.refusals.proofs.Stages.{place-none-not}
+use Rattle.values.specs.Spelling.{SegmentList, spell, leadsBreak}
 use Rattle.stages.specs.Contents.{contents, normalCharacters, interchange, normalForm}
+use Rattle.stages.specs.Places.{noOpening}
 use Rattle.stages.specs.Stages.{refusalOf}
 use Rattle.operations.specs.ValueList.{trimList}
-use Rattle.spelling_laws.specs.Bodies.{Shaped, Releasable}
-use Rattle.spelling_laws.proofs.Laws.{read-shaped}
+use Rattle.spelling_laws.specs.Bodies.{Shaped, Releasable, Unbroken}
+use Rattle.spelling_laws.proofs.Laws.{read-shaped, read-unbroken}
 use Rattle.trimming_laws.proofs.Trimmed.{trimList-shaped}
+use Rattle.trimming_laws.proofs.Starts.{trim-unbroken}
 use Rattle.normal_form_laws.specs.Forms.{markOf, formCharacters, BodyPasses, listRead}
 use Rattle.normal_form_laws.proofs.Trimmed.{contents-read, contents-trimmed}
-use Rattle.normal_form_laws.proofs.Openings.{advice-characters, interchange-passes, interchange-read}
+use Rattle.normal_form_laws.proofs.Openings.{advice-characters, opened-leads, interchange-passes, interchange-read}
 use Rattle.normal_form_laws.proofs.Accepted.{Accepted, accepted-exactly, passes-accepted, usable-accepted}
 
 -- ---- the normal form's characters
@@ -70,6 +73,17 @@ module _ (s : List ℕ) (accepted : refusalOf s ≡ none) where
       rw (contents-read s)
       (trimList-shaped (listRead s) (read-shaped (charactersOf s) accepted-usable (bodyStart s) (body s) accepted-passes))
 
+  -- no segment of it begins with a break
+  pub accepted-leads : leadsBreak (body s) ≡ false
+  unfolding noOpening
+  accepted-leads = opened-leads s (place-none-not (opens s) (bodyStart s) .0 (nowhere .opening))
+
+  pub contents-unbroken : Unbroken (contents s)
+  contents-unbroken =
+      rw (contents-read s)
+      (trim-unbroken (listRead s)
+      (read-unbroken (charactersOf s) accepted-usable (bodyStart s) (body s) accepted-passes accepted-leads))
+
   -- ---- its normal form
 
   -- its characters are usable; its body passes and is read as the contents
@@ -80,13 +94,13 @@ module _ (s : List ℕ) (accepted : refusalOf s ≡ none) where
   unfolding normalForm
   normal-passes =
       let list : SegmentList = contents s in
-      interchange-passes (formCharacters s) list normal-usable contents-shaped (normal-releasable (markOf s) list)
+      interchange-passes (formCharacters s) list normal-usable contents-shaped (normal-releasable (markOf s) list) contents-unbroken
 
   pub normal-read : listRead (normalForm s) ≡ contents s
   unfolding normalForm
   normal-read =
       let list : SegmentList = contents s in
-      interchange-read (formCharacters s) list normal-usable contents-shaped (normal-releasable (markOf s) list)
+      interchange-read (formCharacters s) list normal-usable contents-shaped (normal-releasable (markOf s) list) contents-unbroken
 
   -- it has the same contents, under its own characters with the same mark
   pub normal-contents : contents (normalForm s) ≡ contents s

@@ -8,16 +8,16 @@ ghost use lib.Seq.{sets};
 ghost use Rattle.values.specs.Tokens.{tokensAt};
 ghost use Rattle.stages.specs.Contents.{normalCharacters};
 ghost use Rattle.emission_laws.specs.Emission.{nothing, emitted};
-ghost use Rattle.verbatim.specs.Verbatim.{faultless};
+ghost use Rattle.verbatim.specs.Verbatim.{faultless, visible};
 ghost use Rattle.refusals.specs.Limits.{mostBytes};
 use characters::Characters;
 use emission_laws::Measure;
 use held_separators::nothing_held;
 use held_separators::put_separator;
 use held_separators::put_value_byte;
+use line_breaks::put_unbroken;
 use scanner::Lexed;
 use scanner::lex;
-use storing::copy;
 use verbatim::is_verbatim;
 use verbatim::normal_characters;
 
@@ -64,13 +64,13 @@ fn put_by_token(
 }
 
 // Stores the contents of the body that begins at `start`, from a place of the buffer on. A body that
-// is already spelled as in its normal form is copied.
+// is already spelled as in its normal form, but for line breaks, is copied without them.
 pub fn put_contents(buffer: &mut [u8], from: usize, s: &[u8], c: Characters, start: usize)
-    requires { ⌜ (from + length (emitted (normalCharacters (c .mark)) nothing (tokensAt c (now s) start)) ≤ length (now buffer)) × (from ≤ 9) × (length (now s) ≤ mostBytes) × (faultless (tokensAt c (now s) start) ≡ true) ⌝ }
+    requires { ⌜ (from + length (emitted (normalCharacters (c .mark)) nothing (tokensAt c (now s) start)) ≤ length (now buffer)) × (from ≤ 9) × (length (now s) ≤ mostBytes) × (faultless (tokensAt c (now s) start) ≡ true) × (visible (tokensAt c (now s) start) ≡ true) ⌝ }
     ensures { λ _. ⌜ now (buffer .exit) ≡ sets (now (buffer .entry)) from (emitted (normalCharacters (c .mark)) nothing (tokensAt c (now (s .entry)) start)) ⌝ }
 {
     if is_verbatim(s, c, start) {
-        copy(buffer, from, s, start);
+        put_unbroken(buffer, from, s, start);
         return;
     }
     put_by_token(buffer, from, normal_characters(c.mark), s, c, start);

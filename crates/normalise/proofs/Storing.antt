@@ -17,10 +17,11 @@ use Rattle.stages.specs.Contents.{bodyTokens, segmentsOf, contents, normalChara
 use Rattle.stages.specs.Stages.{refusalOf}
 use Rattle.emission_laws.specs.Emission.{nothing, emitted}
 use Rattle.emission_laws.proofs.Theorems.{contents-emitted}
-use Rattle.verbatim.specs.Verbatim.{faultless}
+use Rattle.verbatim.specs.Verbatim.{faultless, visible}
 use Rattle.stage_walks.specs.Walks.{refuse}
 use Rattle.storing.proofs.Stores.{sets-append}
 use Rattle.judge.proofs.Bodies.{tokens-here, accepted-ended, accepted-sound}
+use Rattle.judge.proofs.Stages.{accepted-visible}
 use Rattle.answers.specs.declared.Stored.the-variants.{Length, Refused}
 use Rattle.answers.specs.Answers.{given, toldStored}
 use Rattle.contracts.specs.Promises.{Normalises}
@@ -37,6 +38,12 @@ pub form-faultless : (s : List ℕ) → refusalOf s ≡ none → {c : Characters
     → faultless (tokensAt c s start) ≡ true
 form-faultless s a d p =
     ap faultless (ap₂ (λ (c : Characters) (start : ℕ). tokensAt c s start) d p ∙ tokens-here s) ∙ accepted-sound s a
+
+-- and no byte of a value is below the space
+pub form-visible : (s : List ℕ) → refusalOf s ≡ none → {c : Characters} {start : ℕ} → c ≡ charactersOf s → start ≡ bodyStart s
+    → visible (tokensAt c s start) ≡ true
+form-visible s a d p =
+    ap visible (ap₂ (λ (c : Characters) (start : ℕ). tokensAt c s start) d p ∙ tokens-here s) ∙ accepted-visible s a
 
 module _ (buffer s : List ℕ) where
   -- a refusal answers, and the buffer is unchanged

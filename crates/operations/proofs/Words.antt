@@ -20,7 +20,8 @@ use Rattle.refusals.specs.declared.Fault.the-variants.{TooLong, UnusableAdvice,
 use Rattle.refusals.specs.declared.Refusal.{Refusal}
 use Rattle.refusals.specs.Refusals.{Stage, met, placeIf, answering}
 use Rattle.refusals.proofs.Words.{place-says, place-answers, nowhere-answers}
-use Rattle.values.specs.Spelling.{Bytes, spell}
+use Rattle.values.specs.Spelling.{Bytes, spell, leadsBreak}
+use Rattle.values.proofs.Words.{leads-says}
 use Rattle.stages.specs.Contents.{contents, interchange}
 use Rattle.stages.specs.Places.{tooLong}
 use Rattle.stages.specs.Stages.{laterStages}
@@ -28,8 +29,8 @@ use Rattle.stages.proofs.Words.{one-at}
 use Rattle.operations.specs.Judge.{shortFor}
 use Rattle.operations.specs.ValueList.{Item, rankOf, listElement, listSegment, listOf, listBytes, tableFrom, listTable, Entry, entries, valueIn, listedIn, segmentsListed, trimList}
 use Rattle.operations.specs.Read.{valueBytes, valueTable}
-use Rattle.operations.specs.Write.{numbersWhere, badTable, badEntry, badList, unusableBytes, lacksRelease, needsRelease, writtenText, writeStages, writeRefusal}
-pub use Rattle.operations.specs.Notions.{Record, BadTable, BadRecord, LacksRelease, Nowhere, Lowest}
+use Rattle.operations.specs.Write.{numbersWhere, badTable, brokenStart, badEntry, badList, unusableBytes, lacksRelease, needsRelease, writtenText, writeStages, writeRefusal}
+pub use Rattle.operations.specs.Notions.{Record, BadTable, Bad, BadRecord, LacksRelease, Nowhere, Lowest}
 
 -- ---- the records of a table
 
@@ -125,17 +126,27 @@ table-says table =
     kinds (a ∷ b ∷ c ∷ rest) kind h n =
         inr (record { kind = a; start = b; size = c }, refl, λ z. n (sym (Option·some-injective a kind h) ∙ z))
 
+bad-says : (bytes : List ℕ) (kind start size : ℕ)
+    → Says (badEntry bytes (record { kind = kind; start = start; size = size })) (Bad bytes kind start size)
+unfolding badEntry brokenStart valueIn
+bad-says bytes kind start size =
+    let high : Bool = ltb 2 kind in
+    let beyond : Bool = ltb (length bytes) (start + size) in
+    let value : List ℕ = take size (drop start bytes) in
+    says-as
+    (says-either (high || beyond) (eqb kind 0 && leadsBreak value)
+    (says-either high beyond (says-lt 2 kind) (says-lt (length bytes) (start + size)))
+    (says-both (eqb kind 0) (leadsBreak value) (says-eq kind 0) (leads-says value)))
+    (⊎-elim (⊎-elim inl (λ h. inr (inl h))) (λ h. inr (inr h)))
+    (⊎-elim (λ h. inl (inl h)) (⊎-elim (λ h. inl (inr h)) inr))
+
 -- "0 for the first two, else lowest such record number"
 pub fifteen-at : (bytes table : List ℕ) (p : ℕ)
     → List·Memᴰ p (badList bytes table) ↔ ((BadTable table × (p ≡ 0)) ⊎ BadRecord bytes table p)
-unfolding badList badEntry
+unfolding badList
 fifteen-at bytes table p =
     let whole = place-says (badTable table) 0 p (table-says table) in
-    let records = numbers-say (badEntry bytes) (λ kind start size. (2 < kind) ⊎ (length bytes < start + size))
-    (λ kind start size.
-    says-either (ltb 2 kind) (ltb (length bytes) (start + size)) (says-lt 2 kind) (says-lt (length bytes) (start + size)))
-    table p
-    in (
+    let records = numbers-say (badEntry bytes) (Bad bytes) (bad-says bytes) table p in (
       λ m. ⊎-elim (λ k. inl (whole .0 k)) (λ k. inr (records .0 k)) (List·Memᴰ·append-cases (placeIf (badTable table) 0) m),
       ⊎-elim
           (λ h. Memᴰ·append-left (numbersWhere (badEntry bytes) 0 (entries table)) (whole .1 h))

@@ -8,6 +8,7 @@ use mathlib.Core.Option.{some}
 use lib.ListN.{length, take, drop}
 use Rattle.lists.specs.Lists.{at}
 use Rattle.characters.specs.declared.Characters.{Characters}
+use Rattle.values.specs.Notions.{LeadsBreak}
 
 -- "table of three 32-bit numbers a value": its record of a number, from 0
 abbrev pub Record : List ℕ → ℕ → ℕ → ℕ → ℕ → Type 0
@@ -19,10 +20,12 @@ abbrev pub BadTable : List ℕ → Type 0
 BadTable table =
     (96000 < length table) ⊎ (length table % 3 ≡ 0 → ⊥) ⊎ ((kind : ℕ) × (at table 0 ≡ some kind) × (kind ≡ 0 → ⊥))
 
--- "kind above 2; start plus length above the number of bytes"
+-- "kind above 2; start plus length above the number of bytes"; request 2026-01: "No segment of a list may begin with a break"
+abbrev pub Bad : List ℕ → ℕ → ℕ → ℕ → Type 0
+Bad bytes kind start size = (2 < kind) ⊎ (length bytes < start + size) ⊎ ((kind ≡ 0) × LeadsBreak (take size (drop start bytes)))
+
 abbrev pub BadRecord : List ℕ → List ℕ → ℕ → Type 0
-BadRecord bytes table n =
-    (kind : ℕ) × (start : ℕ) × (size : ℕ) × Record table n kind start size × ((2 < kind) ⊎ (length bytes < start + size))
+BadRecord bytes table n = (kind : ℕ) × (start : ℕ) × (size : ℕ) × Record table n kind start size × Bad bytes kind start size
 
 -- 16: "a value holds a service character and there is no release"
 abbrev pub LacksRelease : Characters → List ℕ → List ℕ → ℕ → Type 0

@@ -11,6 +11,7 @@ use Rattle.characters.specs.Characters.{sixBytes, usable, hasRelease, isService
 use Rattle.refusals.specs.declared.Fault.the-variants.{TooLong, UnusableAdvice, BadList, NeedsRelease}
 use Rattle.refusals.specs.declared.Refusal.{Refusal}
 use Rattle.refusals.specs.Refusals.{Stage, met, placeIf, answering}
+use Rattle.values.specs.Spelling.{leadsBreak}
 use Rattle.stages.specs.Contents.{interchange}
 use Rattle.stages.specs.Places.{tooLong}
 use Rattle.stages.specs.Stages.{laterStages}
@@ -31,9 +32,13 @@ badTable table =
     || not (eqb (length table % 3) 0)
     || maybe false (λ e. not (eqb (e .kind) 0)) (at (entries table) 0)
 
+-- request 2026-01, "No segment of a list may begin with a break": a record of kind 0 whose value begins with one
+unfoldable pub brokenStart : List ℕ → Entry → Bool
+brokenStart bytes e = eqb (e .kind) 0 && leadsBreak (valueIn bytes e)
+
 -- "kind above 2; start plus length above the number of bytes"
 unfoldable pub badEntry : List ℕ → Entry → Bool
-badEntry bytes e = ltb 2 (e .kind) || ltb (length bytes) (e .start + e .size)
+badEntry bytes e = ltb 2 (e .kind) || ltb (length bytes) (e .start + e .size) || brokenStart bytes e
 
 -- 15: "0 for the first two, else lowest such record number"
 unfoldable pub badList : List ℕ → List ℕ → List ℕ

@@ -1,23 +1,28 @@
 -- All of the statements hold. Assumes nothing.
-use Prim.Native.Nat.{ℕ}
-use mathlib.Core.Path.{_≡_, refl, sym, subst, _∙_}
-use mathlib.Core.Bool.{true}
+use Prim.Native.Nat.{ℕ, _+_}
+use mathlib.Core.Path.{_≡_, refl, sym, ap, ap₂, subst, _∙_}
+use mathlib.Core.Bool.{true, false}
 use mathlib.Core.Logic.{_↔_}
-use mathlib.Core.List.{List, [], _∷_, List·Memᴰ}
+use mathlib.Core.List.{List, [], _∷_, _++_, List·Memᴰ}
 use mathlib.Core.Option.{some, Option·some-injective}
-use Rattle.lists.specs.Lists.{at}
-use Rattle.lists.proofs.Tests.{fails}
+use lib.ListN.{length, drop}
+use lib.Seq.{drop-append-seam}
+use Rattle.lists.specs.Lists.{all, at}
+use Rattle.lists.proofs.Tests.{says-all, fails}
 use Rattle.characters.specs.declared.Characters.{Characters}
-use Rattle.characters.specs.Characters.{isService}
-use Rattle.characters.proofs.Words.{usable-says, service-says, advised-opening, plus-opening, control-opening, plain-opening}
+use Rattle.characters.specs.Characters.{isService, isBreak, breaks, charactersOf, bodyStart, body}
+use Rattle.characters.proofs.Words.{usable-says, service-says, break-says, advised-opening, plus-opening, control-opening, plain-opening}
 use Rattle.refusals.specs.declared.Refusal.{Refusal}
 use Rattle.refusals.proofs.Words.{numbers-are}
-use Rattle.values.specs.Tokens.{byte, Segment}
+use Rattle.values.specs.Tokens.{Token, byte, separator, tokens, Segment}
 use Rattle.values.specs.Trimming.{trimElement, trimSegment, contentsOf}
-use Rattle.values.proofs.Words.{read-end, read-separators, read-value, read-released, read-stray, read-last, finished-says, segment-ended, segment-unended, no-segment, start-is, bytes-are, spelled-value, spelled-segment, spelled-list}
+use Rattle.values.specs.Spelling.{leadsBreak, spellApart}
+use Rattle.values.proofs.Steps.{tokens-passing}
+use Rattle.values.proofs.Words.{read-end, read-separators, read-value, read-released, read-stray, read-last, finished-says, segment-ended, segment-unended, no-segment, start-is, bytes-are, spelled-value, spelled-segment, spelled-list, leads-says, spell-apart}
 use Rattle.values.proofs.Cases.{element-trimmed, segment-trimmed}
 use Rattle.nesting.proofs.Words.{idle-is}
 use Rattle.normal_form_laws.proofs.Trimmed.{contents-words}
+use Rattle.normal_form_laws.proofs.Openings.{breaks-before}
 use Rattle.levels.specs.Levels.{levelOf, inLevel}
 use Rattle.levels.proofs.Words.{level-a-says, level-b-says, in-level-says, names-level, level-none}
 use Rattle.segments.specs.declared.Kind.{Kind}
@@ -27,7 +32,7 @@ use Rattle.segments.proofs.Cases.{messages-follow, groups-follow}
 use Rattle.segments.proofs.Words.{kinds-are, user-kind, tag-is, tag-says, rule-says, counted, after-interchange, in-group-message, in-message, in-group, between-groups, before-interchange, kind-is, open-says, group-allows, between-allows}
 use Rattle.control_elements.proofs.Words.{unb-control, ung-control, unh-control, unt-control, une-control, unz-control, no-control, unt-reference, une-reference, unz-reference, unt-count, une-count, unz-groups, unz-messages, no-trailer, decimal-digits}
 use Rattle.stages.specs.Contents.{bodyTokens, segmentsOf, contents, kindsOf}
-use Rattle.stages.specs.Places.{outsideLevel}
+use Rattle.stages.specs.Places.{noOpening, outsideLevel}
 use Rattle.stages.specs.Stages.{stages, refusalOf}
 use Rattle.stages.proofs.Words.{one-at, two-advised, two-short, two-plain, three-advised, three-plain, four-at, five-at, six-at, seven-at, eight-at, nine-at, ten-at, eleven-at, twelve-at, thirteen-at, stages-are, later-are, form-is}
 use Rattle.answers.proofs.Words.{judged-are, stored-are, compared-are, located-are, listed-are}
@@ -38,17 +43,57 @@ use Rattle.control_elements.proofs.Sections.{section-says, section-other}
 use Rattle.normal_form_laws.proofs.Alike.{control-alike, section-rule, references-by-contents, counts-by-contents}
 use Rattle.acceptance_laws.proofs.Stages.{refused-exactly}
 use Rattle.acceptance_laws.proofs.Judged.{judged-refused}
-use Rattle.paper_words.specs.Relations.{Usable, LevelA, LevelB, Answers}
+use Rattle.paper_words.specs.Relations.{Usable, advised, BeginsUnb, OnlyBreaks, LeadsBreak, LevelA, LevelB, Answers}
 use Rattle.paper_words.specs.PaperWords.{refuses, ServiceCharacters, Reading, Spelling, Input, BytesToValues, Stands, ControlOf, ReferencesOf, CountsOf, ControlElements, SectionMarkers, Told, ValueLists, PlacesOf, PaperWords}
 use Rattle.paper_words.proofs.Parts.{words-are, answers-exactly}
 use Rattle.paper_words.proofs.Writer.{fine-list, write-refused-exactly}
+
+-- ---- line breaks
+
+module _ (gap rest : List ℕ) (only : OnlyBreaks gap) (n : LeadsBreak rest → ⊥) where
+  gap-breaks : all isBreak gap ≡ true
+  gap-breaks = says-all isBreak break-says gap .1 only
+
+  rest-leads : leadsBreak rest ≡ false
+  rest-leads = fails (leadsBreak rest) (leads-says rest) .1 n
+
+  -- as many stand in front as there are in the gap, and then comes the rest
+  many : breaks (gap ++ rest) ≡ length gap
+  many = breaks-before gap rest gap-breaks rest-leads
+
+  follows : drop (breaks (gap ++ rest)) (gap ++ rest) ≡ rest
+  follows = ap (λ (k : ℕ). drop k (gap ++ rest)) many ∙ drop-append-seam gap rest
+
+  with-advice : (c : Characters)
+      → (charactersOf (advised c (gap ++ rest)) ≡ c)
+      × (bodyStart (advised c (gap ++ rest)) ≡ 9 + length gap)
+      × (body (advised c (gap ++ rest)) ≡ rest)
+  with-advice c =
+      let opening = advised-opening c (gap ++ rest) in
+      (opening .0, opening .1 ∙ ap (λ (k : ℕ). 9 + k) many, opening .2 ∙ follows)
+
+  after-terminator : (c : Characters) → Usable c → (place : ℕ)
+      → tokens c place (c .terminator ∷ (gap ++ rest)) ≡ separator 0 place ∷ tokens c (place + 1 + length gap) rest
+  after-terminator c u place =
+      read-separators c u place (gap ++ rest) .0
+      ∙ ap (λ (ts : List Token). separator 0 place ∷ ts)
+      (tokens-passing c (place + 1) (gap ++ rest)
+      ∙ ap₂ (λ (k : ℕ) (bs : List ℕ). tokens c (place + 1 + k) bs) many follows)
+
+  three : (c : Characters) (p : ℕ)
+      → List·Memᴰ p (noOpening (advised c (gap ++ rest))) ↔ ((BeginsUnb rest (c .element) → ⊥) × (p ≡ 9 + length gap))
+  three c p =
+      let bytes : List ℕ = gap ++ rest in
+      subst (λ (k : ℕ). List·Memᴰ p (noOpening (advised c bytes)) ↔ ((BeginsUnb rest (c .element) → ⊥) × (p ≡ 9 + k))) many
+      (subst (λ (bs : List ℕ). List·Memᴰ p (noOpening (advised c bytes)) ↔ ((BeginsUnb bs (c .element) → ⊥) × (p ≡ 9 + breaks bytes))) follows
+      (three-advised c bytes p))
 
 service-characters : ServiceCharacters
 service-characters =
     record {
       usable-when = usable-says;
       service-character = service-says;
-      with-advice = advised-opening;
+      with-advice = λ c gap rest only n. with-advice gap rest only n c;
       with-plus = λ rest. plus-opening rest .0;
       with-control = λ rest. control-opening rest .0;
       without-advice = λ s h. let plain = plain-opening s h in (plain .0, plain .1);
@@ -58,7 +103,7 @@ reading : (c : Characters) → Usable c → (place : ℕ) → Reading c place
 reading c u place =
     record {
       nothing = read-end c u place;
-      terminator = λ more. read-separators c u place more .0;
+      terminator = λ gap more only n. after-terminator gap more only n c u place;
       element = λ more. read-separators c u place more .1;
       component = λ more. read-separators c u place more .2;
       plain = λ b more n. read-value c u place b more (fails (isService c b) (service-says c b) .1 n);
@@ -68,6 +113,7 @@ reading c u place =
     }
 
 spelling : (c : Characters) → Spelling c
+unfolding spellApart
 spelling c =
     record {
       nothing = spelled-value c 0 [] .0;
@@ -75,6 +121,7 @@ spelling c =
       plain = λ b more h. spelled-value c b more .2 (fails (isService c b) (service-says c b) .1 h);
       segment = spelled-segment c;
       list = spelled-list c;
+      apart = λ g gs gap between. (refl, spell-apart c g gs gap between .2);
     }
 
 -- the level that is read is the one that is named
@@ -229,7 +276,7 @@ places-of p =
       two = λ c rest. two-advised c rest p;
       two-short = two-short;
       two-plain = two-plain;
-      three = λ c rest. three-advised c rest p;
+      three = λ c gap rest only n. three gap rest only n c p;
       three-plain = λ s h. three-plain s h p;
       four = λ s. four-at s p;
       five = λ s. five-at s p;

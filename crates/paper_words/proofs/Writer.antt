@@ -90,7 +90,7 @@ module _ (bytes table : List ℕ) where
         (⊎-elim (λ odd. odd (omega (arith, f .threes .1))) (λ k. k .2 (f .first (k .0) (k .1)))) (h .0))
         (λ h.
         let fine = f .records p (h .0) (h .1) (h .2) (h .3) in
-        ⊎-elim (λ k. omega (arith, fine .0)) (λ k. omega (arith, fine .1)) (h .4)),
+        ⊎-elim (λ k. omega (arith, fine .0)) (⊎-elim (λ k. omega (arith, fine .1)) (λ k. fine .2 (k .0) (k .1))) (h .4)),
     λ none.
         record {
           size = within 96000 (length table) (λ l. none 0 (inl (inl l, refl)));
@@ -98,7 +98,8 @@ module _ (bytes table : List ℕ) where
           first = λ rank e. is-zero rank (λ n. none 0 (inl (inr (inr (rank, e, n)), refl)));
           records = λ n rank start size r. (
             within 2 rank (λ l. none n (inr (rank, start, size, r, inl l))),
-            within (length bytes) (start + size) (λ l. none n (inr (rank, start, size, r, inr l))),
+            within (length bytes) (start + size) (λ l. none n (inr (rank, start, size, r, inr (inl l)))),
+            λ z b. none n (inr (rank, start, size, r, inr (inr (z, b)))),
           );
         },
   )

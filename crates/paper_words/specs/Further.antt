@@ -43,6 +43,15 @@ controlled =
 abbrev six : List ℕ
 six = text ":+.? '"
 
+-- X with bytes after each of its segments, and after what stands before it
+abbrev spaced : List ℕ → List ℕ → List ℕ
+spaced before gap =
+    before ++ (text unb ++ (gap ++ (text unh ++ (gap ++ (text bgm ++ (gap ++ (text unt ++ (gap ++ (text unz ++ gap)))))))))
+
+-- X with other bytes in the place of its third segment
+abbrev third : List ℕ → List ℕ
+third bytes = text unb ++ (text unh ++ (bytes ++ (text unt ++ text unz)))
+
 unfoldable pub rows : List Row
 rows =
     -- 6: the tag rule
@@ -107,6 +116,38 @@ rows =
     ∷ row (write (text ":+.  '") (text "A'B:") (0 ∷ 0 ∷ 1 ∷ 1 ∷ 1 ∷ 2 ∷ 2 ∷ 3 ∷ 1 ∷ []) []) 16 (1 ∷ [])
     ∷ row (write six (text "AB") (0 ∷ 0 ∷ 1 ∷ 1 ∷ 1 ∷ 1 ∷ []) []) 14 (13 ∷ [])
     ∷ row (write six (text "AB") (0 ∷ 0 ∷ 1 ∷ 1 ∷ 1 ∷ 1 ∷ []) (replicate 13 7)) 3 (9 ∷ [])
+    -- request 2026-01: "X and a line feed is now the same as X", and so is X with breaks after every terminator, and after an advice
+    ∷ row (judge (x ++ 10 ∷ [])) 0 (text ":+.? '" ++ 5 ∷ 1 ∷ 0 ∷ 93 ∷ [])
+    ∷ row (compare x (x ++ 10 ∷ [])) 0 (1 ∷ [])
+    ∷ row (judge (spaced [] (13 ∷ 10 ∷ []))) 0 (text ":+.? '" ++ 5 ∷ 1 ∷ 0 ∷ 93 ∷ [])
+    ∷ row (compare x (spaced [] (13 ∷ 10 ∷ []))) 0 (1 ∷ [])
+    ∷ row (compare x (spaced (text "UNA:+.? '" ++ 13 ∷ 10 ∷ 10 ∷ []) (10 ∷ 13 ∷ []))) 0 (1 ∷ [])
+    ∷ row (locate (spaced [] (13 ∷ 10 ∷ [])) 2 2 0) 0 (66 ∷ 4 ∷ [])
+    -- no other byte is passed over, and breaks count in the 32,000 bytes
+    ∷ row (judge (x ++ 12 ∷ [])) 5 (85 ∷ [])
+    ∷ row (judge (x ++ replicate 31917 10)) 1 (0 ∷ [])
+    -- 3: after an advice and its breaks; before an advice, or without one, a break is no part of an interchange
+    ∷ row (judge (text "UNA:+.? '" ++ 10 ∷ 10 ∷ [])) 3 (11 ∷ [])
+    ∷ row (judge (10 ∷ text "UNA:+.? '" ++ x)) 3 (0 ∷ [])
+    ∷ row (judge (10 ∷ x)) 3 (0 ∷ [])
+    -- 9 and 5: the input length is that of all that was lent
+    ∷ row (judge (take 75 x ++ 10 ∷ [])) 9 (76 ∷ [])
+    ∷ row (judge (x ++ 10 ∷ 65 ∷ [])) 5 (86 ∷ [])
+    -- places are those after the breaks
+    ∷ row (judge (text unb ++ 10 ∷ text "UNZ+0+R1'")) 9 (33 ∷ [])
+    -- "Inside a segment they remain errors": in a tag and behind it, after a release character, in a value, after a released terminator
+    ∷ row (judge (third (66 ∷ 10 ∷ text "M+220'"))) 6 (54 ∷ [])
+    ∷ row (judge (third (text "BGM" ++ 13 ∷ text "+220'"))) 6 (54 ∷ [])
+    ∷ row (judge (third (text "BGM+220+A?" ++ 10 ∷ text "B'"))) 4 (63 ∷ [])
+    ∷ row (judge (third (text "BGM+" ++ 13 ∷ text "220'"))) 8 (58 ∷ [])
+    ∷ row (judge (third (text "BGM+220+A" ++ 10 ∷ text "B'"))) 8 (63 ∷ [])
+    ∷ row (judge (third (text "BGM+220+A?'" ++ 10 ∷ text "B'"))) 8 (65 ∷ [])
+    -- "No segment of a list may begin with a break. Refusals: 15 at such a record."
+    ∷ row (write six (10 ∷ text "A") (0 ∷ 0 ∷ 2 ∷ []) []) 15 (0 ∷ [])
+    ∷ row (write six (65 ∷ 13 ∷ text "B") (0 ∷ 0 ∷ 1 ∷ 0 ∷ 1 ∷ 2 ∷ 3 ∷ 0 ∷ 1 ∷ []) []) 15 (1 ∷ [])
+    -- an element or a component may, and so may what follows an empty first value
+    ∷ row (write six (65 ∷ 10 ∷ []) (0 ∷ 0 ∷ 1 ∷ 1 ∷ 1 ∷ 1 ∷ []) []) 14 (13 ∷ [])
+    ∷ row (write six (10 ∷ []) (0 ∷ 0 ∷ 0 ∷ 2 ∷ 0 ∷ 1 ∷ []) []) 14 (12 ∷ [])
     ∷ []
 
 unfoldable pub right : Row → Bool

@@ -1,4 +1,4 @@
--- Paper 01 in statements, in the order of its headings: what the definitions say, with the paper's letters and numbers written out.
+-- Paper 01 in statements, in the order of its headings, with requests 2026-01 and 2026-03: what the definitions say, with the paper's letters and numbers written out.
 -- Each field is a theorem; `proofs/PaperWords.antt` proves the records. Assumes nothing.
 --
 -- How to read it. Above a field, or a few, stands the sentence that they say. Names in small letters (`usable`, `tokens`, `allowed`) are definitions
@@ -32,7 +32,7 @@ use Rattle.refusals.specs.Refusals.{number, met}
 use Rattle.values.specs.Tokens.{Token, byte, separator, fault, tokens, Segment, segments, start}
 use Rattle.values.specs.Values.{bytesOf, finished}
 use Rattle.values.specs.Trimming.{trimElement, trimSegment, contentsOf}
-use Rattle.values.specs.Spelling.{Bytes, SegmentList, spellValue, spellSegment, spell}
+use Rattle.values.specs.Spelling.{Bytes, SegmentList, spellValue, spellSegment, spell, spellApart}
 use Rattle.levels.specs.Levels.{inLevelA, inLevelB, levelOf, inLevel}
 use Rattle.segments.specs.declared.Kind.{Kind}
 use Rattle.segments.specs.declared.Kind.the-variants.{Unb, Ung, Unh, Uns, Unt, Une, Unz, User}
@@ -57,7 +57,7 @@ use Rattle.operations.specs.ValueList.{Item, listOf, listBytes, listTable, list
 use Rattle.operations.specs.Read.{valueBytes, valueTable}
 use Rattle.operations.specs.Write.{badList, writtenText, write}
 use Rattle.spelling_laws.specs.Bodies.{wordsOf}
-use Rattle.paper_words.specs.Relations.{six, Usable, Service, advised, NoAdvice, BeginsUnb, Unended, Unseparated, Open, LevelA, LevelB, Names, Reference, Count, Nearest, Marks, Marked, StartsAt, Record, BadTable, BadRecord, SixUsable, LacksRelease, Nowhere, Lowest, Answers}
+use Rattle.paper_words.specs.Relations.{six, Usable, Service, advised, NoAdvice, BeginsUnb, OnlyBreaks, LeadsBreak, Unended, Unseparated, Open, LevelA, LevelB, Names, Reference, Count, Nearest, Marks, Marked, StartsAt, Record, BadTable, BadRecord, SixUsable, LacksRelease, Nowhere, Lowest, Answers}
 
 -- ---- "Service characters"
 
@@ -66,9 +66,12 @@ pub record ServiceCharacters : Type 0 where
   pub usable-when : (c : Characters) → (usable c ≡ true) ↔ Usable c
   -- "From here on a service character is one of these four (three)"
   pub service-character : (c : Characters) (b : ℕ) → (isService c b ≡ true) ↔ Service c b
-  -- "With a service string advice, the input begins `UNA` and six bytes"; "The body is all that follows the advice"
-  pub with-advice : (c : Characters) (rest : List ℕ)
-      → (charactersOf (advised c rest) ≡ c) × (bodyStart (advised c rest) ≡ 9) × (body (advised c rest) ≡ rest)
+  -- "With a service string advice, the input begins `UNA` and six bytes"; "The body is all that follows the advice", after the breaks
+  -- "directly after the service string advice .. however many"
+  pub with-advice : (c : Characters) (gap rest : List ℕ) → OnlyBreaks gap → (LeadsBreak rest → ⊥)
+      → (charactersOf (advised c (gap ++ rest)) ≡ c)
+      × (bodyStart (advised c (gap ++ rest)) ≡ 9 + length gap)
+      × (body (advised c (gap ++ rest)) ≡ rest)
   -- "input that begins `UNB+` uses `:` `+` `.` `?` `'`"
   pub with-plus : (rest : List ℕ)
       → charactersOf (text "UNB+" ++ rest)
@@ -86,10 +89,12 @@ pub record ServiceCharacters : Type 0 where
 pub record Reading (c : Characters) (place : ℕ) : Type 0 where
   pub nothing : tokens c place [] ≡ []
   -- "An unreleased terminator ends a segment, an element separator an element, a component separator a component": ranks 0, 1 and 2
-  pub terminator : (more : List ℕ) → tokens c place (c .terminator ∷ more) ≡ separator 0 place ∷ tokens c (place + 1) more
+  -- breaks "directly after a segment terminator .. are to be passed over, however many"
+  pub terminator : (gap more : List ℕ) → OnlyBreaks gap → (LeadsBreak more → ⊥)
+      → tokens c place (c .terminator ∷ (gap ++ more)) ≡ separator 0 place ∷ tokens c (place + 1 + length gap) more
   pub element : (more : List ℕ) → tokens c place (c .element ∷ more) ≡ separator 1 place ∷ tokens c (place + 1) more
   pub component : (more : List ℕ) → tokens c place (c .component ∷ more) ≡ separator 2 place ∷ tokens c (place + 1) more
-  -- a byte of a value, which is spelled from its own place on
+  -- a byte of a value, which is spelled from its own place on: a break too, where it does not stand directly after a terminator
   pub plain : (b : ℕ) (more : List ℕ) → (Service c b → ⊥) → tokens c place (b ∷ more) ≡ byte b place place ∷ tokens c (place + 1) more
   -- "The release character takes the next byte with it": a byte of a value, which is spelled from the release character on
   pub released : (c .release ≡ 32 → ⊥) → (b : ℕ) (more : List ℕ) → Service c b
@@ -108,6 +113,9 @@ pub record Spelling (c : Characters) : Type 0 where
       → spellSegment c ((u ∷ v ∷ []) ∷ (w ∷ []) ∷ [])
       ≡ spellValue c u ++ c .component ∷ spellValue c v ++ c .element ∷ spellValue c w ++ c .terminator ∷ []
   pub list : (g : List (List Bytes)) (gs : SegmentList) → (spell c [] ≡ []) × (spell c (g ∷ gs) ≡ spellSegment c g ++ spell c gs)
+  -- with something after each segment
+  pub apart : (g : List (List Bytes)) (gs : SegmentList) (gap : Bytes) (between : List Bytes)
+      → (spellApart c [] [] ≡ []) × (spellApart c (g ∷ gs) (gap ∷ between) ≡ spellSegment c g ++ (gap ++ spellApart c gs between))
 
 -- what is read of an input, step by step
 pub record Input (s : List ℕ) : Type 0 where
@@ -383,9 +391,10 @@ pub record PlacesOf (p : ℕ) : Type 0 where
   pub two : (c : Characters) (rest : List ℕ) → List·Memᴰ p (unusableAdvice (advised c rest)) ↔ ((Usable c → ⊥) × (p ≡ 0))
   pub two-short : (rest : List ℕ) → length rest < 6 → unusableAdvice (text "UNA" ++ rest) ≡ 0 ∷ []
   pub two-plain : (s : List ℕ) → NoAdvice s → unusableAdvice s ≡ []
-  -- 3: "the body doesn't begin `UNB` and the element separator (without advice: neither beginning above)": "0, or 9 after an advice"
-  pub three : (c : Characters) (rest : List ℕ)
-      → List·Memᴰ p (noOpening (advised c rest)) ↔ ((BeginsUnb rest (c .element) → ⊥) × (p ≡ 9))
+  -- 3: "the body doesn't begin `UNB` and the element separator (without advice: neither beginning above)": "0, or 9 after an advice", and
+  -- after the breaks that follow it
+  pub three : (c : Characters) (gap rest : List ℕ) → OnlyBreaks gap → (LeadsBreak rest → ⊥)
+      → List·Memᴰ p (noOpening (advised c (gap ++ rest))) ↔ ((BeginsUnb rest (c .element) → ⊥) × (p ≡ 9 + length gap))
   pub three-plain : (s : List ℕ) → NoAdvice s → List·Memᴰ p (noOpening s) ↔ ((BeginsUnb s 43 ⊎ BeginsUnb s 29 → ⊥) × (p ≡ 0))
   -- 4: "the release character"
   pub four : (s : List ℕ) → List·Memᴰ p (strayReleases s) ↔ List·Memᴰ (fault p) (bodyTokens s)
@@ -420,7 +429,8 @@ pub record FineList (bytes table : List ℕ) : Type 0 where
   pub size : length table ≤ 96000
   pub threes : (k : ℕ) × (length table ≡ 3 * k)
   pub first : (kind : ℕ) → at table 0 ≡ some kind → kind ≡ 0
-  pub records : (n kind start size : ℕ) → Record table n kind start size → (kind ≤ 2) × (start + size ≤ length bytes)
+  pub records : (n kind start size : ℕ) → Record table n kind start size
+      → (kind ≤ 2) × (start + size ≤ length bytes) × (kind ≡ 0 → LeadsBreak (take size (drop start bytes)) → ⊥)
 
 -- "Writer: 15, 2, 16, 1, 14, then 3 to 13 as Judge would answer for the text": with which number, at which place
 pub data WriteRefused (service bytes table output : List ℕ) : ℕ → ℕ → Type 0 where

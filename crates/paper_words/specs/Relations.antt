@@ -18,7 +18,7 @@ use Rattle.segments.specs.Tags.{kindOf}
 -- "They are usable when"
 pub use Rattle.characters.specs.Notions.{SeparatorByte, Usable}
 -- "An unreleased terminator ends a segment"; what is open; levels A and B
-pub use Rattle.values.specs.Notions.{Unended}
+pub use Rattle.values.specs.Notions.{Unended, LeadsBreak}
 pub use Rattle.segments.specs.Notions.{Open}
 pub use Rattle.levels.specs.Notions.{LevelA, LevelB, Names}
 -- "A reference", "a count", a trailer's header
@@ -48,6 +48,12 @@ Unseparated ts = (k q : ℕ) → List·Memᴰ (separator k q) ts → ⊥
 -- "begins `UNB`" and a byte
 abbrev pub BeginsUnb : List ℕ → ℕ → Type 0
 BeginsUnb s b = (rest : List ℕ) × (s ≡ text "UNB" ++ b ∷ rest)
+
+-- ---- line breaks (request 2026-01)
+
+-- "Carriage returns and line feeds", any number of them
+abbrev pub OnlyBreaks : List ℕ → Type 0
+OnlyBreaks gap = (b : ℕ) → List·Memᴰ b gap → (b ≡ 13) ⊎ (b ≡ 10)
 
 -- ---- change request 2026-03, "Section markers"
 

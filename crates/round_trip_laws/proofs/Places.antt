@@ -2,7 +2,7 @@
 -- so that a value's spelling lies between its first token and the separator that ends it. Assumes nothing.
 use Prim.Native.Nat.{ℕ, _+_, _-_}
 use mathlib.Core.Path.{_≡_, refl, sym, ap, subst, _∙_}
-use mathlib.Core.Bool.{true, false, true≢false, false≢true}
+use mathlib.Core.Bool.{Bool, true, false, true≢false, false≢true}
 use mathlib.Core.List.{List, [], _∷_, _++_, append-assoc}
 use native.Mathlib.Omega.{arith}
 use lib.ListN.{length, take, drop, length-append}
@@ -16,7 +16,7 @@ use Rattle.values.specs.Tokens.{Token, byte, separator, fault, tokensFrom, toke
 use Rattle.values.specs.Values.{byteOf, bytesOf, endPlace, valueOf, endedBy, endsInside}
 use Rattle.values.specs.Spelling.{Bytes, spellByte, spellValue}
 use Rattle.spelling_laws.specs.Bodies.{endsPart, Sound, Passes}
-use Rattle.spelling_laws.proofs.Tokens.{spellable, spellToken, sayable, Lexed, nothing, next, byte-stands}
+use Rattle.spelling_laws.proofs.Tokens.{spellable, spellToken, sayable, Lexed, nothing, passed, next, byte-stands, lexed-inside}
 use Rattle.spelling_laws.proofs.Laws.{read-tokens}
 use Rattle.round_trip_laws.specs.Trips.{NamesValue}
 use Rattle.round_trip_laws.proofs.Positions.{ends-value}
@@ -47,7 +47,7 @@ module _ (c : Characters) (u : usable c ≡ true) (s : List ℕ) where
 
   value-further : (p b place : ℕ) (ts : List Token) → SpelledAt p b → ValueAt (p + length (spellByte c b)) ts
       → ValueAt p (byte b p place ∷ ts)
-  unfolding isEmpty start placeOf bytesOf byteOf gather spellValue spellToken
+  unfolding isEmpty start placeOf bytesOf byteOf gather spellValue spellToken tokens tokensFrom ends
   value-further p b place ts h v =
       let end : endPlace (byte b p place ∷ ts) ≡ endPlace ts = end-next (byte b p place) ts (v .full) in
       record {
@@ -86,11 +86,28 @@ module _ (c : Characters) (u : usable c ≡ true) (s : List ℕ) where
   drop-more : (p : ℕ) (xs rest : Bytes) → drop p s ≡ xs ++ rest → drop (p + length xs) s ≡ rest
   drop-more p xs rest e = sym (drop-drop (length xs) p s) ∙ ap (drop (length xs)) e ∙ drop-append-seam xs rest
 
+  -- past the breaks in front of them, tokens stand in the input too
+  at-first : {after : Bool} {p : ℕ} {body : Bytes} {ts : List Token} → Lexed c after p body ts → drop p s ≡ body
+      → (q : ℕ) × (more : Bytes) × Lexed c false q more ts × (drop q s ≡ more)
+  at-first {p = p} l e =
+      let (front, more, parts, inside) = lexed-inside c u l in
+      (p + length front, more, inside, drop-more p front more (e ∙ parts))
+
+  -- and so do those after the first
+  past-first : {after : Bool} {p : ℕ} {body : Bytes} {t : Token} {ts : List Token} → Lexed c after p body (t ∷ ts) → after ≡ false → drop p s ≡ body
+      → (q : ℕ) × (more : Bytes) × Lexed c (ends 0 t) q more ts × (drop q s ≡ more)
+  past-first (passed h l) n e = absurd (true≢false n)
+  past-first {p = p} (next {t = t} {rest = rest} st l) n e =
+      (p + length (spellToken c t), rest, l, drop-more p (spellToken c t) rest e)
+
   -- the last tokens of a body that stands in the input stand there too
-  lexed-rest : {p : ℕ} {body : Bytes} (before rest : List Token) → Lexed c p body (before ++ rest) → drop p s ≡ body
-      → (q : ℕ) × (more : Bytes) × Lexed c q more rest × (drop q s ≡ more)
-  lexed-rest {p} {body} [] rest l e = (p, body, l, e)
-  lexed-rest {p} (t ∷ before) rest (next {rest = more} st l) e = lexed-rest before rest l (drop-more p (spellToken c t) more e)
+  lexed-rest : {after : Bool} {p : ℕ} {body : Bytes} (before rest : List Token) → Lexed c after p body (before ++ rest) → drop p s ≡ body
+      → (q : ℕ) × (more : Bytes) × Lexed c false q more rest × (drop q s ≡ more)
+  lexed-rest [] rest l e = at-first l e
+  lexed-rest (t ∷ before) rest l e =
+      let first = at-first l e in
+      let others = past-first (first .2) refl (first .3) in
+      lexed-rest before rest (others .2) (others .3)
 
   ended-rest : (before rest : List Token) → isEmpty rest ≡ false → endsInside (before ++ rest) ≡ false → endedBy 0 rest ≡ true
   unfolding endsInside endedBy lastOr isEmpty
@@ -99,19 +116,20 @@ module _ (c : Characters) (u : usable c ≡ true) (s : List ℕ) where
   ended-rest (x ∷ []) (t ∷ ts) n h = not-false (ends 0 (lastOr t ts)) h
   ended-rest (x ∷ y ∷ before) (t ∷ ts) n h = ended-rest (y ∷ before) (t ∷ ts) n h
 
-  -- the first value of tokens that stand in the input and end in a terminator
-  first-value : {p : ℕ} {body : Bytes} {ts : List Token} → Lexed c p body ts → drop p s ≡ body → endedBy 0 ts ≡ true
-      → ValueAt p (through (ends 2) ts)
+  -- the first value of tokens that stand in the input, with no break in front, and end in a terminator
+  first-value : {after : Bool} {p : ℕ} {body : Bytes} {ts : List Token} → Lexed c after p body ts → after ≡ false → drop p s ≡ body
+      → endedBy 0 ts ≡ true → ValueAt p (through (ends 2) ts)
   unfolding endedBy lastOr through ends sayable placeOf spellToken
-  first-value nothing e h = absurd (false≢true h)
-  first-value {p} (next {t = separator rank q} {ts = ts} st l) e h = rw (st .said, st .placed) (value-alone p rank)
-  first-value (next {t = byte b from place} {ts = []} st l) e h = absurd (false≢true h)
-  first-value {p} (next {t = byte b from place} {rest = rest} {ts = v ∷ vs} st l) e h =
+  first-value nothing n e h = absurd (false≢true h)
+  first-value (passed k l) n e h = absurd (true≢false n)
+  first-value {p = p} (next {t = separator rank q} {ts = ts} st l) n e h = rw (st .said, st .placed) (value-alone p rank)
+  first-value (next {t = byte b from place} {ts = []} st l) n e h = absurd (false≢true h)
+  first-value {p = p} (next {t = byte b from place} {rest = rest} {ts = v ∷ vs} st l) n e h =
       let more : drop (p + length (spellByte c b)) s ≡ rest = drop-more p (spellByte c b) rest e in
       rw (st .placed)
       (value-further p b place (through (ends 2) (v ∷ vs)) (st .said, e ∙ ap (λ (r : Bytes). spellByte c b ++ r) (sym more))
-      (first-value l more h))
-  first-value (next {t = fault place} st l) e h = absurd (false≢true (st .said))
+      (first-value l refl more h))
+  first-value (next {t = fault place} st l) n e h = absurd (false≢true (st .said))
 
   -- every value of a body that passes names its spelling
   pub named-piece : (p : ℕ) (body : Bytes) → Passes c p body → drop p s ≡ body → (spot : Place 3) (piece : List Token)
@@ -122,4 +140,4 @@ module _ (c : Characters) (u : usable c ≡ true) (s : List ℕ) where
       let l = lexed-rest (d .before) (d .rest) (rw (d .parts) at (read-tokens c u p body h)) e in
       subst (λ (ts : List Token). NamesValue c s (valueOf ts)) (d .begins)
       (value-named (l .0) (through (ends 2) (d .rest))
-      (first-value (l .2) (l .3) (ended-rest (d .before) (d .rest) (d .there) (sym (ap endsInside (d .parts)) ∙ h .1))))
+      (first-value (l .2) refl (l .3) (ended-rest (d .before) (d .rest) (d .there) (sym (ap endsInside (d .parts)) ∙ h .1))))

@@ -14,24 +14,20 @@ use Rattle.characters.specs.declared.Characters.{Characters}
 use Rattle.characters.specs.Characters.{between, upper, lower, digit, space, separates, hasRelease, serviceCharacters, isService, usable, sixBytes, adviceOf, spelledOut, bodyStart, badAdvice, opens}
 use Rattle.values.specs.Tokens.{Token, byte, separator, fault}
 use Rattle.values.specs.Spelling.{Bytes, SegmentList, spellByte, spellValue, spellElement, spellSegment, spell}
-use Rattle.control_elements.specs.Control.{referenceDiffers, countWrong}
-use Rattle.stages.specs.Contents.{bodyTokens, segmentsOf, contents, normalCharacters, interchange, normalForm}
-use Rattle.stages.specs.Places.{isOver, tooLong, unusableAdvice, noOpening, brokenTags, level, badControls, differingReferences, wrongCounts, normalTooLong, badControl}
+use Rattle.stages.specs.Contents.{contents, normalCharacters, interchange, normalForm}
+use Rattle.stages.specs.Places.{isOver, tooLong, unusableAdvice, noOpening, normalTooLong}
 use Rattle.stages.specs.Stages.{refusalOf}
-use Rattle.operations.specs.ValueList.{trimList}
-use Rattle.spelling_laws.specs.Bodies.{separatorOf, listed, readList, Passes, Releasable}
+use Rattle.spelling_laws.specs.Bodies.{separatorOf, Releasable}
 use Rattle.spelling_laws.proofs.Tokens.{spellToken}
 use Rattle.spelling_laws.proofs.Listing.{tokensOf, spelled-tokens}
-use Rattle.normal_form_laws.specs.Forms.{markOf, formCharacters, BodyPasses, listRead}
+use Rattle.normal_form_laws.specs.Forms.{markOf, formCharacters}
 use Rattle.refusals.proofs.Stages.{place-none, place-none-not}
-use Rattle.normal_form_laws.proofs.Trimmed.{contents-read, contents-trimmed}
-use Rattle.normal_form_laws.proofs.Openings.{advice-characters, advice-body, advice-good, interchange-passes, interchange-read, interchange-contents}
-use Rattle.normal_form_laws.proofs.Accepted.{Accepted, accepted-exactly, passes-accepted}
-use Rattle.normal_form_laws.proofs.Normal.{contents-shaped, normal-read, normal-passes}
-use Rattle.normal_form_laws.proofs.Tags.{tags-words, all-finished}
-use Rattle.normal_form_laws.proofs.Alike.{Alike, controls-by-contents, references-by-contents, counts-by-contents}
-use Rattle.normal_form_laws.proofs.LevelBytes.{level-bytes}
-use Rattle.normal_form_laws.proofs.Accepting.{same-level, same-named, same-starts, same-order, normal-accepted}
+use Rattle.normal_form_laws.proofs.Trimmed.{contents-trimmed}
+use Rattle.normal_form_laws.proofs.Openings.{advice-characters, advice-good, interchange-body, interchange-passes, interchange-read, interchange-contents}
+use Rattle.normal_form_laws.proofs.Accepted.{Accepted, accepted-exactly}
+use Rattle.normal_form_laws.proofs.Normal.{contents-shaped, contents-unbroken, normal-usable, normal-releasable, normal-read, normal-passes}
+use Rattle.normal_form_laws.proofs.Accepting.{normal-accepted}
+use Rattle.normal_form_laws.proofs.SameList.{same-nowhere}
 use Rattle.refusals.specs.Limits.{mostBytes}
 
 -- ---- the opening
@@ -118,36 +114,6 @@ module _ (mark : ℕ) (c : Characters) (u : usable c ≡ true) where
       (and-both (eqb x b) (begins (w ++ c .element ∷ []) more) (eq-eqb x b (f .1))
       (same-opening w (and-right (not (separates x)) (all (λ x. not (separates x)) w) k) ts (f .2)))
 
--- ---- inputs that are read as the same list
-
-module _ (n t : List ℕ) (nowhere : Accepted n) (passes : BodyPasses n) (passes′ : BodyPasses t) (same : listRead t ≡ listRead n) where
-  alike : Alike (segmentsOf n) (segmentsOf t)
-  unfolding contents
-  alike = contents-read n ∙ ap trimList (sym same) ∙ sym (contents-read t)
-
-  -- 4 to 12 are not met in the other either
-  same-nowhere : tooLong t ≡ [] → unusableAdvice t ≡ [] → noOpening t ≡ [] → normalTooLong t ≡ [] → Accepted t
-  unfolding brokenTags badControls differingReferences wrongCounts segmentsOf bodyTokens readList listed Passes
-  same-nowhere short advice opening normal =
-      let reading = passes-accepted t .1 passes′ in
-      record {
-        short = short;
-        advice = advice;
-        opening = opening;
-        releases = reading .0;
-        ending = reading .1;
-        tags =
-            tags-words [] (segmentsOf t) (all-finished (bodyTokens t) passes′) .1
-            (rw same (tags-words [] (segmentsOf n) (all-finished (bodyTokens n) passes) .0 (nowhere .tags)));
-        level = same-named n t alike (nowhere .level);
-        bytes = level-bytes t .1 (rw (same, ← same-level n t alike) (level-bytes n .0 (nowhere .bytes)));
-        order = same-order n t alike (nowhere .order);
-        controls = same-starts n t alike badControl controls-by-contents (nowhere .controls);
-        references = same-starts n t alike referenceDiffers references-by-contents (nowhere .references);
-        counts = same-starts n t alike countWrong counts-by-contents (nowhere .counts);
-        normal = normal;
-      }
-
 -- ---- other service characters
 
 module _ (s : List ℕ) (accepted : refusalOf s ≡ none) (c : Characters) (u : usable c ≡ true) (r : Releasable c (contents s)) where
@@ -161,7 +127,7 @@ module _ (s : List ℕ) (accepted : refusalOf s ≡ none) (c : Characters) (u : 
   nowhere = accepted-exactly n .0 (normal-accepted s accepted)
 
   pub respelled-contents : contents t ≡ contents s
-  respelled-contents = interchange-contents c (contents s) u (contents-shaped s accepted) r ∙ contents-trimmed s
+  respelled-contents = interchange-contents c (contents s) u (contents-shaped s accepted) r (contents-unbroken s accepted) ∙ contents-trimmed s
 
   respelled-opens : opens t ≡ true
   unfolding opens noOpening interchange normalForm normalCharacters sixBytes separates between upper lower digit all member
@@ -170,9 +136,12 @@ module _ (s : List ℕ) (accepted : refusalOf s ≡ none) (c : Characters) (u : 
       let form : Characters = formCharacters s in
       let opened : opens n ≡ true = place-none-not (opens n) (bodyStart n) .0 (nowhere .opening) in
       let shaped = contents-shaped s accepted in
-      rw (advice-characters c (spell c list), advice-body c (spell c list), ← spelled-tokens c list shaped)
+      let unbroken = contents-unbroken s accepted in
+      let body = interchange-body c list u shaped r unbroken in
+      let form-body = interchange-body form list (normal-usable s accepted) shaped (normal-releasable (markOf s) list) unbroken in
+      rw (advice-characters c (spell c list), body, ← spelled-tokens c list shaped)
       (same-opening (markOf s) c u (text "UNB") refl (tokensOf list)
-      (rw (advice-characters form (spell form list), advice-body form (spell form list), ← spelled-tokens form list shaped) at opened))
+      (rw (advice-characters form (spell form list), form-body, ← spelled-tokens form list shaped) at opened))
 
   -- its normal form is as long as that of s: the mark is one byte, and no spelling goes by it
   respelled-normal : length (normalForm t) ≡ length n
@@ -185,11 +154,12 @@ module _ (s : List ℕ) (accepted : refusalOf s ≡ none) (c : Characters) (u : 
   respelled-accepted h =
       let list : SegmentList = contents s in
       let shaped = contents-shaped s accepted in
+      let unbroken = contents-unbroken s accepted in
       let over : ℕ → Bool = ltb mostBytes in
       let short : over (length n) ≡ false = place-none (over (length n)) 0 .0 (nowhere .short) in
       accepted-exactly t .1
-      (same-nowhere n t nowhere (normal-passes s accepted) (interchange-passes c list u shaped r)
-      (interchange-read c list u shaped r ∙ sym (normal-read s accepted))
+      (same-nowhere n t nowhere (normal-passes s accepted) (interchange-passes c list u shaped r unbroken)
+      (interchange-read c list u shaped r unbroken ∙ sym (normal-read s accepted))
       (place-none (over (length t)) 0 .1 (le-ltb mostBytes (length t) h))
       (place-none (badAdvice t) 0 .1 (advice-good c (spell c list) u))
       (place-none-not (opens t) (bodyStart t) .1 respelled-opens)

@@ -17,11 +17,11 @@ use Rattle.refusals.specs.Refusals.{placeIf}
 use Rattle.refusals.proofs.Stages.{place-none}
 use Rattle.nesting.specs.Nesting.{every, spelled}
 use Rattle.nesting_laws.proofs.Flat.{all-flat, flat-bound}
-use Rattle.values.specs.Spelling.{Bytes, SegmentList, spellValue, spellElement, spellSegment, spell}
+use Rattle.values.specs.Spelling.{Bytes, SegmentList, spellValue, spellElement, spellSegment, spell, leadsBreak}
 use Rattle.operations.specs.ValueList.{Item, listSegment, listOf, Entry, entries, valueIn, listedIn, segmentsListed}
-use Rattle.operations.specs.Write.{numbersWhere, badTable, badEntry, badList, lacksRelease, needsRelease}
+use Rattle.operations.specs.Write.{numbersWhere, badTable, brokenStart, badEntry, badList, lacksRelease, needsRelease}
 use Rattle.spelling_laws.specs.Bodies.{separatorOf, shapedSegment, Shaped, Releasable}
-use Rattle.trimming_laws.specs.Kinds.{firstKind, kindsUpTo2, Kinds}
+use Rattle.trimming_laws.specs.Kinds.{firstKind, kindsUpTo2, Kinds, startsWell, unbrokenStarts}
 use Rattle.trimming_laws.proofs.Nesting.{item, kindOf, listOf-flat, segment-flat, listOf-listed}
 use Rattle.trimming_laws.proofs.Tables.{first-listed}
 use Rattle.normal_form_laws.proofs.Tests.{none-both}
@@ -71,7 +71,24 @@ module _ (bytes table : List ℕ) where
       low e k =
           let high : Bool = ltb 2 (e .kind) in
           let outside : Bool = ltb (length bytes) (e .start + e .size) in
-          le-leb (e .kind) 2 (ltb-false 2 (e .kind) (or-none-left high outside (not-true (high || outside) k)))
+          le-leb (e .kind) 2
+          (ltb-false 2 (e .kind)
+          (or-none-left high outside (or-none-left (high || outside) (brokenStart bytes e) (not-true (badEntry bytes e) k))))
+
+  -- and no value of kind 0 in it begins with a break
+  pub starts-sound : badList bytes table ≡ [] → unbrokenStarts (listedIn bytes table) ≡ true
+  unfolding badList listedIn unbrokenStarts badEntry brokenStart
+  starts-sound h =
+      let parts = append-eq-nil-iff {p = placeIf (badTable table) 0} {q = numbersWhere (badEntry bytes) 0 (entries table)} .0 h in
+      all-map (λ e. record { kind = e .kind; value = valueIn bytes e }) (λ e. not (badEntry bytes e)) startsWell
+      well
+      (entries table)
+      (numbers-none (badEntry bytes) 0 (entries table) .0 (parts .1))
+    where
+      well : (e : Entry) → not (badEntry bytes e) ≡ true → not (eqb (e .kind) 0 && leadsBreak (valueIn bytes e)) ≡ true
+      well e k =
+          let other : Bool = ltb 2 (e .kind) || ltb (length bytes) (e .start + e .size) in
+          ap not (or-none-right other (brokenStart bytes e) (not-true (badEntry bytes e) k))
 
 -- ---- refusal 16
 

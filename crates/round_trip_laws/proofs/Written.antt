@@ -33,14 +33,15 @@ use Rattle.spelling_laws.specs.Bodies.{Shaped, Releasable}
 use Rattle.trimming_laws.specs.Kinds.{Kinds}
 use Rattle.trimming_laws.proofs.Nesting.{shaped-listed, kinds-listOf}
 use Rattle.trimming_laws.proofs.Trimmed.{trimList-again, trimList-shaped}
+use Rattle.trimming_laws.proofs.Starts.{unbroken-listed, trim-unbroken}
 use Rattle.trimming_laws.proofs.Tables.{listed-table, segments-table, listOf-sound}
 use Rattle.normal_form_laws.specs.Forms.{markOf}
 use Rattle.normal_form_laws.proofs.Trimmed.{contents-trimmed, trim-releasable}
 use Rattle.normal_form_laws.proofs.Openings.{advice-characters, advice-good, interchange-contents}
 use Rattle.normal_form_laws.proofs.Accepted.{accepted-exactly}
-use Rattle.normal_form_laws.proofs.Normal.{contents-shaped}
+use Rattle.normal_form_laws.proofs.Normal.{contents-shaped, contents-unbroken}
 use Rattle.round_trip_laws.specs.Trips.{listGiven}
-use Rattle.round_trip_laws.proofs.Values.{kinds-sound, release-exactly, values-bound}
+use Rattle.round_trip_laws.proofs.Values.{kinds-sound, starts-sound, release-exactly, values-bound}
 use Rattle.refusals.specs.Limits.{mostBytes}
 
 -- ---- stages that refuse nothing
@@ -168,6 +169,7 @@ module _ (service bytes table output : List ℕ) where
         interchange-contents (sixBytes service) (trimList list) (six-usable service .0 (p .characters) .1)
         (trimList-shaped list (shaped-listed items kinds))
         (trim-releasable (sixBytes service) list (release-exactly service bytes table kinds .0 (p .releases)))
+        (trim-unbroken list (unbroken-listed items kinds (starts-sound bytes table (p .list))))
         ∙ trimList-again list
 
   -- its service characters are the six bytes
@@ -203,7 +205,7 @@ module _ (s : List ℕ) (accepted : refusalOf s ≡ none) where
   -- 15 does not refuse it
   pub list-sound : badList (valueBytes s) (valueTable s) ≡ []
   unfolding valueBytes valueTable
-  list-sound = listOf-sound (contents s) (contents-shaped s accepted) values-few
+  list-sound = listOf-sound (contents s) (contents-shaped s accepted) (contents-unbroken s accepted) values-few
 
   -- 16 is not met exactly where its contents can be spelled
   pub list-releasable : (service : List ℕ)

@@ -1,5 +1,5 @@
 -- What the scanner says at a place is the token that `values` has there. Assumes nothing.
-use Prim.Native.Nat.{ℕ, _+_, _≤_, _<_}
+use Prim.Native.Nat.{ℕ, zero, suc, _+_, _≤_, _<_}
 use native.Mathlib.Omega.{arith}
 use native.Mathlib.Decide.{decLe}
 use native.Mathlib.Nat.{lt-of-not-le}
@@ -14,12 +14,13 @@ use Rattle.lists.proofs.Texts.{if-true, if-false}
 use Rattle.characters.specs.declared.Characters.{Characters}
 use Rattle.characters.specs.declared.Role.{Role}
 use Rattle.characters.specs.declared.Role.the-variants as role
-use Rattle.characters.specs.Characters.{role as roleIn, hasRelease}
+use Rattle.characters.specs.Characters.{role as roleIn, hasRelease, afterBreaks}
 use Rattle.values.specs.Tokens.{Token, byte, separator, fault, tokensAt}
-use Rattle.values.proofs.Steps.{at-end, at-plain, at-separator, at-last-release, at-stray-release, at-released-release, at-released-separator}
+use Rattle.values.proofs.Steps.{at-end, at-plain, at-terminator, at-separator, at-last-release, at-stray-release, at-released-release, at-released-separator}
 use Rattle.scanner.specs.declared.Lexed.{Lexed}
 use Rattle.scanner.specs.declared.Lexed.the-variants.{Byte, Separator, Stray, End}
-use Rattle.scanner.specs.Scanner.{lexTaken, lexRole, lexAt}
+use Rattle.line_breaks.proofs.Passing.{after-least, after-most}
+use Rattle.scanner.specs.Scanner.{lexSeparator, lexTaken, lexRole, lexAt}
 
 -- there are three ranks of separators
 abbrev Known : Role → Type 0
@@ -39,6 +40,20 @@ role-known c b =
     either true a o k l = k
     either false a o k l = l
 
+-- a separator that is not released, by its rank
+module _ (s : List ℕ) (next rank : ℕ) where
+  pub terminator-is : rank ≡ 0 → Separator rank (afterBreaks s next) ≡ lexSeparator s next rank
+  unfolding lexSeparator
+  terminator-is e = ap (λ (n : ℕ). Separator n (afterBreaks s next)) e ∙ ap (lexSeparator s next) (sym e)
+
+  pub separator-is : (rank ≡ 0 → ⊥) → Separator rank next ≡ lexSeparator s next rank
+  unfolding lexSeparator
+  separator-is h = step rank h
+    where
+      step : (n : ℕ) → (n ≡ 0 → ⊥) → Separator n next ≡ lexSeparator s next n
+      step zero k = absurd (k refl)
+      step (suc n) k = refl
+
 module _ (c : Characters) (s : List ℕ) (at : ℕ) where
   -- after the last byte is the end
   pub lex-end : length s ≤ at → End ≡ lexAt c s at
@@ -51,6 +66,11 @@ module _ (c : Characters) (s : List ℕ) (at : ℕ) where
   lex-role o h e =
       ap (lexRole c s at) (sym e)
       ∙ sym (if-true (ltb at (length s)) (lexRole c s at (roleIn c (getD s at 0))) End (lt-ltb at (length s) h))
+
+  -- a separator, by its rank
+  pub lex-separator : (rank : ℕ) → at < length s → roleIn c (getD s at 0) ≡ role.Separator rank → lexSeparator s (at + 1) rank ≡ lexAt c s at
+  unfolding lexRole
+  lex-separator rank h e = lex-role (role.Separator rank) h e
 
   -- a release character with nothing after it
   pub lex-last : at < length s → length s ≤ at + 1 → roleIn c (getD s at 0) ≡ role.Release → Stray (at + 1) ≡ lexAt c s at
@@ -111,10 +131,21 @@ module _ (c : Characters) (s : List ℕ) (at : ℕ) where
           subst Lexes (lex-taken (roleIn c (getD s (at + 1) 0)) h k e refl ∙ sym (lex-role role.Release h e))
           (lexes-taken (roleIn c (getD s (at + 1) 0)) k e refl)
 
+  -- after a terminator reading goes on past the breaks
+  lexes-separator : (rank : ℕ) → at < length s → roleIn c (getD s at 0) ≡ role.Separator rank → Lexes (lexSeparator s (at + 1) rank)
+  unfolding lexSeparator
+  lexes-separator zero h e = (
+    at-terminator c s at h e,
+    omega (arith, after-least s (at + 1)),
+    after-most s (at + 1) (omega arith),
+    omega arith,
+  )
+  lexes-separator (suc rank) h e =
+      (at-separator c s at rank h e, omega arith, omega arith, subst Known e (role-known c (getD s at 0)))
+
   lexes-role : (o : Role) → at < length s → roleIn c (getD s at 0) ≡ o → Lexes (lexRole c s at o)
   unfolding lexRole
-  lexes-role (role.Separator rank) h e =
-      (at-separator c s at rank h e, omega arith, omega arith, subst Known e (role-known c (getD s at 0)))
+  lexes-role (role.Separator rank) h e = lexes-separator rank h e
   lexes-role role.Release h e = lexes-release h e
   lexes-role role.Plain h e = (at-plain c s at h e, omega arith, omega arith)
 

@@ -1,12 +1,14 @@
 // The scanner: what stands at a place of the input (a byte of a value, a separator, a stray release
-// character, the end) and where reading goes on. It promises the tokens of `values`, one at a time.
+// character, the end) and where reading goes on: after a terminator past the line breaks that follow
+// it. It promises the tokens of `values`, one at a time.
 ghost use mathlib.Core.Path.{_≡_};
 ghost use Rattle.characters.specs.Characters.{role};
-ghost use Rattle.scanner.specs.Scanner.{lexTaken, lexAt};
+ghost use Rattle.scanner.specs.Scanner.{lexSeparator, lexTaken, lexAt};
 ghost use Rattle.values.specs.Tokens.{ends};
 ghost use Rattle.scanner.specs.Scan.{Scans, Skips};
 use characters::Characters;
 use characters::Role;
+use line_breaks::after_breaks;
 
 pub fn role_of(c: Characters, b: u8) -> Role
     ensures { λ r. ⌜ r ≡ role c b ⌝ }
@@ -37,6 +39,19 @@ pub enum Lexed {
     End,
 }
 
+// A separator that is not released, with `next` the place after it.
+fn separated(s: &[u8], rank: u8, next: usize) -> Lexed
+    ensures { λ r. ⌜ r ≡ lexSeparator (now (s .entry)) next rank ⌝ }
+{
+    if rank == 0 {
+        return Lexed::Separator {
+            rank,
+            next: after_breaks(s, next),
+        };
+    }
+    Lexed::Separator { rank, next }
+}
+
 // The byte at `place`, after a release character.
 fn taken(role: Role, byte: u8, place: usize, next: usize) -> Lexed
     ensures { λ r. ⌜ r ≡ lexTaken role byte place next ⌝ }
@@ -57,7 +72,7 @@ pub fn lex(s: &[u8], c: Characters, at: usize) -> Lexed
     let b = s[at];
     let next = at + 1;
     match role_of(c, b) {
-        Role::Separator(rank) => Lexed::Separator { rank, next },
+        Role::Separator(rank) => separated(s, rank, next),
         Role::Plain => Lexed::Byte {
             byte: b,
             place: at,

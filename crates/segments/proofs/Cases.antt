@@ -45,10 +45,11 @@ pub groups-follow : let group : List Kind = Une ∷ Unt ∷ Unh ∷ Ung ∷ Unb 
 unfolding those allowed allowedAt standing isOpen insideMessage groupsIn messagesIn messagesSinceGroup through is
 groups-follow = (refl, refl, refl, refl, refl, refl, refl)
 
--- "the end before UNZ"
+-- "the end before UNZ": a UNB after it would begin another interchange
 pub complete-are : (isComplete [] ≡ false)
     × (isComplete (Unb ∷ []) ≡ false)
     × (isComplete (Unt ∷ Unh ∷ Unb ∷ []) ≡ false)
     × (isComplete (Unz ∷ Unt ∷ Unh ∷ Unb ∷ []) ≡ true)
+    × (isComplete (Unb ∷ Unz ∷ Unt ∷ Unh ∷ Unb ∷ []) ≡ false)
 unfolding isComplete isOpen is
-complete-are = (refl, refl, refl, refl)
+complete-are = (refl, refl, refl, refl, refl)

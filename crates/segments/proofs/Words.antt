@@ -273,11 +273,17 @@ between-allows past =
     alone true h = h
     alone false h = h
 
--- outside of every message, UNT, UNE, UNS and user segments are never allowed; after UNZ nothing is
+-- outside of every message, UNS, UNT and user segments are never allowed, and UNE outside of every group is not; after UNZ nothing is
 pub outside-allows : (past : List Kind)
-    → (allowedAt BetweenGroups past Unt ≡ false) × (allowedAt BetweenGroups past Une ≡ false) × (allowedAt BetweenGroups past User ≡ false)
+    → (allowedAt BetweenGroups past Uns ≡ false)
+    × (allowedAt BetweenGroups past Unt ≡ false)
+    × (allowedAt BetweenGroups past Une ≡ false)
+    × (allowedAt BetweenGroups past User ≡ false)
+    × (allowedAt InGroup past Uns ≡ false)
+    × (allowedAt InGroup past Unt ≡ false)
+    × (allowedAt InGroup past User ≡ false)
 unfolding allowedAt is
-outside-allows past = (refl, refl, refl)
+outside-allows past = (refl, refl, refl, refl, refl, refl, refl)
 
 pub after-allows : (past : List Kind) (kind : Kind) → allowedAt AfterInterchange past kind ≡ false
 unfolding allowedAt

@@ -1,21 +1,24 @@
 -- The laws of reading and spelling under usable service characters (paper 01, "From bytes to values"). Assumes nothing.
 use Prim.Native.Nat.{ℕ, _+_}
-use mathlib.Core.Path.{_≡_, refl, sym, ap, _∙_, subst}
-use mathlib.Core.Bool.{Bool, true, false, not, _||_, true≢false}
-use mathlib.Core.List.{List, _++_, map}
+use mathlib.Core.Path.{_≡_, refl, sym, ap, ap₂, _∙_, subst}
+use mathlib.Core.Bool.{Bool, true, false, not, _||_, true≢false, false≢true}
+use mathlib.Core.List.{List, [], _∷_, _++_, map, append-nil, nil≢cons, head-eq-of-cons-eq, tail-eq-of-cons-eq}
 use mathlib.Core.Logic.{_↔_}
+use native.Mathlib.Omega.{arith}
 use lib.ListN.{length}
-use Rattle.lists.specs.Lists.{all, gather}
+use Rattle.lists.specs.Lists.{isEmpty, all, those, at, maybe, gather, joined, eachLedBy}
+use Rattle.lists.proofs.Texts.{and-left, and-right, and-both}
 use Rattle.nesting.specs.Nesting.{every}
 use Rattle.nesting_laws.proofs.Shape.{every-true}
 use Rattle.characters.specs.declared.Characters.{Characters}
-use Rattle.characters.specs.Characters.{hasRelease, isService, usable}
-use Rattle.values.specs.Tokens.{Token, tokens}
+use Rattle.characters.specs.Characters.{hasRelease, isService, usable, isBreak}
+use Rattle.values.specs.Tokens.{Token, inside, tokensFrom, tokens, ends}
 use Rattle.values.specs.Values.{endsInside}
-use Rattle.values.specs.Spelling.{Bytes, SegmentList, spell}
-use Rattle.spelling_laws.specs.Bodies.{listed, readList, Sound, Passes, Shaped, Releasable, Spelled}
-use Rattle.spelling_laws.proofs.Tokens.{placeless, spellable, spellToken, sayable, Lexed, lexed-tokens, lexed-spelled, lexed-said, lexed-alone, spelled-placeless, said-placeless, said-faultless, spelled-lexed, read-lexed}
-use Rattle.spelling_laws.proofs.Listing.{listed-placeless, tokensOf, listed-tokens, tokens-ended, all-tokens, spelled-tokens, inside-placeless, tokens-listed}
+use Rattle.values.specs.Trimming.{valueAt}
+use Rattle.values.specs.Spelling.{Bytes, SegmentList, spellValue, spellElement, spellSegment, spell, leadsBreak, beginsBroken, spellApart}
+use Rattle.spelling_laws.specs.Bodies.{listed, readList, Sound, Passes, shapedSegment, Shaped, Releasable, Unbroken, Breaks, Spelled}
+use Rattle.spelling_laws.proofs.Tokens.{readingAfter, placeless, unbrokenFrom, unbroken-inside, unbroken-placeless, ended-placeless, afterAll, spellable, spellTokens, sayable, Lexed, Standing, lexed-tokens, lexed-said, lexed-unbroken, lexed-apart, lexed-alone, lexed-start, passing-inside, spelled-placeless, said-placeless, said-faultless, spelled-lexed, spelled-leads, read-lexed}
+use Rattle.spelling_laws.proofs.Listing.{listed-placeless, listed-append, tokensOf, listed-tokens, tokens-ended, all-tokens, apart-tokens, ended-tokens, unbroken-tokens, inside-placeless, tokens-listed}
 
 -- a list can be spelled exactly where each of its bytes can stand in a value
 releasable-exactly : (c : Characters) (list : SegmentList) → Releasable c list ↔ (every (all (spellable c)) 3 list ≡ true)
@@ -27,41 +30,94 @@ releasable-exactly c list = step (hasRelease c) refl
     step true e = (λ h. every-true (λ b. true || not (isService c b)) (λ b. refl) 4 list, λ h k. absurd (true≢false k))
     step false e = (λ h. h refl, λ h k. h)
 
+-- spelled with nothing between, a list is spelled
+pub apart-nothing : (c : Characters) (list : SegmentList) → spellApart c list [] ≡ spell c list
+unfolding spellApart spell gather
+apart-nothing c [] = refl
+apart-nothing c (g ∷ list) = ap (λ (bs : Bytes). spellSegment c g ++ bs) (apart-nothing c list)
+
+-- what follows the same bytes
+append-cancel : (xs : Bytes) {ys zs : Bytes} → xs ++ ys ≡ xs ++ zs → ys ≡ zs
+append-cancel [] e = e
+append-cancel (x ∷ xs) e = append-cancel xs (tail-eq-of-cons-eq e)
+
+-- breaks and what follows them, which does not begin with one
+breaks-apart : (x y more other : Bytes) → all isBreak x ≡ true → all isBreak y ≡ true → leadsBreak more ≡ false → leadsBreak other ≡ false
+    → x ++ more ≡ y ++ other → (x ≡ y) × (more ≡ other)
+unfolding all leadsBreak at maybe
+breaks-apart [] [] more other h k l m e = (refl, e)
+breaks-apart [] (b ∷ y) more other h k l m e =
+    absurd (true≢false (sym (and-left (isBreak b) (all isBreak y) k) ∙ sym (ap leadsBreak e) ∙ l))
+breaks-apart (b ∷ x) [] more other h k l m e =
+    absurd (true≢false (sym (and-left (isBreak b) (all isBreak x) h) ∙ ap leadsBreak e ∙ m))
+breaks-apart (b ∷ x) (d ∷ y) more other h k l m e =
+    let parts = breaks-apart x y more other (and-right (isBreak b) (all isBreak x) h) (and-right (isBreak d) (all isBreak y) k) l m (tail-eq-of-cons-eq e) in
+    (ap₂ _∷_ (head-eq-of-cons-eq e) (parts .0), parts .1)
+
+-- what ends with a byte is not nothing
+ended : (xs : Bytes) (t : ℕ) (ys : Bytes) → [] ≡ (xs ++ t ∷ []) ++ ys → ⊥
+ended [] t ys e = nil≢cons e
+ended (x ∷ xs) t ys e = nil≢cons e
+
 module _ (c : Characters) (u : usable c ≡ true) where
   -- ---- reading what was spelled
 
-  module _ (place : ℕ) (list : SegmentList) (s : Shaped list) (r : Releasable c list) where
-    -- the tokens of the spelling are those of the list, with their places
-    spelling-lexed : (ts : List Token) × Lexed c place (spell c list) ts × (map placeless ts ≡ map placeless (tokensOf list))
-    spelling-lexed =
-        rw (← spelled-tokens c list s)
-        (spelled-lexed c u place (tokensOf list) (all-tokens c list ∙ releasable-exactly c list .0 r))
+  module _ (place : ℕ) (list : SegmentList) (s : Shaped list) (r : Releasable c list) (n : Unbroken list) where
+    tokens-said : all (sayable c) (tokensOf list) ≡ true
+    tokens-said = all-tokens c list ∙ releasable-exactly c list .0 r
+
+    tokens-unbroken : unbrokenFrom true (tokensOf list) ≡ true
+    unfolding Unbroken
+    tokens-unbroken = unbroken-tokens list s ∙ n
+
+    module _ (between : List Bytes) (o : all (all isBreak) between ≡ true) where
+      -- the tokens of the spelling are those of the list, with their places
+      apart-lexed : Standing c u false place (spellApart c list between) (tokensOf list)
+      apart-lexed =
+          rw (← apart-tokens c list between s)
+          (spelled-lexed c u false place (tokensOf list) between tokens-said (unbroken-inside (tokensOf list) tokens-unbroken) o)
+
+      pub apart-passes : Passes c place (spellApart c list between)
+      unfolding Passes Sound tokens
+      apart-passes =
+          let l = apart-lexed in
+          rw (lexed-alone c (l .lexed)) (
+            said-faultless c (l .own) (lexed-said c (l .lexed)),
+            sym (inside-placeless (l .own)) ∙ ap endsInside (l .alike) ∙ inside-placeless (tokensOf list) ∙ tokens-ended list s,
+          )
+
+      pub read-apart : readList c place (spellApart c list between) ≡ list
+      unfolding readList tokens
+      read-apart =
+          let l = apart-lexed in
+          ap listed (lexed-alone c (l .lexed))
+          ∙ sym (listed-placeless (l .own))
+          ∙ ap listed (l .alike)
+          ∙ listed-placeless (tokensOf list)
+          ∙ listed-tokens list s
+
+      -- it does not begin with a break
+      pub apart-leads : leadsBreak (spellApart c list between) ≡ false
+      apart-leads = rw (← apart-tokens c list between s) (spelled-leads c u (tokensOf list) between tokens-said tokens-unbroken)
 
     pub spelling-passes : Passes c place (spell c list)
-    unfolding Passes Sound
-    spelling-passes =
-        let l = spelling-lexed in
-        rw (lexed-alone c (l .1)) (
-          said-faultless c (l .0) (lexed-said c (l .1)),
-          sym (inside-placeless (l .0)) ∙ ap endsInside (l .2) ∙ inside-placeless (tokensOf list) ∙ tokens-ended list s,
-        )
+    unfolding all
+    spelling-passes = subst (Passes c place) (apart-nothing c list) (apart-passes [] refl)
 
     pub read-spelling : readList c place (spell c list) ≡ list
-    unfolding readList
-    read-spelling =
-        let l = spelling-lexed in
-        ap listed (lexed-alone c (l .1))
-        ∙ sym (listed-placeless (l .0))
-        ∙ ap listed (l .2)
-        ∙ listed-placeless (tokensOf list)
-        ∙ listed-tokens list s
+    unfolding all
+    read-spelling = ap (readList c place) (sym (apart-nothing c list)) ∙ read-apart [] refl
+
+    pub spelling-leads : leadsBreak (spell c list) ≡ false
+    unfolding all
+    spelling-leads = ap leadsBreak (sym (apart-nothing c list)) ∙ apart-leads [] refl
 
   -- ---- spelling what was read
 
   module _ (place : ℕ) (body : Bytes) (h : Passes c place body) where
-    pub read-tokens : Lexed c place body (tokens c place body)
-    unfolding Passes Sound
-    read-tokens = read-lexed c u place body (h .0)
+    pub read-tokens : Lexed c false place body (tokens c place body)
+    unfolding Passes Sound tokens
+    read-tokens = read-lexed c u place body false (h .0)
 
     -- its tokens are those of the list that it is read as, which has the shape of one
     read-listed : (tokensOf (readList c place body) ≡ map placeless (tokens c place body)) × Shaped (readList c place body)
@@ -71,12 +127,26 @@ module _ (c : Characters) (u : usable c ≡ true) where
     pub read-shaped : Shaped (readList c place body)
     read-shaped = read-listed .1
 
-    pub spell-read : spell c (readList c place body) ≡ body
+    -- with the breaks that stood between, what was read spells the body
+    pub spell-read : (between : List Bytes) × Breaks (readList c place body) between × (spellApart c (readList c place body) between ≡ body)
     spell-read =
-        sym (spelled-tokens c (readList c place body) read-shaped)
-        ∙ ap (gather (spellToken c)) (read-listed .0)
-        ∙ spelled-placeless c (tokens c place body)
-        ∙ lexed-spelled c read-tokens
+        let list : SegmentList = readList c place body in
+        let a = lexed-apart c read-tokens in (
+          a .between,
+          record {
+            each =
+                a .each
+                ∙ sym (ended-placeless (tokens c place body))
+                ∙ ap (λ (ts : List Token). length (those (ends 0) ts)) (sym (read-listed .0))
+                ∙ ended-tokens list read-shaped;
+            only-breaks = a .only-breaks;
+          },
+          sym (apart-tokens c list (a .between) read-shaped)
+              ∙ ap (λ (ts : List Token). spellTokens c ts (a .between)) (read-listed .0)
+              ∙ spelled-placeless c (tokens c place body) (a .between)
+              ∙ sym (ap (λ (front : Bytes). front ++ spellTokens c (tokens c place body) (a .between)) (a .front-none refl))
+              ∙ a .spelled,
+        )
 
     pub read-releasable : Releasable c (readList c place body)
     read-releasable =
@@ -86,33 +156,127 @@ module _ (c : Characters) (u : usable c ≡ true) where
         ∙ said-placeless c (tokens c place body)
         ∙ lexed-said c read-tokens)
 
-    -- the end of one body and the beginning of the next
-    pub tokens-append : (more : Bytes) → tokens c place (body ++ more) ≡ tokens c place body ++ tokens c (place + length body) more
-    tokens-append more = lexed-tokens c read-tokens more
+    -- a body that does not begin with a break has no segment that does
+    pub read-unbroken : leadsBreak body ≡ false → Unbroken (readList c place body)
+    unfolding Unbroken
+    read-unbroken e =
+        sym (unbroken-tokens (readList c place body) read-shaped)
+        ∙ ap (unbrokenFrom true) (read-listed .0)
+        ∙ unbroken-placeless true (tokens c place body)
+        ∙ lexed-unbroken c (lexed-start c u e read-tokens)
+
+    -- the end of one body and the beginning of the next, which does not begin with a break
+    pub tokens-append : (more : Bytes) → leadsBreak more ≡ false
+        → tokens c place (body ++ more) ≡ tokens c place body ++ tokens c (place + length body) more
+    unfolding tokens
+    tokens-append more e =
+        lexed-tokens c read-tokens more
+        ∙ ap (λ (ts : List Token). tokens c place body ++ ts) (passing-inside c u (afterAll false (tokens c place body)) (place + length body) more e)
 
   -- ---- "The body passes refusals 4 and 5 exactly when some list of segments is spelled by it .. there is then only one such list."
 
-  pub passes-exactly : (place : ℕ) (body : Bytes) → Passes c place body ↔ Spelled c body
+  -- of bodies that do not begin with a break
+  pub passes-exactly : (place : ℕ) (body : Bytes) → (Passes c place body × (leadsBreak body ≡ false)) ↔ Spelled c body
   passes-exactly place body = (
-    λ h. record {
-      list = readList c place body;
-      shaped = read-shaped place body h;
-      releasable = read-releasable place body h;
-      spelled = spell-read place body h;
-    },
-    λ s. subst (Passes c place) (s .spelled) (spelling-passes place (s .list) (s .shaped) (s .releasable)),
+    λ h.
+        let back = spell-read place body (h .0) in
+        record {
+          list = readList c place body;
+          shaped = read-shaped place body (h .0);
+          releasable = read-releasable place body (h .0);
+          unbroken = read-unbroken place body (h .0) (h .1);
+          between = back .0;
+          breaks = back .1;
+          spelled = back .2;
+        },
+    λ s. (
+      subst (Passes c place) (s .spelled)
+          (apart-passes place (s .list) (s .shaped) (s .releasable) (s .unbroken) (s .between) (s .breaks .only-breaks)),
+      sym (ap leadsBreak (s .spelled))
+          ∙ apart-leads place (s .list) (s .shaped) (s .releasable) (s .unbroken) (s .between) (s .breaks .only-breaks),
+    ),
   )
 
   -- the list is the one that the body is read as
-  pub only-one : (body : Bytes) (x y : Spelled c body) → x .list ≡ y .list
-  only-one body x y = sym (back x) ∙ back y
-    where
-      back : (z : Spelled c body) → readList c 0 body ≡ z .list
-      back z = ap (readList c 0) (sym (z .spelled)) ∙ read-spelling 0 (z .list) (z .shaped) (z .releasable)
+  pub list-read : (place : ℕ) (body : Bytes) (x : Spelled c body) → readList c place body ≡ x .list
+  list-read place body x =
+      ap (readList c place) (sym (x .spelled))
+      ∙ read-apart place (x .list) (x .shaped) (x .releasable) (x .unbroken) (x .between) (x .breaks .only-breaks)
 
-  -- two different lists are never spelled alike
+  pub only-one : (body : Bytes) (x y : Spelled c body) → x .list ≡ y .list
+  only-one body x y = sym (list-read 0 body x) ∙ list-read 0 body y
+
+  -- and so are the breaks after each segment
+  between-one : (list : SegmentList) → Shaped list → Releasable c list → Unbroken list → (x y : List Bytes) → Breaks list x → Breaks list y
+      → spellApart c list x ≡ spellApart c list y → x ≡ y
+  unfolding Shaped Releasable Unbroken all spellApart
+  between-one [] s r n [] [] k l e = refl
+  between-one [] s r n (gap ∷ x) y k l e = absurd (omega (arith, k .each))
+  between-one [] s r n [] (gap ∷ y) k l e = absurd (omega (arith, l .each))
+  between-one (g ∷ list) s r n [] y k l e = absurd (omega (arith, k .each))
+  between-one (g ∷ list) s r n (gap ∷ x) [] k l e = absurd (omega (arith, l .each))
+  between-one (g ∷ list) s r n (gap ∷ x) (hap ∷ y) k l e =
+      let s′ : Shaped list = and-right (shapedSegment g) (all shapedSegment list) s in
+      let r′ : Releasable c list = λ f. and-right (every (all (λ b. not (isService c b))) 2 g) (every (all (λ b. not (isService c b))) 3 list) (r f) in
+      let n′ : Unbroken list = and-right (not (beginsBroken g)) (all (λ segment. not (beginsBroken segment)) list) n in
+      let gaps = and-left (all isBreak gap) (all (all isBreak) x) (k .only-breaks) in
+      let haps = and-left (all isBreak hap) (all (all isBreak) y) (l .only-breaks) in
+      let xs = and-right (all isBreak gap) (all (all isBreak) x) (k .only-breaks) in
+      let ys = and-right (all isBreak hap) (all (all isBreak) y) (l .only-breaks) in
+      let parts = breaks-apart gap hap (spellApart c list x) (spellApart c list y) gaps haps (apart-leads 0 list s′ r′ n′ x xs) (apart-leads 0 list s′ r′ n′ y ys)
+      (append-cancel (spellSegment c g) e) in
+      ap₂ _∷_ (parts .0)
+      (between-one list s′ r′ n′ x y (record { each = omega (arith, k .each); only-breaks = xs }) (record { each = omega (arith, l .each); only-breaks = ys })
+      (parts .1))
+
+  pub only-breaks-one : (body : Bytes) (x y : Spelled c body) → x .between ≡ y .between
+  only-breaks-one body x y =
+      let same : x .list ≡ y .list = only-one body x y in
+      between-one (y .list) (y .shaped) (y .releasable) (y .unbroken) (x .between) (y .between)
+      (subst (λ (list : SegmentList). Breaks list (x .between)) same (x .breaks))
+      (y .breaks)
+      (ap (λ (list : SegmentList). spellApart c list (x .between)) (sym same) ∙ x .spelled ∙ sym (y .spelled))
+
+  -- ---- two different lists are never spelled alike, be there segments that begin with a break or not
+
+  -- a segment, whatever follows it: behind an empty element it does not begin with a break, and is then the first that is read
+  first-read : (g : List (List Bytes)) → Shaped (g ∷ []) → Releasable c (g ∷ []) → (more : Bytes)
+      → (rest : SegmentList) × (readList c 0 (c .element ∷ (spellSegment c g ++ more)) ≡ (([] ∷ []) ∷ g) ∷ rest)
+  unfolding Shaped shapedSegment Releasable Unbroken all isEmpty spellApart spellSegment spellElement spellValue gather joined eachLedBy beginsBroken leadsBreak valueAt at maybe readList tokens
+  first-read [] s r more = absurd (false≢true s)
+  first-read (e ∷ es) s r more =
+      let list : SegmentList = (([] ∷ []) ∷ e ∷ es) ∷ [] in
+      let l = apart-lexed 0 list s r refl [] refl in
+      let own : List Token = l .own in
+      let after : List Token = tokensFrom c (readingAfter (afterAll false own)) (0 + length (spellApart c list [])) more in
+      let whole : listed own ≡ list = sym (listed-placeless own) ∙ ap listed (l .alike) ∙ listed-placeless (tokensOf list) ∙ listed-tokens list s in
+      let ended : endsInside own ≡ false = sym (inside-placeless own) ∙ ap endsInside (l .alike) ∙ inside-placeless (tokensOf list) ∙ tokens-ended list s in (
+        listed after,
+        ap (λ (bs : Bytes). listed (tokensFrom c inside 0 (bs ++ more))) (sym (append-nil (c .element ∷ spellSegment c (e ∷ es))))
+            ∙ ap listed (lexed-tokens c (l .lexed) more)
+            ∙ listed-append own after ended
+            ∙ ap (λ (front : SegmentList). front ++ listed after) whole,
+      )
+
   pub spelling-unique : (a b : SegmentList) → Shaped a → Releasable c a → Shaped b → Releasable c b → spell c a ≡ spell c b → a ≡ b
-  spelling-unique a b s r s′ r′ e =
-      only-one (spell c b)
-      (record { list = a; shaped = s; releasable = r; spelled = e })
-      (record { list = b; shaped = s′; releasable = r′; spelled = refl })
+  unfolding Shaped Releasable all spell spellSegment gather
+  spelling-unique [] [] s r s′ r′ e = refl
+  spelling-unique [] (h ∷ b) s r s′ r′ e = absurd (ended (joined (c .element) (map (spellElement c) h)) (c .terminator) (spell c b) e)
+  spelling-unique (g ∷ a) [] s r s′ r′ e = absurd (ended (joined (c .element) (map (spellElement c) g)) (c .terminator) (spell c a) (sym e))
+  spelling-unique (g ∷ a) (h ∷ b) s r s′ r′ e =
+      let first = first-read g (and-both (shapedSegment g) true (and-left (shapedSegment g) (all shapedSegment a) s) refl) (alone g a r) (spell c a) in
+      let other = first-read h (and-both (shapedSegment h) true (and-left (shapedSegment h) (all shapedSegment b) s′) refl) (alone h b r′) (spell c b) in
+      let same : g ≡ h =
+      tail-eq-of-cons-eq (head-eq-of-cons-eq (sym (first .1) ∙ ap (λ (bs : Bytes). readList c 0 (c .element ∷ bs)) e ∙ other .1)) in
+      ap₂ _∷_ same
+      (spelling-unique a b (and-right (shapedSegment g) (all shapedSegment a) s) (others g a r) (and-right (shapedSegment h) (all shapedSegment b) s′) (others h b r′)
+      (append-cancel (spellSegment c g) (e ∙ ap (λ (k : List (List Bytes)). spellSegment c k ++ spell c b) (sym same))))
+    where
+      test : List (List Bytes) → Bool
+      test k = every (all (λ b. not (isService c b))) 2 k
+
+      alone : (k : List (List Bytes)) (l : SegmentList) → Releasable c (k ∷ l) → Releasable c (k ∷ [])
+      alone k l q f = and-both (test k) true (and-left (test k) (all test l) (q f)) refl
+
+      others : (k : List (List Bytes)) (l : SegmentList) → Releasable c (k ∷ l) → Releasable c l
+      others k l q f = and-right (test k) (all test l) (q f)

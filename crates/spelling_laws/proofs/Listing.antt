@@ -1,14 +1,15 @@
 -- The list of segments that tokens hold, and the tokens of such a list: each from the other, by the laws of any depth. Assumes nothing.
 use Prim.Native.Nat.{ℕ, suc, _-_, _≤_}
-use mathlib.Core.Path.{_≡_, refl, sym, ap, fun-ext, _∙_}
+use mathlib.Core.Path.{_≡_, refl, sym, ap, ap₂, fun-ext, _∙_}
 use mathlib.Core.Bool.{Bool, true, false, not, _&&_, false≢true}
-use mathlib.Core.List.{List, [], _∷_, _++_, map}
+use mathlib.Core.List.{List, [], _∷_, _++_, map, map-append, append-assoc, append-nil}
 use native.Mathlib.Omega.{arith}
 use lib.Dec.{leb}
-use borrow.Author.Tests.{le-leb, leb-true, not-false}
-use Rattle.lists.specs.Lists.{isEmpty, all, lastOr, cut, gather}
-use Rattle.lists.proofs.Texts.{and-left, and-right}
-use Rattle.lists.proofs.Pieces.{None}
+use lib.ListN.{length, getD, drop}
+use borrow.Author.Tests.{le-leb, leb-true, not-true, not-false}
+use Rattle.lists.specs.Lists.{isEmpty, all, those, through, beyond, at, maybe, lastOr, onto, cut, gather}
+use Rattle.lists.proofs.Texts.{and-left, and-right, and-both, if-false}
+use Rattle.lists.proofs.Pieces.{None, cut-first}
 use Rattle.nesting.specs.Nesting.{every, nested, written}
 use Rattle.nesting_laws.proofs.Ranks.{depth-less, depth-exact}
 use Rattle.nesting_laws.proofs.Reading.{push, nested-mapped, nested-next}
@@ -16,10 +17,11 @@ use Rattle.nesting_laws.proofs.Writing.{withEnd, Writes, inFront, atLast, Row, 
 use Rattle.characters.specs.declared.Characters.{Characters}
 use Rattle.values.specs.Tokens.{Token, byte, separator, fault, ends, Segment, segments}
 use Rattle.values.specs.Values.{byteOf, bytesOf, valueOf, valuesOf, elementsOf, endedBy, endsInside}
-use Rattle.values.specs.Spelling.{Bytes, SegmentList, spellValue, spellElement, spellSegment, spellByte, spell}
+use Rattle.values.specs.Spelling.{Bytes, SegmentList, spellValue, spellElement, spellSegment, spellByte, spell, leadsBreak, beginsBroken, spellApart}
+use Rattle.values.specs.Trimming.{valueAt}
 use Rattle.values.proofs.Ends.{ends-more}
 use Rattle.spelling_laws.specs.Bodies.{endsPart, separatorOf, wordsOf, listed, shapedSegment, Shaped}
-use Rattle.spelling_laws.proofs.Tokens.{placeless, spellable, spellToken, sayable}
+use Rattle.spelling_laws.proofs.Tokens.{placeless, breaking, unbrokenFrom, ends-placeless, spellable, spellToken, spellTokens, sayable}
 
 -- ---- the list that tokens hold
 
@@ -51,6 +53,24 @@ listed-placeless (t ∷ ts) =
     alike (byte b from place) list = refl
     alike (separator rank place) list = refl
     alike (fault place) list = refl
+
+-- tokens that do not end inside a segment are cut apart from those after them
+pub segments-append : (ts us : List Token) → endsInside ts ≡ false → segments (ts ++ us) ≡ segments ts ++ segments us
+unfolding segments cut onto endsInside endedBy lastOr isEmpty
+segments-append [] us h = refl
+segments-append (t ∷ []) us h = rw (not-false (ends 0 t) h) refl
+segments-append (t ∷ u ∷ ts) us h =
+    ap (onto (ends 0 t) t) (segments-append (u ∷ ts) us h)
+    ∙ rw (cut-first (ends 0) u ts) (step (ends 0 t) (through (ends 0) (u ∷ ts)) (cut (ends 0) (beyond (ends 0) (u ∷ ts))))
+  where
+    step : (b : Bool) (piece : Segment) (pieces : List Segment)
+        → onto b t (piece ∷ (pieces ++ segments us)) ≡ onto b t (piece ∷ pieces) ++ segments us
+    step true piece pieces = refl
+    step false piece pieces = refl
+
+pub listed-append : (ts us : List Token) → endsInside ts ≡ false → listed (ts ++ us) ≡ listed ts ++ listed us
+unfolding listed
+listed-append ts us h = ap (map wordsOf) (segments-append ts us h) ∙ map-append wordsOf (segments ts) (segments us)
 
 -- ---- the tokens of a list
 
@@ -123,14 +143,141 @@ spelled-tokens c list s =
     marks : (end : ℕ) (value : Bytes) → end ≤ 2 → spellToken c (endOf end value) ≡ separatorOf c end ∷ []
     marks end value k = let same : 2 - (2 - end) ≡ end = omega arith in ap (λ (depth : ℕ). separatorOf c depth ∷ []) same
 
--- ---- the tokens of the list that tokens hold
+-- ---- segment by segment
 
--- without its place a token ends what it ended
-ends-placeless : (rank : ℕ) (t : Token) → ends rank (placeless t) ≡ ends rank t
-unfolding placeless ends
-ends-placeless rank (byte b from place) = refl
-ends-placeless rank (separator r place) = refl
-ends-placeless rank (fault place) = refl
+-- the tokens of a segment: some of which none ends it, and its terminator
+segment-tokens : (g : List (List Bytes)) → shapedSegment g ≡ true
+    → (before : List Token) × (tokensOf (g ∷ []) ≡ before ++ separator 0 0 ∷ []) × None (ends 0) before
+unfolding shapedSegment
+segment-tokens g s = let e = written-ended endsPart frontOf endOf 2 less quiet exact 2 2 (omega arith) g s in (e .before, e .parts, e .within)
+
+-- the tokens of a list are those of its first segment, and those of the others
+tokens-cons : (g : List (List Bytes)) (list : SegmentList) → tokensOf (g ∷ list) ≡ tokensOf (g ∷ []) ++ tokensOf list
+tokens-cons g [] = sym (append-nil (tokensOf (g ∷ [])))
+tokens-cons g (h ∷ list) = refl
+
+-- what holds of tokens up to a terminator, and of those after it, holds of the list
+module _ (g : List (List Bytes)) (list : SegmentList) (s : shapedSegment g ≡ true) where
+  parted : (before : List Token) × (tokensOf (g ∷ list) ≡ before ++ separator 0 0 ∷ tokensOf list) × (tokensOf (g ∷ []) ≡ before ++ separator 0 0 ∷ []) × None (ends 0) before
+  parted =
+      let e = segment-tokens g s in (
+        e .0,
+        tokens-cons g list
+            ∙ ap (λ (ts : List Token). ts ++ tokensOf list) (e .1)
+            ∙ append-assoc (e .0) (separator 0 0 ∷ []) (tokensOf list),
+        e .1,
+        e .2,
+      )
+
+-- the first of tokens none of which ends a segment ends none, and so do the others
+module _ (t : Token) (before : List Token) (h : None (ends 0) (t ∷ before)) where
+  first-none : ends 0 t ≡ false
+  unfolding all
+  first-none = not-true (ends 0 t) (and-left (not (ends 0 t)) (all (λ u. not (ends 0 u)) before) h)
+
+  others-none : None (ends 0) before
+  unfolding all
+  others-none = and-right (not (ends 0 t)) (all (λ u. not (ends 0 u)) before) h
+
+-- up to a terminator, tokens are spelled one by one, and then follows what stands after it
+spelled-to-end : (c : Characters) (before rest : List Token) (between : List Bytes) → None (ends 0) before
+    → spellTokens c (before ++ separator 0 0 ∷ rest) between
+    ≡ gather (spellToken c) (before ++ separator 0 0 ∷ []) ++ (getD between 0 [] ++ spellTokens c rest (drop 1 between))
+unfolding spellTokens gather spellToken ends
+spelled-to-end c [] rest between h = refl
+spelled-to-end c (t ∷ before) rest between h =
+    let others : List Token = before ++ separator 0 0 ∷ rest in
+    ap (λ (bs : Bytes). spellToken c t ++ bs)
+    (if-false (ends 0 t) (getD between 0 [] ++ spellTokens c others (drop 1 between)) (spellTokens c others between) (first-none t before h)
+    ∙ spelled-to-end c before rest between (others-none t before h))
+    ∙ sym
+    (append-assoc (spellToken c t) (gather (spellToken c) (before ++ separator 0 0 ∷ []))
+    (getD between 0 [] ++ spellTokens c rest (drop 1 between)))
+
+-- with bytes after each terminator, the tokens of a list spell the list with those bytes after each segment
+pub apart-tokens : (c : Characters) (list : SegmentList) (between : List Bytes) → Shaped list
+    → spellTokens c (tokensOf list) between ≡ spellApart c list between
+unfolding Shaped all spellTokens spellApart spell gather
+apart-tokens c [] between s = refl
+apart-tokens c (g ∷ list) between s =
+    let one : shapedSegment g ≡ true = and-left (shapedSegment g) (all shapedSegment list) s in
+    let e = parted g list one in
+    ap (λ (ts : List Token). spellTokens c ts between) (e .1)
+    ∙ spelled-to-end c (e .0) (tokensOf list) between (e .3)
+    ∙ ap₂ (λ (xs ys : Bytes). xs ++ (getD between 0 [] ++ ys))
+    (sym (ap (gather (spellToken c)) (e .2)) ∙ spelled-tokens c (g ∷ []) (and-both (shapedSegment g) true one refl) ∙ append-nil (spellSegment c g))
+    (apart-tokens c list (drop 1 between) (and-right (shapedSegment g) (all shapedSegment list) s))
+    ∙ step between
+  where
+    step : (between : List Bytes)
+        → spellSegment c g ++ (getD between 0 [] ++ spellApart c list (drop 1 between)) ≡ spellApart c (g ∷ list) between
+    step [] = refl
+    step (gap ∷ between) = refl
+
+-- there is a terminator for each segment
+ended-to-end : (before rest : List Token) → None (ends 0) before
+    → length (those (ends 0) (before ++ separator 0 0 ∷ rest)) ≡ suc (length (those (ends 0) rest))
+unfolding those ends
+ended-to-end [] rest h = refl
+ended-to-end (t ∷ before) rest h =
+    let others : List Token = those (ends 0) (before ++ separator 0 0 ∷ rest) in
+    ap length (if-false (ends 0 t) (t ∷ others) others (first-none t before h)) ∙ ended-to-end before rest (others-none t before h)
+
+pub ended-tokens : (list : SegmentList) → Shaped list → length (those (ends 0) (tokensOf list)) ≡ length list
+unfolding Shaped all those
+ended-tokens [] s = refl
+ended-tokens (g ∷ list) s =
+    let e = parted g list (and-left (shapedSegment g) (all shapedSegment list) s) in
+    ap (λ (ts : List Token). length (those (ends 0) ts)) (e .1)
+    ∙ ended-to-end (e .0) (tokensOf list) (e .3)
+    ∙ ap suc (ended-tokens list (and-right (shapedSegment g) (all shapedSegment list) s))
+
+-- ---- line breaks
+
+-- the first token of a segment is a break exactly where the segment begins with one
+first-breaking : (g : List (List Bytes)) → shapedSegment g ≡ true → maybe false breaking (at (tokensOf (g ∷ [])) 0) ≡ beginsBroken g
+unfolding shapedSegment isEmpty all maybe at breaking beginsBroken valueAt leadsBreak
+first-breaking [] s = absurd (false≢true s)
+first-breaking ([] ∷ es) s = absurd (false≢true s)
+first-breaking (([] ∷ []) ∷ []) s = refl
+first-breaking (([] ∷ []) ∷ e ∷ es) s = refl
+first-breaking (([] ∷ v ∷ vs) ∷ []) s = refl
+first-breaking (([] ∷ v ∷ vs) ∷ e ∷ es) s = refl
+first-breaking (((b ∷ bs) ∷ []) ∷ []) s = refl
+first-breaking (((b ∷ bs) ∷ []) ∷ e ∷ es) s = refl
+first-breaking (((b ∷ bs) ∷ v ∷ vs) ∷ []) s = refl
+first-breaking (((b ∷ bs) ∷ v ∷ vs) ∷ e ∷ es) s = refl
+
+-- inside a segment a break may stand
+unbroken-within : (before rest : List Token) → None (ends 0) before → unbrokenFrom false (before ++ separator 0 0 ∷ rest) ≡ unbrokenFrom true rest
+unfolding unbrokenFrom ends
+unbroken-within [] rest h = refl
+unbroken-within (t ∷ before) rest h =
+    ap (λ (e : Bool). unbrokenFrom e (before ++ separator 0 0 ∷ rest)) (first-none t before h) ∙ unbroken-within before rest (others-none t before h)
+
+unbroken-segment : (before rest : List Token) → None (ends 0) before
+    → unbrokenFrom true (before ++ separator 0 0 ∷ rest)
+    ≡ (not (maybe false breaking (at (before ++ separator 0 0 ∷ []) 0)) && unbrokenFrom true rest)
+unfolding unbrokenFrom ends breaking maybe at
+unbroken-segment [] rest h = refl
+unbroken-segment (t ∷ before) rest h =
+    ap (λ (e : Bool). not (breaking t) && unbrokenFrom e (before ++ separator 0 0 ∷ rest)) (first-none t before h)
+    ∙ ap (λ (b : Bool). not (breaking t) && b) (unbroken-within before rest (others-none t before h))
+
+-- no token of a list that stands directly after a terminator is a break exactly where no segment begins with one
+pub unbroken-tokens : (list : SegmentList) → Shaped list → unbrokenFrom true (tokensOf list) ≡ all (λ g. not (beginsBroken g)) list
+unfolding Shaped all unbrokenFrom
+unbroken-tokens [] s = refl
+unbroken-tokens (g ∷ list) s =
+    let one : shapedSegment g ≡ true = and-left (shapedSegment g) (all shapedSegment list) s in
+    let e = parted g list one in
+    ap (unbrokenFrom true) (e .1)
+    ∙ unbroken-segment (e .0) (tokensOf list) (e .3)
+    ∙ ap₂ (λ (b more : Bool). not b && more)
+    (sym (ap (λ (ts : List Token). maybe false breaking (at ts 0)) (e .2)) ∙ first-breaking g one)
+    (unbroken-tokens list (and-right (shapedSegment g) (all shapedSegment list) s))
+
+-- ---- the tokens of the list that tokens hold
 
 -- tokens that end inside no segment
 pub inside-placeless : (ts : List Token) → endsInside (map placeless ts) ≡ endsInside ts

@@ -1,17 +1,20 @@
 -- What usable service characters are to one another, and which byte plays which part. Assumes nothing.
 use Prim.Native.Nat.{ℕ, zero, suc, _-_, _≤_}
 use mathlib.Core.Path.{_≡_, refl, sym, ap, _∙_}
-use mathlib.Core.Bool.{Bool, true, false, not, _&&_, _||_}
+use mathlib.Core.Bool.{Bool, true, false, not, _&&_, _||_, false≢true}
 use mathlib.Core.List.{List, [], _∷_, _++_}
+use mathlib.Core.Logic.{⊎-elim}
 use lib.Dec.{eqb}
 use native.Mathlib.Omega.{arith}
 use borrow.Author.Tests.{eqb-true, eqb-false, eq-eqb, ne-eqb, not-true}
 use Rattle.lists.specs.Lists.{if_then_else_, text, member, allDiffer, all}
+use Rattle.lists.proofs.Tests.{says-all, says-member, fails}
 use Rattle.lists.proofs.Texts.{and-left, and-right, or-none-left, or-none-right}
 use Rattle.characters.specs.declared.Characters.{Characters}
 use Rattle.characters.specs.declared.Role.{Role}
 use Rattle.characters.specs.declared.Role.the-variants.{Separator, Release, Plain}
-use Rattle.characters.specs.Characters.{space, separates as parts, hasRelease, serviceCharacters, isService, usable, role}
+use Rattle.characters.specs.Characters.{space, between, separates as parts, hasRelease, serviceCharacters, isService, usable, isBreak, role}
+use Rattle.characters.proofs.Words.{break-says}
 use Rattle.spelling_laws.specs.Bodies.{separatorOf}
 
 -- a byte that plays this part is a service character
@@ -140,3 +143,21 @@ module _ (c : Characters) (u : usable c ≡ true) where
         r,
         eq-eqb (c .release) (c .release) refl,
       )
+
+  -- no service character is a line break
+  pub service-no-break : (b : ℕ) → isService c b ≡ true → isBreak b ≡ false
+  unfolding usable isService parts between member
+  service-no-break b h =
+      fails (isBreak b) (break-says b) .1 (⊎-elim (λ e. never 13 refl e) (λ e. never 10 refl e))
+    where
+      separating : parts b ≡ true
+      separating =
+          let front : Bool = eqb (c .reserved) space && member (c .mark) (text ".,") in
+          let separate : Bool = all parts (serviceCharacters c) in
+          says-all parts (λ x. (λ e. e, λ e. e)) (serviceCharacters c) .0
+          (and-right front separate (and-left (front && separate) (allDiffer (c .mark ∷ serviceCharacters c)) u))
+          b
+          (says-member b (serviceCharacters c) .0 h)
+
+      never : (x : ℕ) → parts x ≡ false → b ≡ x → ⊥
+      never x f e = false≢true (sym f ∙ sym (ap parts e) ∙ separating)

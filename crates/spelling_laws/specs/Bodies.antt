@@ -4,13 +4,14 @@ use Prim.Native.Nat.{ℕ, zero, suc}
 use mathlib.Core.Path.{_≡_}
 use mathlib.Core.Bool.{Bool, true, false, not}
 use mathlib.Core.List.{List, map}
+use lib.ListN.{length}
 use Rattle.lists.specs.Lists.{all}
 use Rattle.nesting.specs.Nesting.{shaped, every, byDepth}
 use Rattle.characters.specs.declared.Characters.{Characters}
-use Rattle.characters.specs.Characters.{hasRelease, isService}
+use Rattle.characters.specs.Characters.{hasRelease, isService, isBreak}
 use Rattle.values.specs.Tokens.{Token, Segment, ends, segments, tokens}
 use Rattle.values.specs.Values.{elementsOf, isFault, endsInside}
-use Rattle.values.specs.Spelling.{Bytes, SegmentList, spell}
+use Rattle.values.specs.Spelling.{Bytes, SegmentList, beginsBroken, spellApart}
 
 -- ---- by depth: a value is of depth 0, an element of depth 1, a segment of depth 2
 
@@ -57,9 +58,23 @@ Shaped list = all shapedSegment list ≡ true
 unfoldable pub Releasable : Characters → SegmentList → Type 0
 Releasable c list = hasRelease c ≡ false → every (all (λ b. not (isService c b))) 3 list ≡ true
 
--- "some list of segments is spelled by it, each service character inside a value being released and nothing else"
+-- "No segment of a list may begin with a break."
+unfoldable pub Unbroken : SegmentList → Type 0
+Unbroken list = all (λ segment. not (beginsBroken segment)) list ≡ true
+
+-- for each segment of the list, the line breaks that stand after it, perhaps none: "Carriage returns and line feeds directly after a
+-- segment terminator .. however many"
+pub record Breaks (list : SegmentList) (between : List Bytes) : Type 0 where
+  pub each : length between ≡ length list
+  pub only-breaks : all (all isBreak) between ≡ true
+
+-- "some list of segments is spelled by it, each service character inside a value being released and nothing else", with line breaks after
+-- its segments
 pub record Spelled (c : Characters) (body : Bytes) : Type 0 where
   pub list : SegmentList
   pub shaped : Shaped list
   pub releasable : Releasable c list
-  pub spelled : spell c list ≡ body
+  pub unbroken : Unbroken list
+  pub between : List Bytes
+  pub breaks : Breaks list between
+  pub spelled : spellApart c list between ≡ body

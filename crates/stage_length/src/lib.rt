@@ -7,13 +7,14 @@ ghost use lib.ListN.{length};
 ghost use Rattle.stages.specs.Contents.{normalCharacters};
 ghost use Rattle.values.specs.Tokens.{tokensAt};
 ghost use Rattle.emission_laws.specs.Emission.{nothing, emitted};
-ghost use Rattle.verbatim.specs.Verbatim.{faultless};
+ghost use Rattle.verbatim.specs.Verbatim.{faultless, visible};
 ghost use Rattle.refusals.specs.Limits.{mostBytes};
 use characters::Characters;
 use emission_laws::Measure;
 use held_separators::nothing_held;
 use held_separators::with_byte;
 use held_separators::with_separator;
+use line_breaks::unbroken_length;
 use scanner::Lexed;
 use scanner::lex;
 use verbatim::is_verbatim;
@@ -55,13 +56,13 @@ fn measured_by_token(s: &[u8], c: Characters, start: usize, n: Characters) -> us
 }
 
 // How long the contents of the body that begins at `start` are. A body that is already spelled as in
-// its normal form has that length.
+// its normal form, but for line breaks, has the length that it has without them.
 pub fn measured(s: &[u8], c: Characters, start: usize) -> usize
-    requires { ⌜ (length (now s) ≤ mostBytes) × (start ≤ length (now s)) × (faultless (tokensAt c (now s) start) ≡ true) ⌝ }
+    requires { ⌜ (length (now s) ≤ mostBytes) × (faultless (tokensAt c (now s) start) ≡ true) × (visible (tokensAt c (now s) start) ≡ true) ⌝ }
     ensures { λ r. ⌜ r ≡ length (emitted (normalCharacters (c .mark)) nothing (tokensAt c (now (s .entry)) start)) ⌝ }
 {
     if is_verbatim(s, c, start) {
-        return s.len() - start;
+        return unbroken_length(s, start);
     }
     measured_by_token(s, c, start, normal_characters(c.mark))
 }

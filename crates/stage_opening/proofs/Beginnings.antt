@@ -3,14 +3,15 @@ use Prim.Native.Nat.{ℕ, _+_, _≤_, _<_, zero-le, suc-le-suc}
 use mathlib.Core.Path.{_≡_, refl, sym, ap, _∙_}
 use mathlib.Core.Bool.{Bool, true, false, not, _&&_, _||_, and-assoc, and-true, false≢true}
 use mathlib.Core.List.{List, [], _∷_, _++_}
+use native.Mathlib.Nat.{add-zero}
 use native.Mathlib.Omega.{arith}
 use lib.ListN.{length, getD, drop, drop-of-length-le, length-drop}
 use lib.Seq.{drop-cons, drop-drop, getD-drop}
-use lib.Dec.{eqb, ltb, lit≤}
+use lib.Dec.{eqb, ltb}
 use Rattle.lists.specs.Lists.{if_then_else_, text, begins}
-use Rattle.lists.proofs.Texts.{and-right}
+use Rattle.lists.proofs.Texts.{and-right, if-true}
 use Rattle.characters.specs.declared.Characters.{Characters}
-use Rattle.characters.specs.Characters.{sixBytes, advised, usable, plusCharacters, controlCharacters, charactersOf, bodyStart, body, badAdvice, opens}
+use Rattle.characters.specs.Characters.{sixBytes, advised, usable, plusCharacters, controlCharacters, charactersOf, afterBreaks, bodyStart, body, badAdvice, opens}
 
 -- a text in two parts: the second stands after the first
 pub begins-append : (ps qs xs : List ℕ) → begins (ps ++ qs) xs ≡ (begins ps xs && begins qs (drop (length ps) xs))
@@ -34,9 +35,11 @@ module _ (s : List ℕ) (at : ℕ) where
       begins-append ps qs (drop at s) ∙ ap (λ (l : List ℕ). begins ps (drop at s) && begins qs l) (drop-drop (length ps) at s)
 
   -- `UN` and a third byte, each asked for at its own place
-  pub begins-tag : (third : ℕ) {u n t : Bool} → u ≡ begins (text "U") (drop at s) → n ≡ begins (text "N") (drop (at + 1) s)
+  pub begins-tag : (third : ℕ) {u n t : Bool} → u ≡ begins (text "U") (drop (at + 0) s) → n ≡ begins (text "N") (drop (at + 1) s)
       → t ≡ begins (third ∷ []) (drop (at + 2) s) → (u && n && t) ≡ begins (text "UN" ++ third ∷ []) (drop at s)
-  begins-tag third e f g = cc (begins-at (text "UN") (third ∷ []), begins-at (text "U") (text "N"), e, f, g)
+  begins-tag third e f g =
+      let first = ap (λ (n : ℕ). begins (text "U") (drop n s)) (add-zero at) in
+      cc (begins-at (text "UN") (third ∷ []), begins-at (text "U") (text "N"), first, e, f, g)
 
   module _ (b : ℕ) where
     -- no byte stands after the last
@@ -71,21 +74,13 @@ module _ (s : List ℕ) where
   unfolding charactersOf
   characters-control e f = simp (e, f)
 
-  pub start-advised : advised s ≡ true → 9 ≡ bodyStart s
+  pub start-advised : advised s ≡ true → {start : ℕ} → start ≡ afterBreaks s 9 → start ≡ bodyStart s
   unfolding bodyStart
-  start-advised e = simp e
+  start-advised e d = d ∙ sym (if-true (advised s) (afterBreaks s 9) 0 e)
 
   pub start-plain : advised s ≡ false → 0 ≡ bodyStart s
   unfolding bodyStart
   start-plain e = simp e
-
-  pub start-small : bodyStart s ≤ 9
-  unfolding bodyStart
-  start-small = step (advised s)
-    where
-      step : (t : Bool) → (if t then 9 else 0) ≤ 9
-      step true = lit≤ tt
-      step false = lit≤ tt
 
   pub bad-advice-tests : {c : Characters} {advice fit : Bool} → advice ≡ advised s → c ≡ charactersOf s → fit ≡ usable c
       → (advice && (ltb (length s) 9 || not fit)) ≡ badAdvice s

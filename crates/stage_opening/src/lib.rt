@@ -5,12 +5,13 @@
 ghost use mathlib.Core.Path.{_≡_};
 ghost use mathlib.Core.Bool.{not};
 ghost use mathlib.Core.List.{[], _∷_, _++_};
-ghost use Prim.Native.Nat.{_≤_};
+ghost use Prim.Native.Nat.{_+_};
 ghost use lib.ListN.{getD, drop};
 ghost use Rattle.lists.specs.Lists.{text, begins, member, allDiffer};
 ghost use Rattle.characters.specs.Characters.{between, separates, usable, advised, charactersOf, bodyStart, badAdvice, opens};
 ghost use Rattle.stage_opening.specs.Runs.{progress};
 use characters::Characters;
+use line_breaks::after_breaks;
 use refusals::Fault;
 use refusals::Refusal;
 use segments::Walk;
@@ -76,22 +77,24 @@ fn byte_at(s: &[u8], at: usize) -> u8
     s[at]
 }
 
-// The byte stands at a place.
-fn byte_stands(s: &[u8], at: usize, b: u8) -> bool
-    ensures { λ r. ⌜ r ≡ begins (b ∷ []) (drop at (now (s .entry))) ⌝ }
+// The byte stands so many bytes after a place.
+fn byte_stands(s: &[u8], at: usize, after: usize, b: u8) -> bool
+    ensures { λ r. ⌜ r ≡ begins (b ∷ []) (drop (at + after) (now (s .entry))) ⌝ }
 {
     if s.len() <= at {
         return false;
     }
-    b == s[at]
+    if s.len() - at <= after {
+        return false;
+    }
+    b == s[at + after]
 }
 
 // `UN` and a third byte stand at a place.
 fn tag_stands(s: &[u8], at: usize, third: u8) -> bool
-    requires { ⌜ at ≤ 9 ⌝ }
     ensures { λ r. ⌜ r ≡ begins (text "UN" ++ third ∷ []) (drop at (now (s .entry))) ⌝ }
 {
-    byte_stands(s, at, b'U') & byte_stands(s, at + 1, b'N') & byte_stands(s, at + 2, third)
+    byte_stands(s, at, 0, b'U') & byte_stands(s, at, 1, b'N') & byte_stands(s, at, 2, third)
 }
 
 fn is_advised(s: &[u8]) -> bool
@@ -113,7 +116,7 @@ fn characters_of(s: &[u8]) -> Characters
             terminator: byte_at(s, 8),
         };
     }
-    if tag_stands(s, 0, b'B') & byte_stands(s, 3, b'+') {
+    if tag_stands(s, 0, b'B') & byte_stands(s, 0, 3, b'+') {
         return Characters {
             component: b':',
             element: b'+',
@@ -133,11 +136,12 @@ fn characters_of(s: &[u8]) -> Characters
     }
 }
 
+// The body follows the advice and the line breaks after it, or is the whole input.
 pub fn body_start(s: &[u8]) -> usize
     ensures { λ r. ⌜ r ≡ bodyStart (now (s .entry)) ⌝ }
 {
     if is_advised(s) {
-        return 9;
+        return after_breaks(s, 9);
     }
     0
 }
@@ -154,7 +158,7 @@ fn is_opening(s: &[u8]) -> bool
 {
     let start = body_start(s);
     let c = characters_of(s);
-    tag_stands(s, start, b'B') & byte_stands(s, start + 3, c.element)
+    tag_stands(s, start, b'B') & byte_stands(s, start, 3, c.element)
 }
 
 // What a run of stages finds of an input: its service characters and where its body begins; the level

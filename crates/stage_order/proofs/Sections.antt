@@ -7,7 +7,6 @@ use mathlib.Core.Option.{none, some}
 use Rattle.lists.specs.Lists.{if_then_else_, same, maybe}
 use Rattle.characters.specs.declared.Characters.{Characters}
 use Rattle.values.specs.Tokens.{Token, tokensAt}
-use Rattle.segments.specs.declared.Section.{Section}
 use Rattle.segments.specs.declared.Section.the-variants.{None}
 use Rattle.control_elements.specs.Sections.{sectionNamed, sectionOf}
 use Rattle.scanner.specs.Scan.{segmentAt}

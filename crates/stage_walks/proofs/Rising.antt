@@ -1,17 +1,16 @@
 -- The places of an input's tokens rise, and so do those of its segments. Assumes nothing.
-use Prim.Native.Nat.{ℕ, _+_, _-_, _≤_, _<_}
+use Prim.Native.Nat.{ℕ, zero, suc, _+_, _-_, _≤_, _<_}
 use mathlib.Core.Bool.{Bool, true, false}
 use mathlib.Core.List.{List, [], _∷_}
-use mathlib.Core.Option.{Option, none, some}
 use native.Mathlib.Nat.{le-refl}
 use native.Mathlib.Omega.{arith}
 use lib.ListN.{length, drop, length-drop}
-use Rattle.lists.specs.Lists.{onto, cut}
+use Rattle.lists.specs.Lists.{if_then_else_, onto, cut}
 use Rattle.characters.specs.declared.Characters.{Characters}
 use Rattle.characters.specs.declared.Role.{Role}
 use Rattle.characters.specs.declared.Role.the-variants.{Separator, Release, Plain}
-use Rattle.characters.specs.Characters.{role, charactersOf, bodyStart, body}
-use Rattle.values.specs.Tokens.{Token, byte, separator, fault, unreleased, releasing, taken, tokensFrom, tokens, ends, placeOf, Segment, segments, start}
+use Rattle.characters.specs.Characters.{role, charactersOf, isBreak, bodyStart, body}
+use Rattle.values.specs.Tokens.{Token, byte, separator, fault, Reading, inside, released, passing, unreleased, reading, taken, tokensFrom, tokens, ends, placeOf, Segment, segments, start}
 use Rattle.stages.specs.Contents.{bodyTokens, segmentsOf}
 use Rattle.stage_walks.proofs.Rows.{Climbs, end, on}
 
@@ -31,40 +30,66 @@ Rising = Climbs Lies
 
 -- ---- tokens
 
--- what may stand directly before a place, from `low` on: nothing, or a release character
-abbrev Before : ℕ → ℕ → ℕ → Option ℕ → Type 0
-Before low high place none = (low ≤ place) × (low ≤ high)
-Before low high place (some from) = (low ≤ from) × (from < place) × (place ≤ high)
+-- what may stand directly before a place, from `low` on: nothing that counts, or a release character
+abbrev Before : ℕ → ℕ → ℕ → Reading → Type 0
+Before low high place inside = (low ≤ place) × (low ≤ high)
+Before low high place (released from) = (low ≤ from) × (from < place) × (place ≤ high)
+Before low high place passing = (low ≤ place) × (low ≤ high)
 
 -- the tokens of bytes that end at `high` rise
-tokens-rise : (c : Characters) (high : ℕ) (before : Option ℕ) (place : ℕ) (bs : List ℕ) (low : ℕ)
-    → Before low high place before → length bs ≤ high - place → Rising low high (tokensFrom c before place bs)
-unfolding tokensFrom unreleased releasing taken placeOf lastPlace
-tokens-rise c high none place [] low h fits = end (h .1)
-tokens-rise c high (some from) place [] low h fits = on low place (fault from) (omega arith) (omega arith) (end (h .2))
-tokens-rise c high none place (b ∷ bs) low h fits =
-    step (role c b) (λ before low k. tokens-rise c high before (place + 1) bs low k (omega arith))
-  where
-    step : (r : Role)
-        → ((before : Option ℕ) (low : ℕ) → Before low high (place + 1) before → Rising low high (tokensFrom c before (place + 1) bs))
-        → Rising low high (unreleased r b place (tokensFrom c (releasing r place) (place + 1) bs))
-    step (Separator rank) rest = on low (place + 1) (separator rank place) (omega arith) (omega arith) (rest none (place + 1) (omega arith))
-    step Release rest = rest (some place) low (omega arith)
-    step Plain rest = on low (place + 1) (byte b place place) (omega arith) (omega arith) (rest none (place + 1) (omega arith))
-tokens-rise c high (some from) place (b ∷ bs) low h fits =
-    step (role c b) (tokens-rise c high none (place + 1) bs (place + 1) (omega arith) (omega arith))
-  where
-    step : (r : Role) → Rising (place + 1) high (tokensFrom c none (place + 1) bs)
-        → Rising low high (taken r b from place (tokensFrom c none (place + 1) bs))
-    step (Separator rank) rest = on low (place + 1) (byte b from place) (omega arith) (omega arith) rest
-    step Release rest = on low (place + 1) (byte b from place) (omega arith) (omega arith) rest
-    step Plain rest = on low (place + 1) (fault from) (omega arith) (omega arith) rest
+module _ (c : Characters) (high : ℕ) where
+  -- from the next place on
+  abbrev Onward : ℕ → List ℕ → Type 0
+  Onward place bs = (r : Reading) (low : ℕ) → Before low high (place + 1) r → Rising low high (tokensFrom c r (place + 1) bs)
+
+  -- an unreleased byte
+  first : (place b : ℕ) (bs : List ℕ) (low : ℕ) → low ≤ place → place < high → Onward place bs
+      → Rising low high (unreleased (role c b) b place (tokensFrom c (reading (role c b) place) (place + 1) bs))
+  unfolding unreleased reading placeOf lastPlace
+  first place b bs low l below rest = step (role c b)
+    where
+      step : (r : Role) → Rising low high (unreleased r b place (tokensFrom c (reading r place) (place + 1) bs))
+      step (Separator zero) = on low (place + 1) (separator 0 place) (omega arith) (omega arith) (rest passing (place + 1) (omega arith))
+      step (Separator (suc rank)) =
+          on low (place + 1) (separator (suc rank) place) (omega arith) (omega arith) (rest inside (place + 1) (omega arith))
+      step Release = rest (released place) low (omega arith)
+      step Plain = on low (place + 1) (byte b place place) (omega arith) (omega arith) (rest inside (place + 1) (omega arith))
+
+  -- a byte after a release character
+  second : (from place b : ℕ) (bs : List ℕ) (low : ℕ) → low ≤ from → from < place → place < high → Onward place bs
+      → Rising low high (taken (role c b) b from place (tokensFrom c inside (place + 1) bs))
+  unfolding taken placeOf lastPlace
+  second from place b bs low l before below rest = step (role c b) (rest inside (place + 1) (omega arith))
+    where
+      step : (r : Role) → Rising (place + 1) high (tokensFrom c inside (place + 1) bs)
+          → Rising low high (taken r b from place (tokensFrom c inside (place + 1) bs))
+      step (Separator rank) more = on low (place + 1) (byte b from place) (omega arith) (omega arith) more
+      step Release more = on low (place + 1) (byte b from place) (omega arith) (omega arith) more
+      step Plain more = on low (place + 1) (fault from) (omega arith) (omega arith) more
+
+  tokens-rise : (r : Reading) (place : ℕ) (bs : List ℕ) (low : ℕ)
+      → Before low high place r → length bs ≤ high - place → Rising low high (tokensFrom c r place bs)
+  unfolding tokensFrom placeOf lastPlace
+  tokens-rise inside place [] low h fits = end (h .1)
+  tokens-rise (released from) place [] low h fits = on low place (fault from) (omega arith) (omega arith) (end (h .2))
+  tokens-rise passing place [] low h fits = end (h .1)
+  tokens-rise inside place (b ∷ bs) low h fits =
+      first place b bs low (h .0) (omega arith) (λ r low k. tokens-rise r (place + 1) bs low k (omega arith))
+  tokens-rise (released from) place (b ∷ bs) low h fits =
+      second from place b bs low (h .0) (h .1) (omega arith) (λ r low k. tokens-rise r (place + 1) bs low k (omega arith))
+  tokens-rise passing place (b ∷ bs) low h fits =
+      step (isBreak b) (tokens-rise passing (place + 1) bs low (omega arith) (omega arith))
+      (first place b bs low (h .0) (omega arith) (λ r low k. tokens-rise r (place + 1) bs low k (omega arith)))
+    where
+      step : (t : Bool) {ts us : List Token} → Rising low high ts → Rising low high us → Rising low high (if t then ts else us)
+      step true p q = p
+      step false p q = q
 
 -- the tokens of an input's body rise, below its length; where the input ends before its body would begin, there are none
 pub body-rises : (s : List ℕ) → Rising 0 (length s) (bodyTokens s)
 unfolding bodyTokens tokens body
 body-rises s =
-    tokens-rise (charactersOf s) (length s) none (bodyStart s) (drop (bodyStart s) s) 0 (omega arith) (omega (arith, length-drop (bodyStart s) s))
+    tokens-rise (charactersOf s) (length s) inside (bodyStart s) (drop (bodyStart s) s) 0 (omega arith) (omega (arith, length-drop (bodyStart s) s))
 
 -- ---- segments
 

@@ -1,5 +1,5 @@
 -- The places at which an input meets each of 1 to 13, and the normal form byte by byte. Assumes nothing.
-use Prim.Native.Nat.{ℕ, _<_}
+use Prim.Native.Nat.{ℕ, _+_, _<_}
 use mathlib.Core.Path.{_≡_, refl, sym, ap, _∙_}
 use mathlib.Core.Bool.{Bool, true, false, not, _&&_}
 use mathlib.Core.List.{List, [], _∷_, _++_, map, reverseAux, nil≢cons, head-eq-of-cons-eq, tail-eq-of-cons-eq, List·Memᴰ, List·Memᴰ·head, List·Memᴰ·not-nil, List·Memᴰ·eq-of-singleton, List·Memᴰ·append-cases, Memᴰ·append-left, Memᴰ·append-right, Memᴰ·cast}
@@ -8,11 +8,11 @@ use mathlib.Core.Logic.{_⊎_, inl, inr, ⊎-elim, _↔_}
 use native.Mathlib.Omega.{arith}
 use lib.Dec.{ltb}
 use borrow.Author.Tests.{not-true}
-use lib.ListN.{length}
+use lib.ListN.{length, drop}
 use Rattle.lists.specs.Lists.{all, those, at, maybe}
 use Rattle.lists.proofs.Tests.{Says, says-lt, says-not, fails, gathered}
 use Rattle.characters.specs.declared.Characters.{Characters}
-use Rattle.characters.specs.Characters.{sixBytes, spelledOut, adviceOf, charactersOf, bodyStart, body, badAdvice, opens}
+use Rattle.characters.specs.Characters.{sixBytes, spelledOut, adviceOf, charactersOf, breaks, bodyStart, body, badAdvice, opens}
 use Rattle.characters.proofs.Words.{Usable, advising, advised-opening, advised-bad, advised-opens, short-bad, plain-opening, plain-opens}
 use Rattle.refusals.specs.declared.Fault.the-variants.{TooLong, UnusableAdvice, NoOpening, StrayRelease, UnendedSegment, BrokenTag, ForeignLevel, OutsideLevel, MisplacedSegment, BadControl, ReferenceDiffers, CountWrong, NormalTooLong}
 use Rattle.refusals.specs.Refusals.{met, placeIf}
@@ -57,11 +57,11 @@ module _ (c : Characters) (rest : List ℕ) (p : ℕ) where
   two-advised = place-says (badAdvice (advising c rest)) 0 p (advised-bad c rest)
 
   pub three-advised : List·Memᴰ p (noOpening (advising c rest))
-      ↔ ((((more : List ℕ) × (rest ≡ 85 ∷ 78 ∷ 66 ∷ c .element ∷ more)) → ⊥) × (p ≡ 9))
+      ↔ ((((more : List ℕ) × (drop (breaks rest) rest ≡ 85 ∷ 78 ∷ 66 ∷ c .element ∷ more)) → ⊥) × (p ≡ 9 + breaks rest))
   unfolding noOpening
   three-advised =
       rw (advised-opening c rest .1)
-      (place-says (not (opens (advising c rest))) 9 p (says-not (opens (advising c rest)) (advised-opens c rest)))
+      (place-says (not (opens (advising c rest))) (9 + breaks rest) p (says-not (opens (advising c rest)) (advised-opens c rest)))
 
 pub two-short : (rest : List ℕ) → length rest < 6 → unusableAdvice (85 ∷ 78 ∷ 65 ∷ rest) ≡ 0 ∷ []
 unfolding unusableAdvice placeIf

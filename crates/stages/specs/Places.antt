@@ -47,7 +47,8 @@ module _ (s : List ℕ) where
   unfoldable pub unusableAdvice : List ℕ
   unusableAdvice = placeIf (badAdvice s) 0
 
-  -- 3: "the body doesn't begin `UNB` and the element separator": "0, or 9 after an advice"
+  -- 3: "the body doesn't begin `UNB` and the element separator": "0, or 9 after an advice"; request 2026-01:
+  -- after the breaks that follow the advice
   unfoldable pub noOpening : List ℕ
   noOpening = placeIf (not (opens s)) (bodyStart s)
 

@@ -1,9 +1,9 @@
 -- Every case of the table is answered as the paper says. Assumes nothing.
 use lib.Dec.{T}
 use Rattle.lists.specs.Lists.{same, begins, member, allDiffer, isEmpty, all, those, through, first, at, lastOr, onto, cut, unlessIdle, dropEnd, trimEnd, eachLedBy, joined, gather, maybe}
-use Rattle.characters.specs.Characters.{between, upper, lower, digit, separates, hasRelease, serviceCharacters, isService, usable, sixBytes, spelledOut, advised, adviceOf, plusCharacters, controlCharacters, charactersOf, bodyStart, body, badAdvice, opens, role}
+use Rattle.characters.specs.Characters.{between, upper, lower, digit, separates, hasRelease, serviceCharacters, isService, usable, sixBytes, spelledOut, advised, adviceOf, plusCharacters, controlCharacters, charactersOf, isBreak, breaks, afterBreaks, bodyStart, body, badAdvice, opens, role}
 use Rattle.refusals.specs.Refusals.{met, isLower, lowerOf, lowest, orElse, answering, placeIf}
-use Rattle.values.specs.Tokens.{unreleased, releasing, taken, tokensFrom, tokens, ends, placeOf, segments, start}
+use Rattle.values.specs.Tokens.{unreleased, reading, taken, tokensFrom, tokens, ends, placeOf, segments, start}
 use Rattle.values.specs.Values.{byteOf, bytesOf, valueOf, valuesOf, elementsOf, isFault, endedBy, endsInside, finished}
 use Rattle.values.specs.Trimming.{trimElement, isIdle, trimSegment, trimmed, valueAt, contentsOf}
 use Rattle.values.specs.Spelling.{spellByte, spellValue, spellElement, spellSegment, spell}
@@ -23,5 +23,5 @@ use Rattle.operations.specs.Compare.{isAccepted, areSame, compare}
 use Rattle.starred_cases.specs.Cases.{cases, says, meets, holds}
 
 pub all-cases-hold : T (all holds cases)
-unfolding same begins member allDiffer isEmpty all those through first at lastOr onto cut unlessIdle dropEnd trimEnd eachLedBy joined gather maybe between upper lower digit separates hasRelease serviceCharacters isService usable sixBytes spelledOut advised adviceOf plusCharacters controlCharacters charactersOf bodyStart body badAdvice opens role met isLower lowerOf lowest orElse answering placeIf unreleased releasing taken tokensFrom tokens ends placeOf segments start byteOf bytesOf valueOf valuesOf elementsOf isFault endedBy endsInside finished trimElement isIdle trimSegment trimmed valueAt contentsOf spellByte spellValue spellElement spellSegment spell inLevelA inLevelB classOf levelNamed inLevel isOurVersion levelOf is kindNamed tagPiece tagOf kindOf isTag tagRule segmentsIn messagesIn groupsIn segmentsSinceHeader messagesSinceGroup isOpen standing insideMessage allowedAt allowed isComplete positionTable positionsOf single controlElement isReference isCount standsWell controlRule headerOf referenceOf sameValue referenceDiffers decimalFrom decimal trueCount countOf countWrong sectionRule bodyTokens segmentsOf contents kindsOf normalCharacters interchange normalForm isOver startsWhere tooLong unusableAdvice noOpening strayReleases unendedSegment brokenTags foreignLevel level placeOutside outsideLevel misplacedSegments badControls differingReferences wrongCounts normalTooLong placesOf brackets bracketed stages refusalOf given refused refusedInput accepted figuresOf judge isAccepted areSame compare cases says meets holds
+unfolding same begins member allDiffer isEmpty all those through first at lastOr onto cut unlessIdle dropEnd trimEnd eachLedBy joined gather maybe between upper lower digit separates hasRelease serviceCharacters isService usable sixBytes spelledOut advised adviceOf plusCharacters controlCharacters charactersOf isBreak breaks afterBreaks bodyStart body badAdvice opens role met isLower lowerOf lowest orElse answering placeIf unreleased reading taken tokensFrom tokens ends placeOf segments start byteOf bytesOf valueOf valuesOf elementsOf isFault endedBy endsInside finished trimElement isIdle trimSegment trimmed valueAt contentsOf spellByte spellValue spellElement spellSegment spell inLevelA inLevelB classOf levelNamed inLevel isOurVersion levelOf is kindNamed tagPiece tagOf kindOf isTag tagRule segmentsIn messagesIn groupsIn segmentsSinceHeader messagesSinceGroup isOpen standing insideMessage allowedAt allowed isComplete positionTable positionsOf single controlElement isReference isCount standsWell controlRule headerOf referenceOf sameValue referenceDiffers decimalFrom decimal trueCount countOf countWrong bodyTokens segmentsOf contents kindsOf normalCharacters interchange normalForm isOver startsWhere tooLong unusableAdvice noOpening strayReleases unendedSegment brokenTags foreignLevel level placeOutside outsideLevel misplacedSegments badControls differingReferences wrongCounts normalTooLong placesOf brackets bracketed stages refusalOf given refused refusedInput accepted figuresOf judge isAccepted areSame compare cases says meets holds sectionRule
 all-cases-hold = tt

@@ -2,6 +2,6 @@
 -- verdicts or normal forms sees when they are old. Assumes nothing.
 use Prim.Native.Nat.{ℕ}
 
--- 1: paper 01 alone; 2: with change request 2026-03
+-- 1: paper 01 alone; 2: with change request 2026-03, section markers; 3: with change request 2026-01, line breaks between segments
 abbrev pub rules : ℕ
-rules = 2
+rules = 3

@@ -97,7 +97,7 @@ pub struct Listing {
 pub extern "C" fn hverolda_rules() -> u32
     ensures { λ r. ⌜ r ≡ rules ⌝ }
 {
-    2
+    3
 }
 
 #[no_mangle]

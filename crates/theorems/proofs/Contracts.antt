@@ -1,21 +1,24 @@
 -- The round trips follow from the contracts: each answer gives what the laws about the definitions ask for. Assumes nothing.
-use Prim.Native.Nat.{ℕ}
+use Prim.Native.Nat.{ℕ, _≤_}
 use mathlib.Core.Path.{_≡_, refl, sym, ap, ap₂, subst, _∙_}
 use mathlib.Core.Bool.{Bool, true, false}
-use mathlib.Core.List.{List, [], _∷_}
+use mathlib.Core.List.{List, [], _∷_, _++_}
 use mathlib.Core.Option.{Option, none, some}
 use lib.ListN.{length, take, drop, getD}
 use lib.Seq.{take-at}
 use lib.Dec.{ltb}
-use Rattle.lists.specs.Lists.{if_then_else_, maybe}
+use Rattle.lists.specs.Lists.{if_then_else_, all, maybe}
+use Rattle.characters.specs.Characters.{isBreak}
 use Rattle.refusals.specs.declared.Fault.{Fault}
 use Rattle.refusals.specs.declared.Fault.the-variants.{BufferShort}
 use Rattle.refusals.specs.declared.Refusal.{Refusal}
+use Rattle.refusals.specs.Limits.{mostBytes}
 use Rattle.refusals.specs.Refusals.{orElse, answering}
 use Rattle.refusals.proofs.Stages.{answering-append, lowest-if}
 use Rattle.stages.specs.Contents.{contents, normalForm}
 use Rattle.stages.specs.Stages.{stages, refusalOf}
 use Rattle.stage_walks.specs.Walks.{refuse}
+use Rattle.answers.specs.declared.Figures.{Figures}
 use Rattle.answers.specs.declared.Judged.the-variants.{Accepted}
 use Rattle.answers.specs.declared.Stored.the-variants.{Length}
 use Rattle.answers.specs.declared.Compared.the-variants.{Same}
@@ -26,12 +29,17 @@ use Rattle.operations.specs.Compare.{compare}
 use Rattle.operations.specs.Read.{valueBytes, valueTable, readRefusal, read}
 use Rattle.operations.specs.Write.{writtenText, writeRefusal, write}
 use Rattle.operations.specs.ValueList.{listOf, listedIn}
-use Rattle.contracts.specs.Promises.{Normalises, Reads, Writes}
+use Rattle.contracts.specs.Promises.{Judges, Normalises, Reads, Writes}
 use Rattle.contracts.proofs.Told.{judged-tells, compared-tells, given-is, refused-is}
 use Rattle.trimming_laws.proofs.Tables.{listed-table}
 use Rattle.normal_form_laws.proofs.Theorems.{normal-form}
+use Rattle.acceptance_laws.specs.Allowed.{Allowed}
+use Rattle.acceptance_laws.specs.Breaks.{ButForBreaks}
 use Rattle.acceptance_laws.proofs.Same.{compared-same}
 use Rattle.acceptance_laws.proofs.Acceptance.{allowed-exactly}
+use Rattle.acceptance_laws.proofs.Judged.{judged-number}
+use Rattle.acceptance_laws.proofs.Breaks.{breaks-same}
+use Rattle.acceptance_laws.proofs.Respaced.{breaks-behind}
 use Rattle.round_trip_laws.proofs.Written.{bytes-stand, table-stands}
 use Rattle.round_trip_laws.proofs.Theorems.{written-accepted, written-back, read-back}
 use Rattle.theorems.specs.Contracts.{IsAccepted, AreSame, ReadAfterWrite, WriteAfterRead, Contracts}
@@ -190,6 +198,20 @@ read-write buffer numbers s b k bytesAfter tableAfter r service output n after w
       same = λ mark. compare-same s text (back .same mark);
     })
 
+-- ---- line breaks
+
+-- what Judge accepts, the rules allow
+judge-allows : (s : List ℕ) (i : Figures) → Judges s (Accepted i) → Allowed s
+unfolding toldJudged accepted given
+judge-allows s i h = judged-number s .0 (sym (ap (λ (a : Answer). a .number) h))
+
+breaks-alike : (s t : List ℕ) (i : Figures) → Judges s (Accepted i) → ButForBreaks s t → length t ≤ mostBytes → AreSame s t
+breaks-alike s t i h alike short = compare-same s t (compared-same s t .1 (breaks-same s t alike (judge-allows s i h) short))
+
+breaks-compare : (s gap : List ℕ) (i : Figures) → Judges s (Accepted i) → all isBreak gap ≡ true → length (s ++ gap) ≤ mostBytes
+    → AreSame s (s ++ gap)
+breaks-compare s gap i h only short = breaks-alike s (s ++ gap) i h (breaks-behind s (judge-allows s i h) gap only) short
+
 pub contracts : Contracts
 contracts =
     record {
@@ -197,4 +219,6 @@ contracts =
       read-write = read-write;
       normalise-compare = λ buffer s n after h.
           subst (AreSame s) (sym (form-is buffer s n after h)) (compare-same s (normalForm s) (form-same buffer s n after h));
+      breaks-alike = breaks-alike;
+      breaks-compare = breaks-compare;
     }

@@ -1,13 +1,17 @@
 -- What follows for a caller from the contracts alone, whatever code meets them: for all answers and buffers that they allow, one
 -- operation after the other. Each field of `Contracts` is a theorem; `proofs/Contracts.antt` proves the record. Assumes nothing.
-use Prim.Native.Nat.{ℕ}
+use Prim.Native.Nat.{ℕ, _≤_}
 use mathlib.Core.Path.{_≡_}
-use mathlib.Core.List.{List}
-use lib.ListN.{take}
-use Rattle.characters.specs.Characters.{sixBytes, charactersOf}
+use mathlib.Core.Bool.{true}
+use mathlib.Core.List.{List, _++_}
+use lib.ListN.{length, take}
+use Rattle.lists.specs.Lists.{all}
+use Rattle.characters.specs.Characters.{isBreak, sixBytes, charactersOf}
 use Rattle.refusals.specs.declared.Fault.the-variants.{BufferShort}
 use Rattle.refusals.specs.declared.Refusal.{Refusal}
+use Rattle.refusals.specs.Limits.{mostBytes}
 use Rattle.stages.specs.Contents.{contents}
+use Rattle.answers.specs.declared.Figures.{Figures}
 use Rattle.answers.specs.declared.Judged.{Judged}
 use Rattle.answers.specs.declared.Judged.the-variants.{Accepted}
 use Rattle.answers.specs.declared.Stored.the-variants.{Length}
@@ -17,6 +21,7 @@ use Rattle.answers.specs.declared.Listed.the-variants.{Values, Refused}
 use Rattle.operations.specs.Judge.{figuresOf}
 use Rattle.operations.specs.ValueList.{listOf, listedIn}
 use Rattle.contracts.specs.Promises.{Judges, Normalises, Compares, Reads, Writes}
+use Rattle.acceptance_laws.specs.Breaks.{ButForBreaks}
 use Rattle.round_trip_laws.specs.Trips.{listGiven}
 
 -- Judge accepts the text, with the service characters, counts and length that are its own.
@@ -56,3 +61,9 @@ pub record Contracts : Type 0 where
       → Writes service (take b bytesAfter) (take k tableAfter) output (Length n) after → WriteAfterRead s service (take n after)
   -- what Normalise stores is the same interchange
   pub normalise-compare : (buffer s : List ℕ) (n : ℕ) (after : List ℕ) → Normalises buffer s (Length n) after → AreSame s (take n after)
+  -- an input that Judge accepts and one that differs from it in nothing but line breaks are the same, as long as that is not too long
+  -- (request 2026-01): so with a break after every terminator (`Demands`: `respaced-alike`),
+  pub breaks-alike : (s t : List ℕ) (i : Figures) → Judges s (Accepted i) → ButForBreaks s t → length t ≤ mostBytes → AreSame s t
+  -- and with any breaks behind it
+  pub breaks-compare : (s gap : List ℕ) (i : Figures) → Judges s (Accepted i) → all isBreak gap ≡ true → length (s ++ gap) ≤ mostBytes
+      → AreSame s (s ++ gap)

@@ -2,20 +2,20 @@
 use Prim.Native.Nat.{ℕ, _≤_, _<_}
 use mathlib.Core.Path.{_≡_}
 use mathlib.Core.Logic.{_↔_, _⊎_, ⊎-elim}
-use mathlib.Core.Bool.{true}
+use mathlib.Core.Bool.{true, false, not}
 use mathlib.Core.List.{List, [], _∷_, _++_, map, List·Memᴰ}
 use mathlib.Core.Option.{none, some, Option·map}
 use lib.ListN.{length, take, drop, replicate}
-use Rattle.lists.specs.Lists.{maybe}
+use Rattle.lists.specs.Lists.{all, maybe}
 use Rattle.characters.specs.declared.Characters.{Characters}
-use Rattle.characters.specs.Characters.{usable, adviceOf, charactersOf, body}
+use Rattle.characters.specs.Characters.{usable, isBreak, advised, adviceOf, charactersOf, body}
 use Rattle.refusals.specs.declared.Fault.{Fault}
 use Rattle.refusals.specs.declared.Fault.the-variants.{BufferShort}
 use Rattle.refusals.specs.declared.Refusal.{Refusal}
 use Rattle.refusals.specs.Refusals.{number}
 use Rattle.values.specs.Tokens.{Token, Segment}
 use Rattle.values.specs.Values.{Value}
-use Rattle.values.specs.Spelling.{Bytes, SegmentList, spellValue, spell}
+use Rattle.values.specs.Spelling.{Bytes, SegmentList, spellValue, spell, leadsBreak, spellApart}
 use Rattle.control_elements.specs.Control.{countOf, decimal}
 use Rattle.stages.specs.Contents.{bodyTokens, segmentsOf, contents, normalForm}
 use Rattle.stages.specs.Places.{unusableAdvice, noOpening, strayReleases, unendedSegment, brokenTags, misplacedSegments, badControls, differingReferences, wrongCounts}
@@ -28,7 +28,7 @@ use Rattle.operations.specs.Read.{valueBytes, valueTable, readRefusal, read, re
 use Rattle.operations.specs.Write.{badList, unusableBytes, needsRelease, writtenText, writeRefusal, write, writeOutput}
 use Rattle.starred_cases.specs.Cases.{x}
 use Rattle.operations.specs.ValueList.{Item, listOf, listBytes, listTable, listedIn, segmentsListed, trimList}
-use Rattle.spelling_laws.specs.Bodies.{Passes, Spelled, Shaped, Releasable, wordsOf, readList}
+use Rattle.spelling_laws.specs.Bodies.{Passes, Breaks, Spelled, Shaped, Releasable, Unbroken, wordsOf, readList}
 use Rattle.grammar_laws.specs.Grammar.{size, Group, Ordered, Agrees, Interchange}
 use Rattle.trimming_laws.specs.Kinds.{Kinds}
 use Rattle.trimming_laws.specs.Trimmed.{TrimmedList}
@@ -38,6 +38,7 @@ use Rattle.acceptance_laws.specs.Allowed.{WellOpened, Tagged, Allowed}
 use Rattle.acceptance_laws.specs.Counts.{told}
 use Rattle.acceptance_laws.specs.Refused.{Refused}
 use Rattle.acceptance_laws.specs.Same.{Same}
+use Rattle.acceptance_laws.specs.Breaks.{ButForBreaks, BreaksFor, respaced}
 use Rattle.round_trip_laws.specs.Trips.{standingAt, WrittenBack, Rewritable, ReadBack, NamesValue, Position, Placed}
 use Rattle.refusals.specs.Limits.{mostBytes}
 
@@ -45,22 +46,29 @@ pub record Demands : Type 0 where
   -- ---- 1. Reading and spelling, under usable characters
 
   -- "The body passes refusals 4 and 5 exactly when some list of segments is spelled by it, each service character inside a value being
-  -- released and nothing else"
-  pub passes-exactly : (c : Characters) → usable c ≡ true → (place : ℕ) (body : Bytes) → Passes c place body ↔ Spelled c body
-  -- "there is then only one such list"
-  pub only-one : (c : Characters) → usable c ≡ true → (body : Bytes) (x y : Spelled c body) → x .list ≡ y .list
-  -- spelling what was read gives the body back
+  -- released and nothing else": of bodies that do not begin with a line break, with line breaks after any of the list's segments
+  pub passes-exactly : (c : Characters) → usable c ≡ true → (place : ℕ) (body : Bytes)
+      → (Passes c place body × (leadsBreak body ≡ false)) ↔ Spelled c body
+  -- "there is then only one such list", and one choice of breaks
+  pub only-one : (c : Characters) → usable c ≡ true → (body : Bytes) (x y : Spelled c body)
+      → (x .list ≡ y .list) × (x .between ≡ y .between)
+  -- spelling what was read, with the breaks that stood after its segments, gives the body back
   pub spelled-back : (c : Characters) → usable c ≡ true → (place : ℕ) (body : Bytes) → Passes c place body
-      → spell c (readList c place body) ≡ body
-  -- reading what was spelled gives the list back
+      → (between : List Bytes) × Breaks (readList c place body) between × (spellApart c (readList c place body) between ≡ body)
+  -- reading what was spelled gives the list back, where no segment of it begins with a break
   pub read-back : (c : Characters) → usable c ≡ true → (place : ℕ) (list : SegmentList) → Shaped list → Releasable c list
-      → readList c place (spell c list) ≡ list
-  -- releases are read before splitting: two different lists are never spelled alike
+      → Unbroken list → readList c place (spell c list) ≡ list
+  -- and so does reading what was spelled with any breaks
+  pub read-apart : (c : Characters) → usable c ≡ true → (place : ℕ) (list : SegmentList) → Shaped list → Releasable c list
+      → Unbroken list → (between : List Bytes) → Breaks list between → readList c place (spellApart c list between) ≡ list
+  -- releases are read before splitting: two different lists are never spelled alike, be there segments that begin with a break or not
   pub never-alike : (c : Characters) → usable c ≡ true → (a b : SegmentList) → Shaped a → Releasable c a → Shaped b → Releasable c b
       → spell c a ≡ spell c b → a ≡ b
   -- and of an input: neither 4 nor 5 is met exactly when its body is spelled so
-  pub four-and-five : (s : List ℕ) → usable (charactersOf s) ≡ true
+  pub four-and-five : (s : List ℕ) → usable (charactersOf s) ≡ true → leadsBreak (body s) ≡ false
       → ((strayReleases s ≡ []) × (unendedSegment s ≡ [])) ↔ Spelled (charactersOf s) (body s)
+  -- where there is an advice, and where 3 is not met, the body does not begin with a break
+  pub body-begins : (s : List ℕ) → (advised s ≡ true) ⊎ (noOpening s ≡ []) → leadsBreak (body s) ≡ false
   -- ---- 2. Trimming
 
   -- it is what the paper's words say, level by level, with no empty end left; and those words allow nothing else
@@ -244,3 +252,25 @@ pub record Demands : Type 0 where
       → trimList (segmentsListed (listedIn bytes table)) ≡ segmentsListed (listedIn bytes table)
       → let text = writtenText service bytes table in
       (valueBytes text ≡ listBytes (listedIn bytes table)) × (valueTable text ≡ listTable (listedIn bytes table))
+  -- ---- 11. Line breaks between segments (request 2026-01)
+
+  -- two inputs that differ in nothing but breaks after the advice and after segments have the same contents, mark and normal form;
+  pub but-for-breaks : (s t : List ℕ) → ButForBreaks s t
+      → (contents s ≡ contents t) × (markOf s ≡ markOf t) × (normalForm s ≡ normalForm t)
+  -- where neither is over 32,000 bytes, one is accepted exactly when the other is,
+  pub accepted-alike : (s t : List ℕ) → ButForBreaks s t → length s ≤ mostBytes → length t ≤ mostBytes → Allowed s ↔ Allowed t
+  -- and Compare then says "same"
+  pub compared-alike : (s t : List ℕ) → ButForBreaks s t → length t ≤ mostBytes → Allowed s → compare s t ≡ given (1 ∷ [])
+  -- such are an accepted input and the same with any breaks in the places of its own
+  pub respaced-alike : (s : List ℕ) → Allowed s → (gap : Bytes) (between : List Bytes) → BreaksFor s gap between
+      → ButForBreaks s (respaced s gap between)
+  pub spaced-so : (s : List ℕ) → Allowed s
+      → (gap : Bytes) × (between : List Bytes) × BreaksFor s gap between × (respaced s gap between ≡ s)
+  -- "X and a line feed is now the same as X": so it is of every accepted input, and of any breaks behind it
+  pub breaks-behind : (s : List ℕ) → Allowed s → (gap : Bytes) → all isBreak gap ≡ true → ButForBreaks s (s ++ gap)
+  -- "Contents and normal form hold no breaks"
+  pub contents-unbroken : (s : List ℕ) → Allowed s → all (all (all (all (λ b. not (isBreak b))))) (contents s) ≡ true
+  pub form-unbroken : (s : List ℕ) → Allowed s → all (λ b. not (isBreak b)) (normalForm s) ≡ true
+  -- "No segment of a list may begin with a break": where 15 is not met, none does; what Read gives is never refused so
+  pub written-unbroken : (bytes table : List ℕ) → badList bytes table ≡ [] → Unbroken (segmentsListed (listedIn bytes table))
+  pub read-unbroken : (s : List ℕ) → Allowed s → badList (valueBytes s) (valueTable s) ≡ []

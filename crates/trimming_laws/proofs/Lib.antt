@@ -1,3 +1,4 @@
 pub mod Trimmed
 pub mod Nesting
+pub mod Starts
 pub mod Tables

@@ -1,25 +1,30 @@
 -- The bytes and the table of a value list give the list back, and pass refusal 15. Assumes nothing.
 use Prim.Native.Nat.{ℕ, suc, _+_, _*_, _%_, _≤_}
 use mathlib.Core.Path.{_≡_, refl, sym, ap, ap₂, _∙_}
-use mathlib.Core.Bool.{Bool, true, false, not, _||_}
+use mathlib.Core.Bool.{Bool, true, false, not, _&&_, _||_}
 use mathlib.Core.List.{List, [], _∷_, _++_, map, append-assoc}
-use lib.ListN.{length, take, length-append}
+use lib.ListN.{length, take, drop, length-append}
 use lib.Seq.{take-append-seam, drop-append-seam}
 use lib.Dec.{leb, eqb}
 use native.Mathlib.Omega.{arith}
-use borrow.Author.Tests.{leb-true, le-ltb, eq-eqb, eqb-true, not-false}
+use borrow.Author.Tests.{leb-true, le-ltb, eq-eqb, eqb-true, not-true, not-false}
 use Rattle.lists.specs.Lists.{all, gather, at, maybe}
 use Rattle.lists.proofs.Texts.{and-left, and-right}
 use Rattle.refusals.specs.Refusals.{placeIf}
-use Rattle.values.specs.Spelling.{Bytes, SegmentList}
+use Rattle.values.specs.Spelling.{Bytes, SegmentList, leadsBreak}
 use Rattle.operations.specs.ValueList.{Item, listOf, listBytes, tableFrom, listTable, Entry, entries, valueIn, listedIn, segmentsListed}
-use Rattle.operations.specs.Write.{numbersWhere, badTable, badEntry, badList}
-use Rattle.spelling_laws.specs.Bodies.{Shaped}
-use Rattle.trimming_laws.specs.Kinds.{firstKind, kindsUpTo2, Kinds}
+use Rattle.operations.specs.Write.{numbersWhere, badTable, brokenStart, badEntry, badList}
+use Rattle.spelling_laws.specs.Bodies.{Shaped, Unbroken}
+use Rattle.trimming_laws.specs.Kinds.{firstKind, kindsUpTo2, Kinds, startsWell, unbrokenStarts}
 use Rattle.trimming_laws.proofs.Nesting.{listed-listOf, kinds-listOf}
+use Rattle.trimming_laws.proofs.Starts.{unbroken-listOf}
 use Rattle.refusals.specs.Limits.{mostBytes, mostNumbers}
 
 -- ---- the list given back
+
+-- a value after a front part of the bytes
+value-from : (front value more : Bytes) → take (length value) (drop (length front) (front ++ (value ++ more))) ≡ value
+value-from front value more = ap (take (length value)) (drop-append-seam front (value ++ more)) ∙ take-append-seam value more
 
 -- the values after a front part of the bytes
 listed-from : (front : Bytes) (items : List Item) → listedIn (front ++ listBytes items) (tableFrom (length front) items) ≡ items
@@ -27,8 +32,7 @@ unfolding listedIn listBytes gather tableFrom entries valueIn
 listed-from front [] = refl
 listed-from front (l ∷ ls) =
     ap₂ _∷_
-    (ap (λ (v : Bytes). record { kind = l .kind; value = v })
-    (ap (take (length (l .value))) (drop-append-seam front (l .value ++ listBytes ls)) ∙ take-append-seam (l .value) (listBytes ls)))
+    (ap (λ (v : Bytes). record { kind = l .kind; value = v }) (value-from front (l .value) (listBytes ls)))
     (ap₂ (λ (bytes : Bytes) (n : ℕ). listedIn bytes (tableFrom n ls))
     (sym (append-assoc front (l .value) (listBytes ls)))
     (sym (length-append front (l .value)))
@@ -61,23 +65,33 @@ pub listTable-length : (items : List Item) → length (listTable items) ≡ 3 * 
 unfolding listTable
 listTable-length items = table-length 0 items
 
--- a record whose kind is at most 2 and whose value ends within the bytes is not bad
-entry-sound : (bytes : Bytes) (e : Entry) → e .kind ≤ 2 → e .start + e .size ≤ length bytes → badEntry bytes e ≡ false
+-- a record whose kind is at most 2, whose value ends within the bytes and which begins no segment with a break is not bad
+entry-sound : (bytes : Bytes) (e : Entry) → e .kind ≤ 2 → e .start + e .size ≤ length bytes → brokenStart bytes e ≡ false
+    → badEntry bytes e ≡ false
 unfolding badEntry
-entry-sound bytes e k h = ap₂ _||_ (le-ltb 2 (e .kind) k) (le-ltb (length bytes) (e .start + e .size) h)
+entry-sound bytes e k h n = ap₂ _||_ (ap₂ _||_ (le-ltb 2 (e .kind) k) (le-ltb (length bytes) (e .start + e .size) h)) n
 
--- none of the records is bad, where all values from `start` on end within the bytes
-entries-sound : (bytes : Bytes) (start : ℕ) (items : List Item) → kindsUpTo2 items ≡ true
-    → start + length (listBytes items) ≤ length bytes → (number : ℕ) → numbersWhere (badEntry bytes) number (entries (tableFrom start items)) ≡ []
-unfolding kindsUpTo2 all tableFrom entries numbersWhere placeIf listBytes gather
-entries-sound bytes start [] k h number = refl
-entries-sound bytes start (l ∷ ls) k h number =
-    let one : Bool = leb (l .kind) 2 in
-    let sizes : length (listBytes (l ∷ ls)) ≡ length (l .value) + length (listBytes ls) = length-append (l .value) (listBytes ls) in
-    let e : Entry = record { kind = l .kind; start = start; size = length (l .value) } in
+-- none of the records is bad, where the values stand one after the other behind a front part of the bytes
+entries-sound : (front : Bytes) (items : List Item) → kindsUpTo2 items ≡ true → unbrokenStarts items ≡ true → (number : ℕ)
+    → numbersWhere (badEntry (front ++ listBytes items)) number (entries (tableFrom (length front) items)) ≡ []
+unfolding kindsUpTo2 unbrokenStarts all tableFrom entries numbersWhere placeIf listBytes gather brokenStart valueIn
+entries-sound front [] k n number = refl
+entries-sound front (l ∷ ls) k n number =
+    let bytes : Bytes = front ++ (l .value ++ listBytes ls) in
+    let e : Entry = record { kind = l .kind; start = length front; size = length (l .value) } in
+    let sizes : length bytes ≡ length front + (length (l .value) + length (listBytes ls)) =
+    length-append front (l .value ++ listBytes ls) ∙ ap (λ (n : ℕ). length front + n) (length-append (l .value) (listBytes ls)) in
+    let kind : l .kind ≤ 2 = leb-true (l .kind) 2 (and-left (leb (l .kind) 2) (kindsUpTo2 ls) k) in
+    let starts : (eqb (l .kind) 0 && leadsBreak (l .value)) ≡ false =
+    not-true (eqb (l .kind) 0 && leadsBreak (l .value)) (and-left (startsWell l) (unbrokenStarts ls) n) in
     ap₂ (λ (bad : Bool) (numbers : List ℕ). placeIf bad number ++ numbers)
-    (entry-sound bytes e (leb-true (l .kind) 2 (and-left one (kindsUpTo2 ls) k)) (omega arith))
-    (entries-sound bytes (start + length (l .value)) ls (and-right one (kindsUpTo2 ls) k) (omega arith) (suc number))
+    (entry-sound bytes e kind (omega arith)
+    (ap (λ (v : Bytes). eqb (l .kind) 0 && leadsBreak v) (value-from front (l .value) (listBytes ls)) ∙ starts))
+    (ap₂ (λ (bs : Bytes) (n : ℕ). numbersWhere (badEntry bs) (suc number) (entries (tableFrom n ls)))
+    (sym (append-assoc front (l .value) (listBytes ls)))
+    (sym (length-append front (l .value)))
+    ∙ entries-sound (front ++ l .value) ls (and-right (leb (l .kind) 2) (kindsUpTo2 ls) k) (and-right (startsWell l) (unbrokenStarts ls) n)
+    (suc number))
 
 -- the table is not bad as a whole
 first-sound : (items : List Item) → firstKind items ≡ 0
@@ -96,14 +110,16 @@ table-sound items f h =
     (ap not (eq-eqb (length (listTable items) % 3) 0 (omega arith))))
     (first-sound items f)
 
-pub listTable-sound : (items : List Item) → Kinds items → length items ≤ mostBytes → badList (listBytes items) (listTable items) ≡ []
+pub listTable-sound : (items : List Item) → Kinds items → unbrokenStarts items ≡ true → length items ≤ mostBytes
+    → badList (listBytes items) (listTable items) ≡ []
 unfolding badList placeIf listTable
-listTable-sound items k h =
+listTable-sound items k n h =
     ap₂ (λ (bad : Bool) (numbers : List ℕ). placeIf bad 0 ++ numbers)
     (table-sound items (k .first) h)
-    (entries-sound (listBytes items) 0 items (k .highest) (omega arith) 0)
+    (entries-sound [] items (k .highest) n 0)
 
--- neither is the table of a list of segments that has at most 32,000 values
-pub listOf-sound : (list : SegmentList) → Shaped list → length (listOf list) ≤ mostBytes
+-- neither is the table of a list of segments that has at most 32,000 values, and no segment that begins with a break
+pub listOf-sound : (list : SegmentList) → Shaped list → Unbroken list → length (listOf list) ≤ mostBytes
     → badList (listBytes (listOf list)) (listTable (listOf list)) ≡ []
-listOf-sound list s h = listTable-sound (listOf list) (kinds-listOf list s) h
+unfolding Unbroken
+listOf-sound list s n h = listTable-sound (listOf list) (kinds-listOf list s) (unbroken-listOf list s ∙ n) h

@@ -1,10 +1,11 @@
--- Paper 01, refusal 15: which kinds a value list may have. Assumes nothing.
+-- Paper 01, refusal 15: which kinds a value list may have; request 2026-01: what may begin a segment. Assumes nothing.
 use Prim.Native.Nat.{ℕ}
 use mathlib.Core.Path.{_≡_}
-use mathlib.Core.Bool.{Bool, true}
+use mathlib.Core.Bool.{Bool, true, not, _&&_}
 use mathlib.Core.List.{List, [], _∷_}
-use lib.Dec.{leb}
+use lib.Dec.{leb, eqb}
 use Rattle.lists.specs.Lists.{all}
+use Rattle.values.specs.Spelling.{leadsBreak}
 use Rattle.operations.specs.ValueList.{Item}
 
 -- the kind of the first value; the end counts as a new segment
@@ -20,3 +21,10 @@ kindsUpTo2 items = all (λ l. leb (l .kind) 2) items
 pub record Kinds (items : List Item) : Type 0 where
   pub first : firstKind items ≡ 0
   pub highest : kindsUpTo2 items ≡ true
+
+-- "No segment of a list may begin with a break": no value of kind 0 begins with one
+abbrev pub startsWell : Item → Bool
+startsWell l = not (eqb (l .kind) 0 && leadsBreak (l .value))
+
+unfoldable pub unbrokenStarts : List Item → Bool
+unbrokenStarts items = all startsWell items

@@ -19,8 +19,10 @@ use Rattle.refusals.specs.declared.Refusal.{Refusal}
 use Rattle.refusals.specs.Refusals.{met, placeIf, isLower, lowerOf, lowest}
 use Rattle.refusals.proofs.Order.{key, not-lower}
 use Rattle.stage_walks.specs.Walks.{refuse}
-use Rattle.operations.specs.ValueList.{Entry, entries}
-use Rattle.operations.specs.Write.{numbersWhere, badTable, badEntry, badList}
+use Rattle.characters.specs.Characters.{isBreak}
+use Rattle.values.specs.Spelling.{leadsBreak}
+use Rattle.operations.specs.ValueList.{Entry, entries, valueIn}
+use Rattle.operations.specs.Write.{numbersWhere, badTable, brokenStart, badEntry, badList}
 use Rattle.value_lists.specs.Records.{recordAt, firstRecord, wellListed}
 use Rattle.refusals.specs.Limits.{mostNumbers}
 
@@ -168,6 +170,34 @@ module _ (table : List ℕ) where
       unfolding at maybe
       first-good h = first-asked first-record ∙ ap not (eq-eqb (getD table 0 0) 0 h)
 
+-- ---- a record
+
+-- a record whose value is there, and whose kind is known, is bad where it begins a segment with a break
+module _ (bytes : List ℕ) (e : Entry) (low : e .kind ≤ 2) (there : e .start + e .size ≤ length bytes) where
+  by-start : badEntry bytes e ≡ brokenStart bytes e
+  unfolding badEntry
+  by-start =
+      ap₂ (λ (a b : Bool). a || b || brokenStart bytes e) (le-ltb 2 (e .kind) low) (le-ltb (length bytes) (e .start + e .size) there)
+
+  pub begins-none : (e .kind ≡ 0 → ⊥) → false ≡ badEntry bytes e
+  unfolding brokenStart
+  begins-none h = sym (by-start ∙ ap (λ (t : Bool). t && leadsBreak (valueIn bytes e)) (ne-eqb (e .kind) 0 h))
+
+  pub begins-segment : e .kind ≡ 0 → {broken : Bool} → broken ≡ leadsBreak (valueIn bytes e) → broken ≡ badEntry bytes e
+  unfolding brokenStart
+  begins-segment h d = d ∙ sym (by-start ∙ ap (λ (t : Bool). t && leadsBreak (valueIn bytes e)) (eq-eqb (e .kind) 0 h))
+
+-- a value's first byte
+pub leads-none : (value : List ℕ) → length value ≡ 0 → false ≡ leadsBreak value
+unfolding leadsBreak at maybe
+leads-none [] h = refl
+leads-none (b ∷ bs) h = absurd (omega arith)
+
+pub leads-byte : (value : List ℕ) → (length value ≡ 0 → ⊥) → isBreak (getD value 0 0) ≡ leadsBreak value
+unfolding leadsBreak at maybe
+leads-byte [] h = absurd (h refl)
+leads-byte (b ∷ bs) h = refl
+
 -- ---- a good list
 
 module _ (bytes : List ℕ) where
@@ -191,16 +221,22 @@ module _ (bytes : List ℕ) where
     unfolding wellListed all
     next-good = sym (ap (all passes) d) ∙ h
 
+    abbrev high : Bool
+    high = ltb 2 (e .kind)
+
+    abbrev outside : Bool
+    outside = ltb (length bytes) (e .start + e .size)
+
     sound : badEntry bytes e ≡ false
     sound = not-true (badEntry bytes e) (and-left (passes e) (wellListed bytes rest) next-good)
 
     pub good-kind : e .kind ≤ 2
     unfolding badEntry
-    good-kind = ltb-false 2 (e .kind) (or-none-left (ltb 2 (e .kind)) (ltb (length bytes) (e .start + e .size)) sound)
+    good-kind = ltb-false 2 (e .kind) (or-none-left high outside (or-none-left (high || outside) (brokenStart bytes e) sound))
 
     pub good-value : e .start + e .size ≤ length bytes
     unfolding badEntry
-    good-value = ltb-false (length bytes) (e .start + e .size) (or-none-right (ltb 2 (e .kind)) (ltb (length bytes) (e .start + e .size)) sound)
+    good-value = ltb-false (length bytes) (e .start + e .size) (or-none-right high outside (or-none-left (high || outside) (brokenStart bytes e) sound))
 
     pub good-rest : wellListed bytes rest ≡ true
     good-rest = and-right (passes e) (wellListed bytes rest) next-good

@@ -9,10 +9,12 @@ ghost use Rattle.lists.specs.Lists.{any};
 ghost use Rattle.characters.specs.Characters.{isService};
 ghost use Rattle.refusals.specs.declared.Fault.the-variants.{BadList, NeedsRelease};
 ghost use Rattle.refusals.specs.Refusals.{met, lowest, outcome};
+ghost use Rattle.values.specs.Spelling.{leadsBreak};
 ghost use Rattle.operations.specs.ValueList.{entries, valueIn};
 ghost use Rattle.operations.specs.Write.{numbersWhere, badEntry, badList, lacksRelease};
 ghost use Rattle.value_lists.specs.Records.{entryOf, recordAt, firstRecord, wellListed};
 use characters::Characters;
+use line_breaks::is_break;
 use refusals::Fault;
 use refusals::Outcome;
 use refusing::failed;
@@ -50,14 +52,30 @@ pub fn value_of(bytes: &[u8], r: Record) -> &[u8]
 
 // ---- 15
 
-// The kind is above 2, or the value does not end within the bytes.
+// The value's first byte is a line break.
+fn leads_break(value: &[u8]) -> bool
+    ensures { λ r. ⌜ r ≡ leadsBreak (now (value .entry)) ⌝ }
+{
+    if value.len() == 0 {
+        return false;
+    }
+    is_break(value[0])
+}
+
+// The kind is above 2, or the value does not end within the bytes, or it begins a segment with a break.
 fn is_bad(bytes: &[u8], r: Record) -> bool
     ensures { λ bad. ⌜ bad ≡ badEntry (now (bytes .entry)) (entryOf r) ⌝ }
 {
     if 2 < r.kind {
         return true;
     }
-    bytes.len() < r.start as usize + r.size as usize
+    if bytes.len() < r.start as usize + r.size as usize {
+        return true;
+    }
+    if r.kind != 0 {
+        return false;
+    }
+    leads_break(value_of(bytes, r))
 }
 
 fn check_records(bytes: &[u8], table: &[u32]) -> Outcome

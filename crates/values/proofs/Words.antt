@@ -1,26 +1,26 @@
 -- How bytes are read, byte by byte, and where a segment, an element and a value end. Assumes nothing.
-use Prim.Native.Nat.{ℕ, _+_, _≤_}
+use Prim.Native.Nat.{ℕ, zero, suc, _+_, _≤_}
 use mathlib.Core.Path.{_≡_, refl, sym, ap, _∙_}
 use mathlib.Core.Bool.{true, false, not, false≢true}
 use mathlib.Core.List.{List, [], _∷_, _++_, append-nil, append-assoc, nil≢cons, cons≢nil, head-eq-of-cons-eq, List·Memᴰ, Memᴰ·cast}
 use mathlib.Core.Option.{none, some}
-use mathlib.Core.Logic.{_⊎_, ⊎-elim}
+use mathlib.Core.Logic.{_⊎_, inl, inr, ⊎-elim}
 use native.Mathlib.Omega.{arith}
-use borrow.Author.Tests.{leb-true, le-leb}
-use Rattle.lists.specs.Lists.{isEmpty, through, at, lastOr, cut, eachLedBy, joined, gather, maybe, all}
+use borrow.Author.Tests.{leb-true, le-leb, ne-eqb}
+use Rattle.lists.specs.Lists.{member, isEmpty, through, at, lastOr, cut, eachLedBy, joined, gather, maybe, all}
 use Rattle.lists.proofs.Pieces.{cut-append, cut-none, cut-first}
 use Rattle.lists.proofs.Tests.{Says, says-both, says-not, says-as, says-all, last-stands, last-is, never-empty}
 use Rattle.characters.specs.declared.Characters.{Characters}
 use Rattle.characters.specs.declared.Role.{Role}
 use Rattle.characters.specs.declared.Role.the-variants.{Separator, Release, Plain}
-use Rattle.characters.specs.Characters.{isService, role}
-use Rattle.characters.proofs.Words.{Usable, terminator-role, element-role, component-role, release-role, plain-role, service-role}
-use Rattle.values.specs.Tokens.{Token, byte, separator, fault, unreleased, releasing, taken, tokensFrom, tokens, ends, placeOf, Segment, segments, start}
+use Rattle.characters.specs.Characters.{isService, role, isBreak}
+use Rattle.characters.proofs.Words.{Usable, break-says, terminator-role, element-role, component-role, release-role, plain-role, service-role}
+use Rattle.values.specs.Tokens.{Token, byte, separator, fault, inside, released, passing, unreleased, reading, taken, tokensFrom, tokens, ends, placeOf, Segment, segments, start}
 use Rattle.values.specs.Values.{byteOf, bytesOf, isFault, endedBy, endsInside, finished}
 use Rattle.values.specs.Trimming.{valueAt}
-use Rattle.values.specs.Spelling.{Bytes, SegmentList, spellByte, spellValue, spellElement, spellSegment, spell}
+use Rattle.values.specs.Spelling.{Bytes, SegmentList, spellByte, spellValue, spellElement, spellSegment, spell, leadsBreak, beginsBroken, spellApart}
 use Rattle.values.proofs.Steps.{tokens-role}
-pub use Rattle.values.specs.Notions.{Unended}
+pub use Rattle.values.specs.Notions.{Unended, LeadsBreak}
 
 module _ (c : Characters) (u : Usable c) (place : ℕ) where
   pub read-end : tokens c place [] ≡ []
@@ -29,20 +29,29 @@ module _ (c : Characters) (u : Usable c) (place : ℕ) where
 
   -- "An unreleased terminator ends a segment, an element separator an element, a component separator a component."
   pub read-separators : (more : List ℕ)
-      → (tokens c place (c .terminator ∷ more) ≡ separator 0 place ∷ tokens c (place + 1) more)
+      → (tokens c place (c .terminator ∷ more) ≡ separator 0 place ∷ tokensFrom c passing (place + 1) more)
       × (tokens c place (c .element ∷ more) ≡ separator 1 place ∷ tokens c (place + 1) more)
       × (tokens c place (c .component ∷ more) ≡ separator 2 place ∷ tokens c (place + 1) more)
-  unfolding tokens unreleased releasing
+  unfolding tokens unreleased reading
   read-separators more = (
     tokens-role c place (c .terminator) more (Separator 0) (terminator-role c u),
     tokens-role c place (c .element) more (Separator 1) (element-role c u),
     tokens-role c place (c .component) more (Separator 2) (component-role c u),
   )
 
+  -- "Carriage returns and line feeds directly after a segment terminator .. are to be passed over, however many."
+  pub read-breaks : (more : List ℕ)
+      → (tokensFrom c passing place [] ≡ [])
+      × (tokensFrom c passing place (13 ∷ more) ≡ tokensFrom c passing (place + 1) more)
+      × (tokensFrom c passing place (10 ∷ more) ≡ tokensFrom c passing (place + 1) more)
+      × ((b : ℕ) → (b ≡ 13 → ⊥) → (b ≡ 10 → ⊥) → tokensFrom c passing place (b ∷ more) ≡ tokens c place (b ∷ more))
+  unfolding tokensFrom tokens isBreak member
+  read-breaks more = (refl, refl, refl, λ b cr lf. rw (ne-eqb b 13 cr, ne-eqb b 10 lf))
+
   -- a byte that is no service character is a value's
   pub read-value : (b : ℕ) (more : List ℕ) → isService c b ≡ false
       → tokens c place (b ∷ more) ≡ byte b place place ∷ tokens c (place + 1) more
-  unfolding tokens unreleased releasing
+  unfolding tokens unreleased reading
   read-value b more h = tokens-role c place b more Plain (plain-role c b h)
 
   -- "The release character takes the next byte with it."
@@ -50,8 +59,8 @@ module _ (c : Characters) (u : Usable c) (place : ℕ) where
     two : place + 1 + 1 ≡ place + 2
     two = omega arith
 
-    read-release : (more : List ℕ) → tokens c place (c .release ∷ more) ≡ tokensFrom c (some place) (place + 1) more
-    unfolding unreleased releasing
+    read-release : (more : List ℕ) → tokens c place (c .release ∷ more) ≡ tokensFrom c (released place) (place + 1) more
+    unfolding unreleased reading
     read-release more = tokens-role c place (c .release) more Release (release-role c u n)
 
     pub read-released : (b : ℕ) (more : List ℕ) → isService c b ≡ true
@@ -156,11 +165,11 @@ unended-none ts h =
     (λ t m k. h (k .1) (Memᴰ·cast (sym (k .2 ∙ ap (λ (n : ℕ). separator n (k .1)) (omega (arith, k .3)))) m))
 
 -- a terminator ends a segment, and is its last token
-pub segment-ended : (inside : List Token) (q : ℕ) (rest : List Token) → Unended inside
-    → segments (inside ++ separator 0 q ∷ rest) ≡ (inside ++ separator 0 q ∷ []) ∷ segments rest
+pub segment-ended : (before : List Token) (q : ℕ) (rest : List Token) → Unended before
+    → segments (before ++ separator 0 q ∷ rest) ≡ (before ++ separator 0 q ∷ []) ∷ segments rest
 unfolding segments
-segment-ended inside q rest h =
-    cut-append (ends 0) inside (separator 0 q) rest (unended-none inside h) (ends-says 0 (separator 0 q) .1 (0, q, refl, omega arith))
+segment-ended before q rest h =
+    cut-append (ends 0) before (separator 0 q) rest (unended-none before h) (ends-says 0 (separator 0 q) .1 (0, q, refl, omega arith))
 
 -- what no terminator ends is one segment, and nothing is none
 pub segment-unended : (t : Token) (ts : List Token) → Unended (t ∷ ts) → segments (t ∷ ts) ≡ (t ∷ ts) ∷ []
@@ -179,23 +188,24 @@ start-is ts b from place rank = (refl, refl, refl)
 
 -- what is read from a place on starts there
 pub start-tokens : (c : Characters) (place : ℕ) (bytes : List ℕ) → (tokens c place bytes ≡ [] → ⊥) → start (tokens c place bytes) ≡ place
-unfolding tokens tokensFrom start placeOf taken unreleased releasing
+unfolding tokens tokensFrom start placeOf taken unreleased reading
 start-tokens c place [] h = absurd (h refl)
 start-tokens c place (b ∷ bs) h = step (role c b) (after bs)
   where
     -- after a release character
-    after : (more : List ℕ) → start (tokensFrom c (some place) (place + 1) more) ≡ place
+    after : (more : List ℕ) → start (tokensFrom c (released place) (place + 1) more) ≡ place
     after [] = refl
     after (d ∷ ds) = taking (role c d)
       where
-        taking : (r : Role) → start (taken r d place (place + 1) (tokensFrom c none (place + 1 + 1) ds)) ≡ place
+        taking : (r : Role) → start (taken r d place (place + 1) (tokensFrom c inside (place + 1 + 1) ds)) ≡ place
         taking (Separator rank) = refl
         taking Release = refl
         taking Plain = refl
 
-    step : (r : Role) → start (tokensFrom c (some place) (place + 1) bs) ≡ place
-        → start (unreleased r b place (tokensFrom c (releasing r place) (place + 1) bs)) ≡ place
-    step (Separator rank) e = refl
+    step : (r : Role) → start (tokensFrom c (released place) (place + 1) bs) ≡ place
+        → start (unreleased r b place (tokensFrom c (reading r place) (place + 1) bs)) ≡ place
+    step (Separator zero) e = refl
+    step (Separator (suc rank)) e = refl
     step Release e = e
     step Plain e = refl
 
@@ -246,3 +256,27 @@ module _ (c : Characters) where
       → (spell c [] ≡ []) × (spell c (segment ∷ list) ≡ spellSegment c segment ++ spell c list)
   unfolding spell gather
   spelled-list segment list = (refl, refl)
+
+-- ---- line breaks
+
+pub leads-says : (value : Bytes) → Says (leadsBreak value) (LeadsBreak value)
+unfolding leadsBreak at maybe
+leads-says [] = (λ h. absurd (false≢true h), λ h. ⊎-elim (λ e. absurd (nil≢cons e)) (λ e. absurd (nil≢cons e)) (h .1))
+leads-says (b ∷ bs) =
+    says-as (break-says b)
+    (⊎-elim (λ e. (bs, inl (ap (λ (x : ℕ). x ∷ bs) e))) (λ e. (bs, inr (ap (λ (x : ℕ). x ∷ bs) e))))
+    (λ h. ⊎-elim (λ e. inl (head-eq-of-cons-eq e)) (λ e. inr (head-eq-of-cons-eq e)) (h .1))
+
+-- "No segment of a list may begin with a break": it is its first value that does
+pub broken-says : (value : Bytes) (values : List Bytes) (elements : List (List Bytes))
+    → Says (beginsBroken ((value ∷ values) ∷ elements)) (LeadsBreak value)
+unfolding beginsBroken valueAt at maybe
+broken-says value values elements = leads-says value
+
+-- the list with what stands between its segments: after each segment its own
+pub spell-apart : (c : Characters) (segment : List (List Bytes)) (segments : SegmentList) (gap : Bytes) (between : List Bytes)
+    → (spellApart c [] (gap ∷ between) ≡ [])
+    × (spellApart c (segment ∷ segments) [] ≡ spellSegment c segment ++ spellApart c segments [])
+    × (spellApart c (segment ∷ segments) (gap ∷ between) ≡ spellSegment c segment ++ (gap ++ spellApart c segments between))
+unfolding spellApart
+spell-apart c segment segments gap between = (refl, refl, refl)

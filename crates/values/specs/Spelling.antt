@@ -4,8 +4,9 @@ use Prim.Native.Nat.{ℕ}
 use mathlib.Core.Bool.{Bool, true, false}
 use mathlib.Core.List.{List, [], _∷_, _++_, map}
 use Rattle.characters.specs.declared.Characters.{Characters}
-use Rattle.characters.specs.Characters.{isService}
-use Rattle.lists.specs.Lists.{if_then_else_, gather, joined}
+use Rattle.characters.specs.Characters.{isService, isBreak}
+use Rattle.lists.specs.Lists.{if_then_else_, at, maybe, gather, joined}
+use Rattle.values.specs.Trimming.{valueAt}
 
 -- A value is its bytes, an element its values, a segment its elements: the first is the tag.
 abbrev pub Bytes : Type 0
@@ -30,3 +31,20 @@ module _ (c : Characters) where
 
   unfoldable pub spell : SegmentList → Bytes
   spell segments = gather spellSegment segments
+
+-- ---- line breaks (request 2026-01)
+
+-- the value's first byte is a break
+unfoldable pub leadsBreak : Bytes → Bool
+leadsBreak value = maybe false isBreak (at value 0)
+
+-- "No segment of a list may begin with a break": its first value's first byte
+unfoldable pub beginsBroken : List (List Bytes) → Bool
+beginsBroken segment = maybe false leadsBreak (valueAt segment 0 0)
+
+-- the list spelled with bytes after each segment, of which there may be fewer, and then none follow
+module _ (c : Characters) where
+  unfoldable pub spellApart : SegmentList → List Bytes → Bytes
+  spellApart [] between = []
+  spellApart (segment ∷ segments) [] = spellSegment c segment ++ spellApart segments []
+  spellApart (segment ∷ segments) (gap ∷ between) = spellSegment c segment ++ (gap ++ spellApart segments between)

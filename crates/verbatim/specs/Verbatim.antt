@@ -1,14 +1,14 @@
--- A body that is spelled as in its normal form (paper 01, "Normal form"), by a test of its service characters and of each two bytes
--- that stand side by side. It says so of no other body, and misses some: a released separator is taken for one that separates.
--- Assumes nothing.
+-- A body that is spelled as in its normal form (paper 01, "Normal form"), but for line breaks between segments, by a test of its service
+-- characters and of each two bytes that stand side by side. It says so of no other body, and misses some: a released separator is taken
+-- for one that separates. Assumes nothing.
 use Prim.Native.Nat.{ℕ}
-use mathlib.Core.Bool.{Bool, not, _&&_, _||_}
+use mathlib.Core.Bool.{Bool, true, not, _&&_, _||_}
 use mathlib.Core.List.{List, [], _∷_}
-use lib.Dec.{eqb}
+use lib.Dec.{eqb, leb}
 use Rattle.lists.specs.Lists.{same, all}
 use Rattle.characters.specs.declared.Characters.{Characters}
 use Rattle.characters.specs.Characters.{spelledOut}
-use Rattle.values.specs.Tokens.{Token}
+use Rattle.values.specs.Tokens.{Token, byte, separator, fault}
 use Rattle.values.specs.Values.{isFault}
 use Rattle.stages.specs.Contents.{normalCharacters}
 
@@ -34,3 +34,12 @@ module _ (c : Characters) where
 -- no fault 4 lies in the tokens
 unfoldable pub faultless : List Token → Bool
 faultless ts = all (λ t. not (isFault t)) ts
+
+-- no byte of a value is below the space, as none is that is in a level
+unfoldable pub isVisible : Token → Bool
+isVisible (byte b from place) = leb 32 b
+isVisible (separator rank place) = true
+isVisible (fault place) = true
+
+unfoldable pub visible : List Token → Bool
+visible ts = all isVisible ts

@@ -1,6 +1,7 @@
-// A body that is already spelled as in its normal form (paper 01, "Normal form"): the service characters
-// are the normal form's, and there is nothing to trim. It promises the answer of the test in
-// specs/, which says so of no other body and misses one only at a released separator.
+// A body that is already spelled as in its normal form (paper 01, "Normal form"), but for line breaks
+// between segments: the service characters are the normal form's, and there is nothing to trim. It
+// promises the answer of the test in specs/, which says so of no other body and misses one only at a
+// released separator.
 ghost use mathlib.Core.Path.{_≡_};
 ghost use lib.ListN.{drop};
 ghost use Rattle.stages.specs.Contents.{normalCharacters};
@@ -54,7 +55,7 @@ fn is_clean(s: &[u8], c: Characters, start: usize) -> bool
     !(found | is_idle(c, before, c.terminator))
 }
 
-// The body that begins at `start` is already spelled as in its normal form.
+// The body that begins at `start` is already spelled as in its normal form, but for line breaks.
 pub fn is_verbatim(s: &[u8], c: Characters, start: usize) -> bool
     ensures { λ r. ⌜ r ≡ verbatim c (drop start (now (s .entry))) ⌝ }
 {

@@ -7,7 +7,7 @@ ghost use mathlib.Core.Path.{_≡_};
 ghost use mathlib.Core.List.{[]};
 ghost use Rattle.segments.specs.declared.Section.the-variants.{None};
 ghost use Rattle.segments.specs.Order.{walkOver};
-ghost use Rattle.control_elements.specs.Sections.{place};
+ghost use Rattle.control_elements.specs.Sections.{turn};
 ghost use Rattle.walk_laws.specs.Walking.{Within, allowedBefore, allowedBetween, allowedInGroup, allowedInMessage, atPlace, allowedBy, messageOpened, messageClosed, standsAfter, afterKind, sectionKept, steppedBy, follows, isMarker, marksBy, fitsBy, laterSection, begunBy, isAfter};
 ghost use Rattle.refusals.specs.Limits.{mostBytes};
 use segments::Groups;
@@ -219,9 +219,9 @@ pub fn stepped(w: Walk, kind: Kind) -> Walk
     }
 }
 
-// Where a section stands in a message.
-fn place_of(section: Section) -> u8
-    ensures { λ r. ⌜ r ≡ place section ⌝ }
+// The turn of a section in a message.
+fn turn_of(section: Section) -> u8
+    ensures { λ r. ⌜ r ≡ turn section ⌝ }
 {
     match section {
         Section::None => 0,
@@ -235,7 +235,7 @@ fn place_of(section: Section) -> u8
 fn may_follow(last: Section, section: Section) -> bool
     ensures { λ r. ⌜ r ≡ follows last section ⌝ }
 {
-    place_of(last) < place_of(section)
+    turn_of(last) < turn_of(section)
 }
 
 // Only a UNS begins a section.

@@ -1,6 +1,5 @@
 -- The section that began last in the message tells which section may begin, where each UNS that passed kept the rule; and it is what the
 -- walk keeps. What passed is a list of segments, the nearest first. Assumes nothing.
-use Prim.Native.Nat.{ℕ}
 use mathlib.Core.Path.{_≡_, refl, sym, ap, ap₂, _∙_}
 use mathlib.Core.Bool.{Bool, true, false, not, _&&_, _||_, false≢true, and-false}
 use mathlib.Core.List.{List, [], _∷_, map}
@@ -17,7 +16,7 @@ use Rattle.segments.specs.declared.Walk.{Walk}
 use Rattle.segments.specs.Kinds.{is}
 use Rattle.segments.specs.Tags.{kindOf}
 use Rattle.segments.specs.Order.{allowed, walkOver}
-use Rattle.control_elements.specs.Sections.{sectionOf, place, isSection, markersIn, hasSection, mayBegin, sectionRule, lastSection}
+use Rattle.control_elements.specs.Sections.{sectionOf, turn, isSection, markersIn, hasSection, mayBegin, sectionRule, lastSection}
 use Rattle.walk_laws.specs.Walking.{walked, marked, follows, sectionBegun, marksBy, fitsBy, sectionKept, steppedBy, laterSection, begunBy}
 use Rattle.walk_laws.proofs.Places.{each}
 use Rattle.walk_laws.proofs.Walks.{allowed-over, stepped-over, begun-over}
@@ -100,7 +99,7 @@ tells (g ∷ past) h =
 
 begins-after : (past : List Segment) → marked past ≡ true → (section : Section) → follows (lastSection past) section ≡ mayBegin past section
 unfolding mayBegin hasSection lastSection
-begins-after past h None = le-ltb (place (lastSection past)) 0 (omega arith)
+begins-after past h None = le-ltb (turn (lastSection past)) 0 (omega arith)
 begins-after past h Detail = sym (tells past h .0)
 begins-after past h Summary = sym (tells past h .1)
 

@@ -15,7 +15,7 @@ use Rattle.segments.specs.declared.Section.{Section}
 use Rattle.segments.specs.declared.Section.the-variants.{None, Detail, Summary}
 use Rattle.segments.specs.declared.Walk.{Walk}
 use Rattle.segments.specs.Order.{segmentsIn, messagesIn, groupsIn, segmentsSinceHeader, messagesSinceGroup, allowed}
-use Rattle.control_elements.specs.Sections.{sectionOf, place, sectionRule}
+use Rattle.control_elements.specs.Sections.{sectionOf, turn, sectionRule}
 
 -- each of them was allowed where it stood
 unfoldable pub walked : List Kind → Bool
@@ -119,7 +119,7 @@ allowedBy w kind = allowedFrom (w .standing) w kind
 
 -- "each at most once in a message, D before S if both stand": a section comes after the one that began last, and a UNS names one
 abbrev pub follows : Section → Section → Bool
-follows last section = ltb (place last) (place section)
+follows last section = ltb (turn last) (turn section)
 
 -- only a UNS begins one
 abbrev pub isMarker : Kind → Bool

@@ -42,6 +42,11 @@
  * at most 96,000 numbers. What is longer may be given, and is refused. A buffer that is written to
  * may have any length, Read's table with it.
  *
+ * Line breaks. Carriage returns and line feeds (bytes 13 and 10) directly after a segment's
+ * terminator, or directly after the advice, are passed over, however many; anywhere else they are
+ * bytes like any other, and outside every level. They count in the 32,000 bytes of an input, in the
+ * lengths that Keep compares, and in offsets. Contents and normal form hold none.
+ *
  * Structs. What a struct has between its fields and behind them is not specified: compare fields,
  * not memory.
  */
@@ -65,13 +70,13 @@ extern "C" {
  * hverolda_rules tells the archive's: where the two differ, the archive is not this header's, and a
  * number that it answers may be one that is not in it.
  */
-#define HVEROLDA_RULES 2
+#define HVEROLDA_RULES 3
 
 /*
  * Refusals by number, and the place that goes with each. 0 is no refusal.
  *
  * A place is an offset in the input (for Write, in the text that it would have written), unless the
- * line says otherwise. "Start" is that of a segment.
+ * line says otherwise. "Start" is that of a segment, after the line breaks before it.
  */
 enum hverolda_refusal {
     HVEROLDA_NOT_REFUSED = 0,
@@ -79,9 +84,10 @@ enum hverolda_refusal {
     HVEROLDA_TOO_LONG = 1,
     /* Unusable advice, or shorter than its 9 bytes; Write: not six usable bytes. Place: 0. */
     HVEROLDA_UNUSABLE_ADVICE = 2,
-    /* The body doesn't begin `UNB` and the element separator. Place: 0, or 9 after an advice.
-       An advice is `UNA` and six bytes, and the body is what follows it. Without one the body is the
-       whole input, and begins `UNB+` (then `:` separates components and `+` elements, the mark is
+    /* The body doesn't begin `UNB` and the element separator. Place: where the body starts, which is
+       0, or after an advice 9 and as many as there are line breaks behind it. An advice is `UNA` and
+       six bytes, and the body is what follows it and the breaks. Without one the body is the whole
+       input, in front of which no break may stand, and begins `UNB+` (then `:` separates components and `+` elements, the mark is
        `.`, the release character `?`, the terminator `'`) or `UNB` and byte 29 (then byte 31
        separates components and 29 elements, the mark is `.`, there is no release character, and the
        terminator is byte 28). */
@@ -112,8 +118,8 @@ enum hverolda_refusal {
     /* Lent buffer too short. Place: the bytes, or table numbers, needed. */
     HVEROLDA_BUFFER_SHORT = 14,
     /* Value list: table over 96,000 numbers or not a multiple of 3, or first kind not 0 (place: 0);
-       kind above 2, or start plus length above the number of bytes (place: the lowest such record's
-       number, from 0). */
+       kind above 2, or start plus length above the number of bytes, or a value of kind 0 whose first
+       byte is a line break (place: the lowest such record's number, from 0). */
     HVEROLDA_BAD_LIST = 15,
     /* A value holds a service character and there is no release. Place: the lowest such record's
        number, from 0. */

@@ -75,6 +75,14 @@ sed -E 's/(refused [0-9]+ [0-9]+) .*/\1/' "$work/out" |
 expect 0 "UNA:+.? '$(cat "$x")" '' "$hverolda" normalise "$respelled"
 cmp -s <(printf "UNA:+.? '" && cat "$x") "$work/out" || complain 'a normal form has a byte besides'
 expect 1 '' "hverolda: $wrong: refused 12 67 $sentence" "$hverolda" normalise "$wrong"
+# one segment a line
+sed "s/'/&\r\n/g" "$x" >"$work/in-lines"
+[[ $(wc -c <"$work/in-lines") -eq 94 ]] || complain 'five lines of X have not 94 bytes'
+expect 0 "$accepted" '' "$hverolda" judge "$work/in-lines"
+expect 0 "UNA:+.? '$(cat "$x")" '' "$hverolda" normalise "$work/in-lines"
+cmp -s <(printf "UNA:+.? '" && cat "$x") "$work/out" || complain 'a line break reaches the normal form'
+expect 0 "keep 2 $x" '' "$hverolda" keep "$work/in-lines" "$x"
+expect 0 'at 66 4 A[?]+B' '' "$hverolda" locate 2 2 0 "$work/in-lines"
 expect 0 same '' "$hverolda" compare "$x" "$respelled"
 expect 0 same '' "$hverolda" compare - "$respelled" <"$x"
 expect 1 different '' "$hverolda" compare "$x" "$cases/11-plain-plus.edi"
@@ -100,6 +108,7 @@ for input in "${good[@]}"; do
 done
 expect 1 '' 'hverolda: -: refused text 8 *' "$hverolda" write "$six" <<<$'0 UNB\n1 UNOA\n2 1\n1 \\x41\\x0a'
 expect 1 '' 'hverolda: -: refused text 15 1 *' "$hverolda" write "$six" <<<$'0 UNB\n7 UNOA'
+expect 1 '' 'hverolda: -: refused text 15 2 *' "$hverolda" write "$six" <<<$'0 UNB\n1 UNOA\n0 \\x0aUNZ'
 expect 2 '' 'hverolda: -: line 2 is no kind and value' "$hverolda" write "$six" <<<$'0 UNB\n1UNOA'
 expect 2 '' 'hverolda: -: line 1 is no kind and value' "$hverolda" write "$six" <<<'0 UNB\x4'
 cp "$x" "$work/"$'a\naccepted 5 1 0 93'

@@ -1,4 +1,5 @@
--- `normal_form_text::put_contents` meets its contract: what is emitted of a body that is spelled as in its normal form is that body, and another
+-- `normal_form_text::put_contents` meets its contract: what is emitted of a body that is spelled as in its normal form is that body without
+-- its line breaks, and another
 -- one is stored token by token. Assumes nothing.
 use Prim.Native.Nat.{_+_, _≤_}
 use mathlib.Core.Path.{sym, ap, subst, _∙_}
@@ -16,9 +17,9 @@ use Rattle.normal_form_text.proofs.put_contents.Tie as tie
 is-verbatim-requires : tie.Need-is-verbatim-requires
 is-verbatim-requires c κs = search needs
 
-copy-requires : tie.Need-copy-requires
-copy-requires c κs =
-    let same = emitted-verbatim (c .before .before .before .before .before .args .c) (c .before .before .before .before .before .args .s .now) (c .before .before .before .before .before .args .start) (sym (c .before .before .is-verbatim .ensures) ∙ c .before .if1 .taken) (c .before .before .before .before .before .pre .3) in
+put-unbroken-requires : tie.Need-put-unbroken-requires
+put-unbroken-requires c κs =
+    let same = emitted-verbatim (c .before .before .before .before .before .args .c) (c .before .before .before .before .before .args .s .now) (c .before .before .before .before .before .args .start) (sym (c .before .before .is-verbatim .ensures) ∙ c .before .if1 .taken) (c .before .before .before .before .before .pre .3) (c .before .before .before .before .before .pre .4) in
     omega (arith, ap length same, c .before .before .before .before .before .pre .0)
 
 same-length : tie.Need-same-length
@@ -26,8 +27,8 @@ same-length c = search needs
 
 returns : tie.Need-returns
 returns c =
-    let same = emitted-verbatim (c .before .before .before .before .before .before .before .before .args .c) (c .before .before .before .before .before .before .before .before .args .s .now) (c .before .before .before .before .before .before .before .before .args .start) (sym (c .before .before .before .before .before .is-verbatim .ensures) ∙ c .before .before .before .before .if1 .taken) (c .before .before .before .before .before .before .before .before .pre .3) in
-    c .before .before .copy .ensures ∙ ap (sets (c .before .before .before .before .before .before .before .before .args .buffer .now) (c .before .before .before .before .before .before .before .before .args .from)) (sym same)
+    let same = emitted-verbatim (c .before .before .before .before .before .before .before .before .args .c) (c .before .before .before .before .before .before .before .before .args .s .now) (c .before .before .before .before .before .before .before .before .args .start) (sym (c .before .before .before .before .before .is-verbatim .ensures) ∙ c .before .before .before .before .if1 .taken) (c .before .before .before .before .before .before .before .before .pre .3) (c .before .before .before .before .before .before .before .before .pre .4) in
+    c .before .before .put-unbroken .ensures ∙ ap (sets (c .before .before .before .before .before .before .before .before .args .buffer .now) (c .before .before .before .before .before .before .before .before .args .from)) (sym same)
 
 normal-characters-requires : tie.Need-normal-characters-requires
 normal-characters-requires c κs = search needs
@@ -51,7 +52,7 @@ put-contents-spec =
     tie.close
     (tie.spec
     is-verbatim-requires
-    copy-requires
+    put-unbroken-requires
     same-length
     returns
     normal-characters-requires

@@ -16,7 +16,7 @@ use Rattle.answers.specs.declared.Figures.{Figures}
 use Rattle.storing.proofs.Stores.{stored-length}
 use Rattle.judge.proofs.Bodies.{accepted-short}
 use Rattle.judge.proofs.Told.{length-of, characters-of}
-use Rattle.normalise.proofs.Storing.{form-faultless, short-refuses, form-is, form-stored, parts-fit}
+use Rattle.normalise.proofs.Storing.{form-faultless, form-visible, short-refuses, form-is, form-stored, parts-fit}
 use Rattle.normalise.proofs.store_form.Statement.{statement}
 use Rattle.normalise.proofs.store_form.Tie as tie
 
@@ -63,7 +63,7 @@ put-contents-requires c κs =
     (c .before .before .before .before .before .before .before .before .if1 .left) in
     let room : 9 + length (spelled (c .before .before .before .before .before .before .before .before .before .before .before .args .i) s (c .body-start .result)) ≤ length (c .before .before .before .before .put-advice .last .0) = omega arith in
     let a = c .before .before .before .before .before .before .before .before .before .before .before .pre .0 in
-    (room, lit≤ tt, accepted-short s a, form-faultless s a (characters-of s i) (c .body-start .ensures))
+    (room, lit≤ tt, accepted-short s a, form-faultless s a (characters-of s i) (c .body-start .ensures), form-visible s a (characters-of s i) (c .body-start .ensures))
 
 same-length : tie.Need-same-length
 same-length c = search needs

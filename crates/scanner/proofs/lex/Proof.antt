@@ -1,77 +1,61 @@
 -- `scanner::lex` meets its contract: each arm is one law of `Lexing`. Assumes nothing.
 use mathlib.Core.Path.{sym, _∙_}
-use borrow.Author.Needs.{needs}
-use Rattle.characters.specs.declared.Role.the-variants.{Separator, Release, Plain}
+use Rattle.characters.specs.declared.Role.the-variants.{Plain}
 use Rattle.scanner.specs.Scanner.{lexRole}
-use Rattle.scanner.proofs.Lexing.{lex-end, lex-role, lex-last, lex-taken}
+use Rattle.scanner.proofs.Lexing.{lex-end, lex-separator, lex-role, lex-last, lex-taken}
+use borrow.Author.Needs.{needs}
 use Rattle.scanner.proofs.lex.Statement.{statement}
 use Rattle.scanner.proofs.lex.Tie as tie
-use Rattle.scanner.proofs.lex.Reads as reads
-use Rattle.scanner.proofs.lex.Lts as lts
-use Rattle.scanner.proofs.role_of.Reads as role-of-reads
-use Rattle.scanner.proofs.taken.Reads as taken-reads
 
--- src/lib.rt:51:9
 returns : tie.Need-returns
 returns c = lex-end _ _ _ (search needs)
 
--- src/lib.rt:53:13
 shared-slice-read-b : tie.Need-shared-slice-read-b
 shared-slice-read-b c = search needs
 
--- src/lib.rt:54:16
 add-next : tie.Need-add-next
 add-next c = search needs
 
--- src/lib.rt:55:11
 role-of-requires : tie.Need-role-of-requires
 role-of-requires c κs = search needs
 
--- src/lib.rt:56:25
 enum-known-rank : tie.Need-enum-known-rank
 enum-known-rank c = search needs
 
--- src/lib.rt:57:24
+separated-requires : tie.Need-separated-requires
+separated-requires c κs = search needs
+
 enum-told : tie.Need-enum-told
 enum-told c = search needs
 
--- src/lib.rt:59:16
 enum-told-2 : tie.Need-enum-told-2
 enum-told-2 c = search needs
 
--- src/lib.rt:62:25
 shared-slice-read-d : tie.Need-shared-slice-read-d
 shared-slice-read-d c = search needs
 
--- src/lib.rt:63:23
 role-of-requires-2 : tie.Need-role-of-requires-2
 role-of-requires-2 c κs = search needs
 
--- src/lib.rt:63:47
 add-taken : tie.Need-add-taken
 add-taken c = search needs
 
--- src/lib.rt:63:17
 taken-requires : tie.Need-taken-requires
 taken-requires c κs = search needs
 
--- src/lib.rt:47:1
 returns-2 : tie.Need-returns-2
-unfolding lexRole
 returns-2 c =
-    lex-role (c .before .before .before .before .before .before .before .args .c) _ _ (Separator (c .before .rank .given .0 .0)) (search needs)
-    (sym (c .before .before .before .role-of .ensures) ∙ c .before .rank .given .1)
+    c .separated .ensures
+    ∙ lex-separator (c .before .before .before .before .before .before .before .before .args .c) _ _ (c .before .before .rank .given .0 .0) (search needs)
+    (sym (c .before .before .before .before .role-of .ensures) ∙ c .before .before .rank .given .1)
 
--- src/lib.rt:47:1
 returns-3 : tie.Need-returns-3
 unfolding lexRole
 returns-3 c = lex-role _ _ _ Plain (search needs) (sym (c .before .before .role-of .ensures) ∙ c .enum-told .given .1)
 
--- src/lib.rt:47:1
 returns-4 : tie.Need-returns-4
 returns-4 c = lex-last _ _ _ (search needs) (search needs) (sym (c .before .before .before .role-of .ensures) ∙ c .before .enum-told2 .given .1)
 
--- src/lib.rt:47:1
 returns-5 : tie.Need-returns-5
 returns-5 c =
     c .taken .ensures
@@ -88,6 +72,7 @@ lex-spec =
     add-next
     role-of-requires
     enum-known-rank
+    separated-requires
     enum-told
     enum-told-2
     shared-slice-read-d

@@ -1,8 +1,9 @@
--- `stage_length::measured` meets its contract: a body that is spelled as in its normal form has that length, and another one is measured
+-- `stage_length::measured` meets its contract: a body that is spelled as in its normal form has its length without line
+-- breaks, and another one is measured
 -- token by token. Assumes nothing.
 use Prim.Native.Nat.{ℕ}
 use mathlib.Core.Path.{sym, ap, _∙_}
-use lib.ListN.{length, length-drop}
+use lib.ListN.{length}
 use borrow.Author.Needs.{needs}
 use Rattle.characters.specs.declared.Characters.{Characters}
 use Rattle.values.specs.Tokens.{tokensAt}
@@ -14,14 +15,15 @@ use Rattle.stage_length.proofs.measured.Tie as tie
 is-verbatim-requires : tie.Need-is-verbatim-requires
 is-verbatim-requires c κs = search needs
 
-sub-result : tie.Need-sub-result
-sub-result c = search needs
+unbroken-length-requires : tie.Need-unbroken-length-requires
+unbroken-length-requires c κs = search needs
 
 returns : tie.Need-returns
 returns c =
-    let s = c .before .before .before .args .s .now in
-    let start = c .before .before .before .args .start in
-    sym (ap length (emitted-verbatim (c .before .before .before .args .c) s start (sym (c .before .is-verbatim .ensures) ∙ c .if1 .taken) (c .before .before .before .pre .2)) ∙ length-drop start s)
+    let s = c .before .before .before .before .args .s .now in
+    let start = c .before .before .before .before .args .start in
+    c .unbroken-length .ensures
+    ∙ sym (ap length (emitted-verbatim (c .before .before .before .before .args .c) s start (sym (c .before .before .is-verbatim .ensures) ∙ c .before .if1 .taken) (c .before .before .before .before .pre .1) (c .before .before .before .before .pre .2)))
 
 normal-characters-requires : tie.Need-normal-characters-requires
 normal-characters-requires c κs = search needs
@@ -35,4 +37,4 @@ returns-2 c =
     c .measured-by-token .ensures ∙ ap (λ (n : Characters). length (emitted n nothing ts)) (c .before .normal-characters .ensures)
 
 pub measured-spec : {M : Type 1} → statement M
-measured-spec = tie.close (tie.spec is-verbatim-requires sub-result returns normal-characters-requires measured-by-token-requires returns-2)
+measured-spec = tie.close (tie.spec is-verbatim-requires unbroken-length-requires returns normal-characters-requires measured-by-token-requires returns-2)

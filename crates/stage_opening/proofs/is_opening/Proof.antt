@@ -1,6 +1,5 @@
 -- `stage_opening::is_opening` meets its contract: `UNB` stands where the body begins, and the element separator after it. Assumes nothing.
-use native.Mathlib.Omega.{arith}
-use Rattle.stage_opening.proofs.Beginnings.{start-small, opens-tests}
+use Rattle.stage_opening.proofs.Beginnings.{opens-tests}
 use borrow.Author.Needs.{needs}
 use Rattle.stage_opening.proofs.is_opening.Statement.{statement}
 use Rattle.stage_opening.proofs.is_opening.Tie as tie
@@ -12,11 +11,7 @@ characters-of-requires : tie.Need-characters-of-requires
 characters-of-requires c κs = search needs
 
 tag-stands-requires : tie.Need-tag-stands-requires
-tag-stands-requires c κs = omega (arith, c .before .body-start .ensures, start-small (c .before .before .before .args .s .now))
-
-add-byte-stands : tie.Need-add-byte-stands
-add-byte-stands c =
-    record { fits = omega (arith, c .before .before .body-start .ensures, start-small (c .before .before .before .before .args .s .now)) }
+tag-stands-requires c κs = search needs
 
 byte-stands-requires : tie.Need-byte-stands-requires
 byte-stands-requires c κs = search needs
@@ -36,6 +31,5 @@ is-opening-spec =
     body-start-requires
     characters-of-requires
     tag-stands-requires
-    add-byte-stands
     byte-stands-requires
     returns)

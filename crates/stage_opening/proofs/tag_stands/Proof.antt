@@ -7,14 +7,8 @@ use Rattle.stage_opening.proofs.tag_stands.Tie as tie
 byte-stands-requires : tie.Need-byte-stands-requires
 byte-stands-requires c κs = search needs
 
-add-byte-stands : tie.Need-add-byte-stands
-add-byte-stands c = search needs
-
 byte-stands-requires-2 : tie.Need-byte-stands-requires-2
 byte-stands-requires-2 c κs = search needs
-
-add-byte-stands-2 : tie.Need-add-byte-stands-2
-add-byte-stands-2 c = search needs
 
 byte-stands-requires-3 : tie.Need-byte-stands-requires-3
 byte-stands-requires-3 c κs = search needs
@@ -31,8 +25,6 @@ tag-stands-spec =
     tie.close
     (tie.spec
     byte-stands-requires
-    add-byte-stands
     byte-stands-requires-2
-    add-byte-stands-2
     byte-stands-requires-3
     returns)

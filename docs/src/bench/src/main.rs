@@ -4,6 +4,7 @@
 //! `bench [ROUNDS]`: each round runs the four functions on every interchange,
 //! one after the other, in an order that moves on with each round.
 
+mod lines;
 mod orders;
 mod pairs;
 mod passes;
@@ -52,6 +53,7 @@ fn main() {
     report(&measured(&interchanges, rounds, &mut ours, &mut theirs), bytes);
     report_passes(&interchanges[..INTERCHANGES / 4], rounds);
     pairs::report(&interchanges[..INTERCHANGES / 4], rounds);
+    lines::report(&mut random, rounds, &mut ours, &mut theirs);
 }
 
 /// How many are accepted, after both have answered the same on all, with the

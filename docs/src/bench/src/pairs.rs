@@ -20,13 +20,15 @@ fn normal_form(order: &[u8]) -> Vec<u8> {
     form
 }
 
-/// The first digit of a line item's quantity, after the middle, is another.
+/// The first digit from the middle on that can be another, so that the order is still accepted.
 fn one_digit_changed(order: &[u8]) -> Vec<u8> {
-    let mut other = order.to_vec();
-    let middle = order.len() / 2;
-    let at = middle + order[middle..].iter().position(u8::is_ascii_digit).expect("a digit");
-    other[at] = if other[at] == b'1' { b'2' } else { b'1' };
-    other
+    let digits = (order.len() / 2..order.len()).filter(|&at| order[at].is_ascii_digit());
+    let mut changed = digits.map(|at| {
+        let mut other = order.to_vec();
+        other[at] = if other[at] == b'1' { b'2' } else { b'1' };
+        other
+    });
+    changed.find(|other| operations::judge(other).is_ok()).expect("such a digit")
 }
 
 /// Prints, for each kind, the best time of ours and of the second program's, for each byte of the two inputs.

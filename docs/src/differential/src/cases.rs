@@ -1,13 +1,15 @@
 //! The cases of a run. Each is a few calls that belong together.
 
 use second::cases::{all_cases, all_pairs};
-use second::generator::{request, Random, ALL_KINDS};
+use second::generator::{request, with_breaks, Random, ALL_KINDS};
+use second::line_breaks::is_break;
 use second::operations;
 use second::refusal::{BUFFER, LONGEST, LONGEST_TABLE};
 use second::request_stream::Request;
 
 use hverolda::surface::{Comparison, Kept, Verdict};
 
+use crate::breaks::{after_breaks, misplaced};
 use crate::call::{Answer, Call, Outcome, Told};
 use crate::inputs;
 use crate::lent::filled;
@@ -58,7 +60,7 @@ fn line(answer: &Answer) -> String {
 
 /// A case at random.
 pub fn any(run: &mut Run) -> Checked<()> {
-    match run.random.below(20) {
+    match run.random.below(23) {
         0..=5 => {
             let kind = run.random.pick(ALL_KINDS.as_bytes());
             let call = request(&mut run.random, kind).into();
@@ -66,6 +68,8 @@ pub fn any(run: &mut Run) -> Checked<()> {
         }
         6..=10 => {
             let input = inputs::input(&mut run.random);
+            let broken = input.iter().copied().any(is_break);
+            run.tally.count("input", if broken { "with line breaks" } else { "in one line" });
             every_operation(run, input)
         }
         11 if run.random.chance(75) => known(run, "limit", limit),
@@ -75,6 +79,8 @@ pub fn any(run: &mut Run) -> Checked<()> {
             let change = run.random.pick(&CHANGES);
             known_pair(run, change)
         }
+        17 | 18 => known_breaks(run),
+        19 => known_misplaced(run),
         _ => list(run),
     }
 }
@@ -183,6 +189,34 @@ fn known(run: &mut Run, what: &'static str, make: fn(&mut Random) -> Limit) -> C
     every_operation(run, input)
 }
 
+/// An input, now and then at a limit, and the same with line breaks that are
+/// passed over.
+fn known_breaks(run: &mut Run) -> Checked<()> {
+    let input = match run.random.chance(8) {
+        true => limit(&mut run.random).input,
+        false => inputs::input(&mut run.random),
+    };
+    let broken = with_breaks(&mut run.random, &input);
+    let before = match run.check(&Call::Judge { input })?.answer {
+        Answer::Judge(verdict) => verdict,
+        other => unreachable!("Judge answers {other:?}"),
+    };
+    let (after, name) = after_breaks(before, &broken);
+    let known = Outcome::of(Answer::Judge(after));
+    run.check_known(&Call::Judge { input: broken.input.clone() }, &known, name)?;
+    run.tally.count("line breaks", name);
+    every_operation(run, broken.input)
+}
+
+/// An interchange with a line break where it may not stand.
+fn known_misplaced(run: &mut Run) -> Checked<()> {
+    let (input, verdict, name) = misplaced(&mut run.random);
+    let known = Outcome::of(Answer::Judge(verdict));
+    run.check_known(&Call::Judge { input: input.clone() }, &known, name)?;
+    run.tally.count("line break", name);
+    every_operation(run, input)
+}
+
 /// A value list at a limit, with the answer that the paper gives it.
 fn known_write_limit(run: &mut Run) -> Checked<()> {
     let WriteLimit { service, values, table, written, name } = write_limit(&mut run.random);
@@ -230,6 +264,9 @@ fn list(run: &mut Run) -> Checked<()> {
     if run.random.chance(30) {
         make_wild(&mut run.random, &mut table, values.len() as u32);
     }
+    if begins_with_break(&values, &table) {
+        run.tally.count("write list", "a segment begins with a break");
+    }
     let needed = match operations::write(&service, &values, &table, &mut []) {
         Err(refusal) if refusal.number == BUFFER => refusal.place,
         _ => 0,
@@ -241,4 +278,12 @@ fn list(run: &mut Run) -> Checked<()> {
         run.tally.count("write output", name);
     }
     owned::of_list(run, &service, &values, &table)
+}
+
+/// Has the list a record of kind 0 whose value begins with a break?
+fn begins_with_break(values: &[u8], table: &[u32]) -> bool {
+    table.chunks_exact(3).any(|record| {
+        let first = values.get(record[1] as usize).copied();
+        record[0] == 0 && record[2] > 0 && first.map_or(false, is_break)
+    })
 }

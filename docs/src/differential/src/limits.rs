@@ -1,13 +1,15 @@
 //! Interchanges and value lists at the limits, each with the answer that the
 //! paper gives it: 14 bytes of a reference and 6 digits of a count, 32,000
-//! bytes of input, text and normal form, as many values as these can hold,
-//! 96,000 numbers of a table; and those of [`wide`](crate::wide).
+//! bytes of input, text and normal form, as many values or line breaks as these
+//! can hold, 96,000 numbers of a table; and those of [`wide`](crate::wide).
 //!
-//! Paper, clause "Control elements" and refusals 1, 10, 13 and 15.
+//! Paper, clause "Control elements" and refusals 1, 10, 13 and 15; change
+//! request 2026-01.
 
 use hverolda::surface::{Verdict, Written};
 use hverolda::{Kind, ValueList};
-use second::generator::Random;
+use second::cases::X;
+use second::generator::{filled_with_breaks, Random};
 use second::refusal::{CONTROL, LIST, LONGEST, LONGEST_TABLE, NORMAL_LENGTH, OVER_LENGTH};
 
 use crate::wide;
@@ -20,9 +22,10 @@ pub struct Limit {
 }
 
 pub fn limit(random: &mut Random) -> Limit {
-    match random.below(5) {
+    match random.below(6) {
         0 => many_values(random),
         1 => wide::input(random),
+        2 => many_breaks(random),
         _ => control_elements(random),
     }
 }
@@ -76,6 +79,17 @@ fn many_values(random: &mut Random) -> Limit {
         (31_999, _) => (accepted(5, 1, length), "a normal form of 31999 bytes"),
         (_, "") => (refused(NORMAL_LENGTH, length), "a normal form of 32001 bytes"),
         _ => (refused(OVER_LENGTH, 0), "an input of 32001 bytes"),
+    };
+    Limit { input, verdict, name }
+}
+
+/// X and line breaks that are passed over, 32,000 bytes together or one more.
+fn many_breaks(random: &mut Random) -> Limit {
+    let length = random.between(LONGEST, LONGEST + 1);
+    let input = filled_with_breaks(random, X.as_bytes(), length - X.len());
+    let (verdict, name) = match length {
+        LONGEST => (accepted(5, 1, X.len() + 9), "X and breaks of 32000 bytes"),
+        _ => (refused(OVER_LENGTH, 0), "X and breaks of 32001 bytes"),
     };
     Limit { input, verdict, name }
 }

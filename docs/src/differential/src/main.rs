@@ -9,6 +9,7 @@
 //! never occurred, unless `--partial` says that the run is a short one.
 //! `--tight` leaves the guards out, for a run under a tool that watches memory.
 
+mod breaks;
 mod by_second;
 mod by_surface;
 mod by_wrapper;

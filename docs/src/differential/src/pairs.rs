@@ -4,9 +4,10 @@
 //! Paper, clauses "Service characters", "From bytes to values" and "Normal
 //! form": the same contents and mark under any usable characters are the same,
 //! a release character that releases nothing with them; one byte, component,
-//! trailing space or mark makes a difference.
+//! trailing space or mark makes a difference. Change request 2026-01: line
+//! breaks between segments make none.
 
-use second::generator::{any_valid, Draft, Random};
+use second::generator::{any_valid, with_breaks, Draft, Random};
 use second::level::{holds, Level};
 use second::service_characters::{from_six, ServiceCharacters};
 
@@ -15,15 +16,17 @@ use second::service_characters::{from_six, ServiceCharacters};
 pub enum Change {
     Respelled,
     UnusedRelease,
+    Breaks,
     Byte,
     Component,
     TrailingSpace,
     Mark,
 }
 
-pub const CHANGES: [Change; 6] = [
+pub const CHANGES: [Change; 7] = [
     Change::Respelled,
     Change::UnusedRelease,
+    Change::Breaks,
     Change::Byte,
     Change::Component,
     Change::TrailingSpace,
@@ -35,6 +38,7 @@ impl Change {
         match self {
             Change::Respelled => "respelled",
             Change::UnusedRelease => "only an unused release character changed",
+            Change::Breaks => "line breaks put in",
             Change::Byte => "one byte changed",
             Change::Component => "one component changed",
             Change::TrailingSpace => "trailing space",
@@ -44,21 +48,23 @@ impl Change {
 
     /// Are the two the same after it?
     pub fn is_same(self) -> bool {
-        matches!(self, Change::Respelled | Change::UnusedRelease)
+        matches!(self, Change::Respelled | Change::UnusedRelease | Change::Breaks)
     }
 }
 
 /// Two accepted interchanges, the second respelled after this change.
 pub fn pair(random: &mut Random, change: Change) -> (Vec<u8>, Vec<u8>) {
     let mut draft = any_valid(random);
-    if change == Change::UnusedRelease {
-        return one_byte_apart(random, draft);
+    match change {
+        Change::UnusedRelease => return one_byte_apart(random, draft),
+        Change::Breaks => return breaks_apart(random, &draft),
+        _ => {}
     }
     // the sender, which nobody judges, so that there is a byte to change
     draft.segments[0][2][0].push(b'A');
     let mut other = draft.clone();
     match change {
-        Change::Respelled | Change::UnusedRelease => {}
+        Change::Respelled | Change::UnusedRelease | Change::Breaks => {}
         Change::Byte => change_byte(random, &mut other),
         Change::Component => change_component(random, &mut other),
         Change::TrailingSpace => {
@@ -87,6 +93,17 @@ fn one_byte_apart(random: &mut Random, mut draft: Draft) -> (Vec<u8>, Vec<u8>) {
         other.characters = from_six(&six).unwrap_or(draft.characters);
     }
     (draft.spelled(), other.spelled())
+}
+
+/// Line breaks in one of the two, or other ones in each.
+fn breaks_apart(random: &mut Random, draft: &Draft) -> (Vec<u8>, Vec<u8>) {
+    let plain = draft.spelled();
+    let [one, other] = [0, 1].map(|_| with_breaks(random, &plain).input);
+    match random.below(3) {
+        0 => (plain, one),
+        1 => (one, plain),
+        _ => (one, other),
+    }
 }
 
 /// Segment, element and component.

@@ -23,7 +23,7 @@ const REFUSING: [(&str, &[u32]); 7] = [
 
 /// Other things that must occur: answers that are no refusals, sizes of
 /// buffers, and the ways in which two interchanges differ.
-const OTHERS: [(&str, &str); 60] = [
+const OTHERS: [(&str, &str); 78] = [
     ("judge", "accepted"),
     ("normalise", "stored"),
     ("compare", "same"),
@@ -55,7 +55,11 @@ const OTHERS: [(&str, &str); 60] = [
     ("write output", "one short"),
     ("write output", "65536 or more"),
     ("write output", "any of 65536 or more"),
+    ("input", "in one line"),
+    ("input", "with line breaks"),
     ("limit", "X and 65536 bytes or twice that"),
+    ("limit", "X and breaks of 32000 bytes"),
+    ("limit", "X and breaks of 32001 bytes"),
     ("limit", "a count of 7 digits"),
     ("limit", "a list's table and 131072 numbers"),
     ("limit", "a normal form of 31999 bytes"),
@@ -76,6 +80,19 @@ const OTHERS: [(&str, &str); 60] = [
     ("limit", "an interchange and 65536 bytes or twice that"),
     ("limit", "more than six service bytes"),
     ("limit", "values of 65536 bytes or more"),
+    ("line break", "before or in UNB"),
+    ("line break", "behind a release character"),
+    ("line break", "behind a released terminator"),
+    ("line break", "in a tag or right behind it"),
+    ("line break", "in a value"),
+    ("line break", "in the advice"),
+    ("line break", "in the level or the version"),
+    ("line breaks", "in an input over 32000 bytes"),
+    ("line breaks", "no place for one"),
+    ("line breaks", "over 32000 bytes by them"),
+    ("line breaks", "passed over, accepted"),
+    ("line breaks", "passed over, refused"),
+    ("pair", "line breaks put in"),
     ("pair", "one byte changed"),
     ("pair", "one component changed"),
     ("pair", "the mark changed"),
@@ -84,6 +101,7 @@ const OTHERS: [(&str, &str); 60] = [
     ("pair", "trailing space"),
     ("wrapper's text", "refused"),
     ("wrapper's text", "stored"),
+    ("write list", "a segment begins with a break"),
 ];
 
 #[derive(Default)]

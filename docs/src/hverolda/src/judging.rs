@@ -123,6 +123,14 @@ mod tests {
     }
 
     #[test]
+    fn line_breaks_between_segments_are_passed_over() {
+        let segments: Vec<&[u8]> = X.split_inclusive(|&byte| byte == b'\'').collect();
+        assert_eq!(judge(&segments.join(&b"\r\n"[..])), judge(X));
+        let advised = judge(b"UNA:+.? '\r\n\nUNZ").unwrap_err();
+        assert_eq!(advised, Refusal { fault: Fault::Beginning, place: 12 });
+    }
+
+    #[test]
     fn a_refusal_has_its_place() {
         assert_eq!(judge(WRONG_COUNT), Err(Refusal { fault: Fault::Count, place: 67 }));
         assert_eq!(judge(b""), Err(Refusal { fault: Fault::Beginning, place: 0 }));

@@ -27,6 +27,11 @@
 //! assert_eq!(hverolda::keep(first, second), first);
 //! ```
 //!
+//! Carriage returns and line feeds directly after a segment's terminator or after
+//! the service string advice are passed over, however many: an interchange with
+//! one segment a line is the same as the one without. Anywhere else they are
+//! refused as any such byte is.
+//!
 //! [`compare`] and [`keep`] take some 65,300 bytes of stack, all others less than
 //! 2,000, and none recurses: a stack of 96 KB is enough for a thread that calls
 //! them. What [`write()`] can cost stands there.
@@ -71,7 +76,7 @@ pub const LONGEST_TABLE: usize = 96_000;
 /// The number of the rules that this crate was written for. It rises with each
 /// change of an answer: whoever stores verdicts or normal forms stores it beside
 /// them, and sees when they are old. See [`rules()`].
-pub const RULES: u32 = 2;
+pub const RULES: u32 = 3;
 
 /// The number of the rules that the linked archive follows. Where it is above
 /// [`RULES`], a [`Fault`] or a [`Kind`] may be one that this crate does not know.

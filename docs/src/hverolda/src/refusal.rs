@@ -13,7 +13,8 @@ pub enum Fault {
     OverLength,
     /// 2: the service string advice is unusable or cut short.
     Advice,
-    /// 3: the body does not begin `UNB` and the element separator.
+    /// 3: the body, after the advice and the line breaks behind it, does not begin
+    /// `UNB` and the element separator.
     Beginning,
     /// 4: the release character stands before no service character.
     Release,
@@ -39,7 +40,8 @@ pub enum Fault {
     NormalLength,
     /// 14: a lent buffer is too short.
     Buffer,
-    /// 15: a value list's table is malformed.
+    /// 15: a value list's table is malformed, or a segment of the list begins with
+    /// a line break.
     List,
     /// 16: a value holds a service character and there is no release character.
     NoRelease,
@@ -65,7 +67,7 @@ const FAULTS: [(Fault, &str); 16] = [
     (Fault::Count, "the trailer's count is wrong"),
     (Fault::NormalLength, "the normal form has more than 32000 bytes"),
     (Fault::Buffer, "a lent buffer is too short"),
-    (Fault::List, "the value list's table is malformed"),
+    (Fault::List, "the value list's table is malformed, or the segment begins with a line break"),
     (Fault::NoRelease, "a service character stands in a value, with none to release it"),
 ];
 
@@ -197,7 +199,11 @@ mod tests {
             sentence(14, 93),
             "refused 14: a lent buffer is too short: 93 bytes or table numbers are needed"
         );
-        assert_eq!(sentence(15, 2), "refused 15 at record 2: the value list's table is malformed");
+        assert_eq!(
+            sentence(15, 2),
+            "refused 15 at record 2: the value list's table is malformed, \
+             or the segment begins with a line break"
+        );
         assert!(sentence(16, 7).starts_with("refused 16 at record 7: "));
     }
 

@@ -22,10 +22,11 @@ use crate::{surface, LONGEST};
 ///
 /// # Errors
 ///
-/// In this order: 15 where the table is malformed, 2 where the service bytes
-/// are not six usable ones, 16 where a value needs a release character, 1 where
-/// the text has more than 32,000 bytes, 14 with the bytes needed where `output`
-/// is too short; then as [`judge`](crate::judge) would refuse the text.
+/// In this order: 15 where the table is malformed or a segment begins with a
+/// line break, 2 where the service bytes are not six usable ones, 16 where a
+/// value needs a release character, 1 where the text has more than 32,000 bytes,
+/// 14 with the bytes needed where `output` is too short; then as
+/// [`judge`](crate::judge) would refuse the text.
 ///
 /// ```
 /// let input = b"UNB+UNOA:1++++1'UNH+1'UNT+2+1'UNZ+1+1'";

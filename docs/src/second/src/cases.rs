@@ -3,12 +3,13 @@
 //!
 //! Paper, clause "The example and its neighbours"; the examples of the
 //! standard stand in `standard_examples`, the cases of a change request in a
-//! module of its own.
+//! module of its own. The lines are those that hold now.
 
 use std::fs;
 use std::io;
 use std::path::Path;
 
+use crate::break_cases::{break_cases, break_pairs};
 use crate::operations::{compare, judge};
 use crate::report_lines::{compare_line, judge_line};
 use crate::section_cases::{section_cases, section_pairs};
@@ -43,7 +44,7 @@ pub fn pair(first: &str, second: &str, expected: &str) -> Pair {
 }
 
 /// X with one part of it put in place of another.
-fn x_with(old: &str, new: &str) -> String {
+pub fn x_with(old: &str, new: &str) -> String {
     X.replacen(old, new, 1)
 }
 
@@ -56,7 +57,8 @@ fn stated_cases() -> Vec<Case> {
         case("02-unt-count-4", x_with("UNT+3+1'", "UNT+4+1'"), "refused 12 67"),
         case("03-unt-count-4-reference-2", x_with("UNT+3+1'", "UNT+4+2'"), "refused 11 67"),
         case("04-without-last-byte", without_last, "refused 5 83"),
-        case("05-line-feed", format!("{X}\n"), "refused 5 85"),
+        // Stated as 5 at 85; request 2026-01 makes it the same as X.
+        case("05-line-feed", format!("{X}\n"), "accepted 5 1 0 93"),
         case("06-without-unz", x_with("UNZ+1+R1'", ""), "refused 9 75"),
         case("07-unz-after-unb", format!("{only_unb}UNZ+0+R1'"), "refused 9 32"),
         case("08-release-before-b", x_with("A?+B", "A?B"), "refused 4 63"),
@@ -132,6 +134,7 @@ pub fn all_cases() -> Vec<Case> {
     cases.extend(tempting_cases());
     cases.extend(standard_cases());
     cases.extend(section_cases());
+    cases.extend(break_cases());
     cases
 }
 
@@ -147,6 +150,7 @@ pub fn all_pairs() -> Vec<Pair> {
     ];
     pairs.extend(standard_pairs());
     pairs.extend(section_pairs());
+    pairs.extend(break_pairs());
     pairs
 }
 

@@ -7,12 +7,15 @@
 //! of the paper, or the request, that it follows. The operations stand in
 //! `operations`.
 
+pub mod break_cases;
+pub mod break_checks;
 pub mod cases;
 pub mod contents;
 pub mod control;
 pub mod generator;
 pub mod judging;
 pub mod level;
+pub mod line_breaks;
 pub mod normal_form;
 pub mod operations;
 pub mod order;

@@ -168,7 +168,7 @@ pub fn write(service: &[u8], values: &[u8], table: &[u32], output: &mut [u8]) ->
 
 /// The text of a value list: 15, 2, 16, 1, 14, then as Judge answers.
 fn text_of(service: &[u8], values: &[u8], table: &[u32], room: usize) -> Answer<Vec<u8>> {
-    let records = records_of(table, values.len())?;
+    let records = records_of(table, values)?;
     let characters = match from_six(service) {
         Some(characters) => characters,
         None => return refuse(ADVICE, 0),

@@ -4,8 +4,12 @@
 //! read from its start to its end and the first fault answers: a broken tag
 //! rule is told when its segment is finished, thus before any later release
 //! character is looked at, and a segment with a fault 4 is not finished.
+//!
+//! Change request 2026-01: a segment starts after the breaks that stand behind
+//! the terminator before it. Breaks anywhere else are bytes like any other.
 
 use crate::contents::{Contents, Part, Segment, ValueKind};
+use crate::line_breaks::after_breaks;
 use crate::refusal::{refuse, Answer, INSIDE_SEGMENT, RELEASE, TAG};
 use crate::service_characters::ServiceCharacters;
 
@@ -23,10 +27,11 @@ pub fn read_body<'a>(
         contents.add(kind, value);
         let end = value.range().end;
         kind = kind_after(input[end], characters);
+        at = end + 1;
         if kind == ValueKind::NewSegment {
             check_last_tag(&contents)?;
+            at = after_breaks(input, at);
         }
-        at = end + 1;
     }
     Ok(contents)
 }

@@ -4,6 +4,7 @@
 //! exit buffers of "Refusals by number". The checks of a change request stand in
 //! a module of its own.
 
+use crate::break_checks::check_breaks;
 use crate::generator::{any_input, any_valid, request, same_contents, Random};
 use crate::level::{holds, Level};
 use crate::normal_form::normal_characters;
@@ -37,6 +38,7 @@ pub fn run() -> Result<usize, String> {
     let mut tried = 0;
     check_levels()?;
     check_sections()?;
+    check_breaks()?;
     if let Some(line) = crate::cases::check_cases().pop() {
         return Err(line);
     }

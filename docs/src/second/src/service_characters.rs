@@ -1,7 +1,10 @@
 //! The service characters of an interchange and how it begins: stages 2 and 3.
 //!
-//! Paper, clause "Service characters" and refusals 2 and 3.
+//! Paper, clause "Service characters" and refusals 2 and 3; change request
+//! 2026-01: the body, and the place of refusal 3, starts after the breaks that
+//! stand behind the advice.
 
+use crate::line_breaks::after_breaks;
 use crate::refusal::{refuse, Answer, ADVICE, BEGINNING};
 
 /// Bytes in a service string advice: `UNA` and six.
@@ -102,11 +105,12 @@ fn opening_with_advice(input: &[u8]) -> Answer<Opening> {
         Some(characters) => characters,
         None => return refuse(ADVICE, 0),
     };
+    let body = after_breaks(input, ADVICE_LENGTH);
     let beginning = [b'U', b'N', b'B', characters.element];
-    if !input[ADVICE_LENGTH..].starts_with(&beginning) {
-        return refuse(BEGINNING, ADVICE_LENGTH);
+    if !input[body..].starts_with(&beginning) {
+        return refuse(BEGINNING, body);
     }
-    Ok(Opening { characters, body: ADVICE_LENGTH })
+    Ok(Opening { characters, body })
 }
 
 fn opening_without_advice(input: &[u8]) -> Answer<Opening> {

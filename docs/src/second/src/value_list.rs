@@ -1,10 +1,12 @@
 //! Value lists: the records of a table, their refusals 15 and 16, and the way
 //! from records to segments and back.
 //!
-//! Paper, clause "Operations" (Read, Write) and refusals 15 and 16. Records
-//! are numbered from 0.
+//! Paper, clause "Operations" (Read, Write) and refusals 15 and 16; change
+//! request 2026-01: no segment of a list may begin with a break. Records are
+//! numbered from 0.
 
 use crate::contents::{Contents, Part, ValueKind};
+use crate::line_breaks::is_break;
 use crate::refusal::{refuse, Answer, LIST, LONGEST_TABLE, NO_RELEASE};
 use crate::service_characters::ServiceCharacters;
 
@@ -27,15 +29,25 @@ impl Record {
         Part { offset: self.start, length: self.length }
     }
 
-    fn is_faulty(&self, number: usize, byte_count: usize) -> bool {
+    fn is_faulty(&self, number: usize, values: &[u8]) -> bool {
         let first_is_no_segment = number == 0 && self.kind != NEW_SEGMENT;
         let end = u64::from(self.start) + u64::from(self.length);
-        first_is_no_segment || self.kind > NEXT_COMPONENT || end > byte_count as u64
+        first_is_no_segment
+            || self.kind > NEXT_COMPONENT
+            || end > values.len() as u64
+            || self.begins_segment_with_break(values)
+    }
+
+    /// A new segment's first value has a break as its first byte. Asked only of
+    /// a record that ends within the bytes.
+    fn begins_segment_with_break(&self, values: &[u8]) -> bool {
+        let first = self.part().of(values).first();
+        self.kind == NEW_SEGMENT && first.map_or(false, |&byte| is_break(byte))
     }
 }
 
 /// Refusal 15, or the records of the table.
-pub fn records_of(table: &[u32], byte_count: usize) -> Answer<Vec<Record>> {
+pub fn records_of(table: &[u32], values: &[u8]) -> Answer<Vec<Record>> {
     let rows = table.chunks_exact(RECORD);
     if table.len() > LONGEST_TABLE || !rows.remainder().is_empty() {
         return refuse(LIST, 0);
@@ -43,7 +55,7 @@ pub fn records_of(table: &[u32], byte_count: usize) -> Answer<Vec<Record>> {
     let record = |row: &[u32]| Record { kind: row[0], start: row[1], length: row[2] };
     let records: Vec<Record> = rows.map(record).collect();
     let faulty =
-        records.iter().enumerate().find(|(number, record)| record.is_faulty(*number, byte_count));
+        records.iter().enumerate().find(|(number, record)| record.is_faulty(*number, values));
     match faulty {
         Some((number, _)) => refuse(LIST, number),
         None => Ok(records),

@@ -1,9 +1,11 @@
 //! Long interchanges that meet the limits: inputs and normal forms of exactly
 //! 32,000 bytes and next to it.
 //!
-//! Paper, refusals 1 and 13.
+//! Paper, refusals 1 and 13; change request 2026-01: breaks count in an input's
+//! bytes and not in the normal form's.
 
-use super::draft::{single, usable_characters, Draft, DraftSegment, Value};
+use super::breaks::filled_with_breaks;
+use super::draft::{single, usable_characters, valid_draft, Draft, DraftSegment, Value};
 use super::random::Random;
 use crate::level::Level;
 use crate::service_characters::{ServiceCharacters, ADVICE_LENGTH, PRINTABLE};
@@ -95,12 +97,17 @@ pub fn long_input(random: &mut Random) -> Vec<u8> {
     let near = [31_990, 31_991, 31_992, 31_999, 32_000, 32_001, 32_002];
     let target = random.pick(&near);
     let advised = usable_characters(random);
-    match random.below(6) {
+    match random.below(7) {
         0 => long_draft(random, PRINTABLE, false, Measure::Text, target).spelled(),
         1 => long_draft(random, PRINTABLE, true, Measure::Text, target).spelled(),
         2 => long_draft(random, advised, true, Measure::Text, target).spelled(),
         3 => long_draft(random, advised, true, Measure::NormalForm, target).spelled(),
         4 => many_messages(random.between(2_270, 2_285)),
+        5 => {
+            let input = valid_draft(random).spelled();
+            let count = target - input.len();
+            filled_with_breaks(random, &input, count)
+        }
         _ => {
             let mut input = long_draft(random, advised, true, Measure::Text, target).spelled();
             let place = random.below(input.len());

@@ -1,6 +1,7 @@
 //! Value lists for Write: true ones in several layouts, and faulty ones.
 //!
-//! Paper, clause "Operations" (Read, Write) and refusals 15 and 16.
+//! Paper, clause "Operations" (Read, Write) and refusals 15 and 16; change
+//! request 2026-01: no segment of a list may begin with a break.
 
 use super::draft::Draft;
 use super::random::Random;
@@ -101,6 +102,32 @@ pub fn random_list(random: &mut Random) -> List {
     list
 }
 
+/// A break begins the value of some record, most often one of kind 0; or the
+/// value after an empty one of kind 0.
+fn put_break(random: &mut Random, list: &mut List) {
+    let segments: Vec<usize> = (0..list.record_count())
+        .filter(|number| list.table[number * RECORD] == NEW_SEGMENT)
+        .collect();
+    let number = match random.below(4) {
+        0 => random.below(list.record_count()),
+        _ if segments.is_empty() => return,
+        _ => random.pick(&segments),
+    };
+    let value = random.pick(&["\n", "\r", "\r\n", "\nBGM", "\rUNB", "B\n", "\0"]);
+    let start = list.values.len();
+    list.values.extend(value.as_bytes());
+    let record = &mut list.table[number * RECORD..][..RECORD];
+    match random.below(6) {
+        0 => (record[1], record[2]) = (start as u32, 0),
+        1 => {
+            record[2] = 0;
+            let next = [NEXT_COMPONENT, start as u32, value.len() as u32];
+            list.table.splice((number + 1) * RECORD..(number + 1) * RECORD, next);
+        }
+        _ => (record[1], record[2]) = (start as u32, value.len() as u32),
+    }
+}
+
 /// Puts one or two faults of refusal 15 into a list, or comes close to it.
 pub fn break_list(random: &mut Random, list: &mut List) {
     for _ in 0..random.between(1, 2) {
@@ -111,12 +138,13 @@ pub fn break_list(random: &mut Random, list: &mut List) {
 fn break_once(random: &mut Random, list: &mut List) {
     let number = random.below(list.record_count()) * RECORD;
     let byte_count = list.values.len() as u32;
-    match random.below(8) {
+    match random.below(11) {
         0 => list.table.extend(vec![0; random.between(1, 2)]),
         1 => drop(list.table.pop()),
         2 => list.values.truncate(random.below(list.values.len())),
         3 => list.table.clear(),
         _ if list.table.len() < number + RECORD => {}
+        8..=10 => put_break(random, list),
         4 => list.table[0] = random.pick(&[1, 2, 3, u32::MAX]),
         5 => list.table[number] = random.pick(&[3, 4, 1 << 31, u32::MAX, 2, 1, 0]),
         6 => {

@@ -1,8 +1,10 @@
 //! The generator: seeded pseudo-random requests that aim at every rule.
 //!
-//! Paper, clauses "Operations" and "Refusals by number". Most inputs are
-//! small; about one in a hundred is about a limit.
+//! Paper, clauses "Operations" and "Refusals by number"; change request
+//! 2026-01, "Line breaks between segments". Most inputs are small; about one in
+//! a hundred is about a limit. About one in three has line breaks.
 
+mod breaks;
 mod damage;
 mod draft;
 mod limits;
@@ -17,11 +19,13 @@ use crate::cases::all_cases;
 use crate::operations::{self, Numbers};
 use crate::refusal::BUFFER;
 use crate::request_stream::{put_request, Request};
+use breaks::with_misplaced_breaks;
 use damage::{damage_anywhere, damage_bytes, damage_draft, is_done_to_draft, AIMS};
 use draft::{pad, respelled, usable_characters, valid_draft};
 use limits::{long_draft, long_input, Measure};
 use lists::{break_list, fill_table, list_of_draft, random_list, List};
 
+pub use breaks::{filled_with_breaks, in_lines, with_breaks, Broken};
 pub use draft::Draft;
 pub use random::Random;
 
@@ -95,8 +99,27 @@ fn damaged(random: &mut Random, mut draft: Draft, damages: usize) -> Vec<u8> {
     input
 }
 
-/// Any input: valid, damaged, a soup, or about a limit.
+/// Any input: valid, damaged, a soup, or about a limit; one time in three with
+/// line breaks, most often where they may stand.
 pub fn any_input(random: &mut Random) -> Vec<u8> {
+    let input = input_in_one_line(random);
+    match random.below(100) {
+        0..=22 => with_breaks(random, &input).input,
+        23..=33 => with_misplaced_breaks(random, &input),
+        _ => input,
+    }
+}
+
+/// The draft's bytes, one time in three with line breaks where they may stand.
+fn spelled(random: &mut Random, draft: &Draft) -> Vec<u8> {
+    let input = draft.spelled();
+    match random.chance(33) {
+        true => with_breaks(random, &input).input,
+        false => input,
+    }
+}
+
+fn input_in_one_line(random: &mut Random) -> Vec<u8> {
     match random.below(200) {
         0..=59 => any_valid(random).spelled(),
         60..=119 => {
@@ -164,9 +187,12 @@ fn two_inputs(random: &mut Random) -> (Vec<u8>, Vec<u8>) {
     let draft = any_valid(random);
     let other = same_contents(random, &draft);
     match random.below(20) {
-        0..=7 => (draft.spelled(), other.spelled()),
-        8..=12 => (draft.spelled(), nearly(random, other).spelled()),
-        13 => (nearly(random, other).spelled(), draft.spelled()),
+        0..=7 => (spelled(random, &draft), spelled(random, &other)),
+        8..=12 => {
+            let second = nearly(random, other);
+            (spelled(random, &draft), spelled(random, &second))
+        }
+        13 => (nearly(random, other).spelled(), spelled(random, &draft)),
         14 => (draft.spelled(), draft.spelled()),
         15 => (damaged(random, draft, 1), other.spelled()),
         16 => (draft.spelled(), damaged(random, other, 1)),
@@ -224,7 +250,7 @@ fn numbers_and_input(random: &mut Random) -> (Numbers, Vec<u8>) {
         2 => numbers[0] = draft.segments.len() as u32 - random.below(2) as u32,
         _ => {}
     }
-    (numbers_of(numbers), draft.spelled())
+    (numbers_of(numbers), spelled(random, &draft))
 }
 
 fn numbers_of(numbers: [u32; 3]) -> Numbers {

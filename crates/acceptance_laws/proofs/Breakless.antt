@@ -1,0 +1,128 @@
+-- "Contents and normal form hold no breaks": no byte of an accepted input's contents is one, and no byte of its normal form. Assumes
+-- nothing.
+use Prim.Native.Nat.{ℕ, _≤_}
+use mathlib.Core.Path.{_≡_, refl, sym, ap, _∙_}
+use mathlib.Core.Bool.{Bool, true, false, not, _&&_}
+use mathlib.Core.List.{List, [], _∷_, _++_, map}
+use mathlib.Core.Logic.{_⊎_, inl, inr, ⊎-elim}
+use native.Mathlib.Omega.{arith}
+use Rattle.lists.specs.Lists.{if_then_else_, member, all, gather, eachLedBy, joined}
+use Rattle.lists.proofs.Texts.{and-left, and-right, and-both, all-append, all-map}
+use Rattle.lists.proofs.Tests.{fails}
+use Rattle.characters.specs.declared.Characters.{Characters}
+use Rattle.characters.specs.Characters.{isService, isBreak, sixBytes, adviceOf, spelledOut, charactersOf}
+use Rattle.characters.proofs.Words.{usable-says, break-says}
+use Rattle.values.specs.Spelling.{Bytes, SegmentList, spellByte, spellValue, spellElement, spellSegment, spell}
+use Rattle.levels.proofs.Words.{LevelA, level-a-says, level-b-says}
+use Rattle.stages.specs.Contents.{contents, normalCharacters, interchange, normalForm}
+use Rattle.normal_form_laws.specs.Forms.{markOf, listRead}
+use Rattle.normal_form_laws.proofs.Trimmed.{contents-read, trim-bytes}
+use Rattle.normal_form_laws.proofs.Normal.{accepted-usable}
+use Rattle.acceptance_laws.specs.Allowed.{Level, levelA, levelB, holds, Allowed}
+use Rattle.acceptance_laws.proofs.Acceptance.{allowed-exactly, list-read}
+
+-- no break
+abbrev solid : ℕ → Bool
+solid b = not (isBreak b)
+
+-- ---- what every byte passes
+
+module _ {A : Type 0} (p : A → Bool) where
+  -- each piece after a mark
+  all-led : (mark : A) → p mark ≡ true → (pieces : List (List A)) → all (all p) pieces ≡ true → all p (eachLedBy mark pieces) ≡ true
+  unfolding eachLedBy all
+  all-led mark h [] k = refl
+  all-led mark h (piece ∷ pieces) k =
+      and-both (p mark) (all p (piece ++ eachLedBy mark pieces)) h
+      (all-append p piece (eachLedBy mark pieces)
+      ∙ and-both (all p piece) (all p (eachLedBy mark pieces)) (and-left (all p piece) (all (all p) pieces) k)
+      (all-led mark h pieces (and-right (all p piece) (all (all p) pieces) k)))
+
+  -- pieces with a mark between them
+  all-joined : (mark : A) → p mark ≡ true → (pieces : List (List A)) → all (all p) pieces ≡ true → all p (joined mark pieces) ≡ true
+  unfolding joined all
+  all-joined mark h [] k = refl
+  all-joined mark h (piece ∷ pieces) k =
+      all-append p piece (eachLedBy mark pieces)
+      ∙ and-both (all p piece) (all p (eachLedBy mark pieces)) (and-left (all p piece) (all (all p) pieces) k)
+      (all-led mark h pieces (and-right (all p piece) (all (all p) pieces) k))
+
+  -- what is gathered
+  all-gather : {B : Type 0} (q : B → Bool) (f : B → List A) → ((x : B) → q x ≡ true → all p (f x) ≡ true) → (xs : List B) → all q xs ≡ true
+      → all p (gather f xs) ≡ true
+  unfolding gather all
+  all-gather q f h [] k = refl
+  all-gather q f h (x ∷ xs) k =
+      all-append p (f x) (gather f xs)
+      ∙ and-both (all p (f x)) (all p (gather f xs)) (h x (and-left (q x) (all q xs) k)) (all-gather q f h xs (and-right (q x) (all q xs) k))
+
+-- a list whose bytes pass is spelled with bytes that pass, where the service characters do
+module _ (p : ℕ → Bool) (c : Characters) (component : p (c .component) ≡ true) (element : p (c .element) ≡ true)
+    (terminator : p (c .terminator) ≡ true) (release : p (c .release) ≡ true) where
+  byte-spelled : (b : ℕ) → p b ≡ true → all p (spellByte c b) ≡ true
+  unfolding spellByte all
+  byte-spelled b h = step (isService c b)
+    where
+      step : (t : Bool) → all p (if t then c .release ∷ b ∷ [] else b ∷ []) ≡ true
+      step true = and-both (p (c .release)) (p b && true) release (and-both (p b) true h refl)
+      step false = and-both (p b) true h refl
+
+  element-spelled : (e : List Bytes) → all (all p) e ≡ true → all p (spellElement c e) ≡ true
+  unfolding spellElement spellValue
+  element-spelled e h =
+      all-joined p (c .component) component (map (spellValue c) e)
+      (all-map (spellValue c) (all p) (all p) (all-gather p p (spellByte c) byte-spelled) e h)
+
+  segment-spelled : (g : List (List Bytes)) → all (all (all p)) g ≡ true → all p (spellSegment c g) ≡ true
+  unfolding spellSegment all
+  segment-spelled g h =
+      let inner : Bytes = joined (c .element) (map (spellElement c) g) in
+      all-append p inner (c .terminator ∷ [])
+      ∙ and-both (all p inner) (p (c .terminator) && true)
+      (all-joined p (c .element) element (map (spellElement c) g) (all-map (spellElement c) (all (all p)) (all p) element-spelled g h))
+      (and-both (p (c .terminator)) true terminator refl)
+
+  list-spelled : (list : SegmentList) → all (all (all (all p))) list ≡ true → all p (spell c list) ≡ true
+  unfolding spell
+  list-spelled list h = all-gather p (all (all (all p))) (spellSegment c) segment-spelled list h
+
+-- ---- of an accepted input
+
+-- no byte of a level is a break
+solid-says : (b : ℕ) → 32 ≤ b → solid b ≡ true
+solid-says b low =
+    ap not (fails (isBreak b) (break-says b) .1 (⊎-elim (λ (e : b ≡ 13). omega arith) (λ (e : b ≡ 10). omega arith)))
+
+level-low : (b : ℕ) → LevelA b → 32 ≤ b
+level-low b (inl k) = k .0
+level-low b (inr (inl k)) = omega arith
+level-low b (inr (inr k)) = omega arith
+
+level-solid : (l : Level) (b : ℕ) → holds l b ≡ true → solid b ≡ true
+level-solid levelA b h = solid-says b (level-low b (level-a-says b .0 h))
+level-solid levelB b h = solid-says b (⊎-elim (level-low b) (λ (k : (97 ≤ b) × (b ≤ 122)). omega arith) (level-b-says b .0 h))
+
+all-implies : {A : Type 0} (p q : A → Bool) → ((x : A) → p x ≡ true → q x ≡ true) → (xs : List A) → all p xs ≡ true → all q xs ≡ true
+unfolding all
+all-implies p q h [] k = refl
+all-implies p q h (x ∷ xs) k = and-both (q x) (all q xs) (h x (and-left (p x) (all p xs) k)) (all-implies p q h xs (and-right (p x) (all p xs) k))
+
+module _ (s : List ℕ) (a : Allowed s) where
+  pub contents-solid : all (all (all (all solid))) (contents s) ≡ true
+  contents-solid =
+      let level : Level = a .level in
+      rw (contents-read s)
+      (trim-bytes solid (listRead s)
+      (all-implies (all (all (all (holds level)))) (all (all (all solid)))
+      (all-implies (all (all (holds level))) (all (all solid))
+      (all-implies (all (holds level)) (all solid) (all-implies (holds level) solid (level-solid level))))
+      (listRead s)
+      (ap (all (all (all (all (holds level))))) (sym (list-read s a)) ∙ a .inside)))
+
+  pub normal-solid : all solid (normalForm s) ≡ true
+  unfolding normalForm interchange adviceOf spelledOut normalCharacters sixBytes all isBreak member
+  normal-solid =
+      let mark : ℕ = markOf s in
+      let c : Characters = normalCharacters mark in
+      let marked : solid mark ≡ true = ⊎-elim (ap solid) (ap solid) (usable-says (charactersOf s) .0 (accepted-usable s (allowed-exactly s .1 a)) .1) in
+      rw marked (list-spelled solid c refl refl refl refl (contents s) contents-solid)
