@@ -14,22 +14,7 @@ ghost use Rattle.compare.specs.Parts.{partOf};
 use answers::Compared;
 use answers::Figures;
 use answers::Judged;
-
-// All bytes of both are the same. No byte ends the loop: the bits that differ are gathered.
-fn equal(a: &[u8], b: &[u8]) -> bool
-    ensures { λ r. ⌜ r ≡ same (now (a .entry)) (now (b .entry)) ⌝ }
-{
-    if a.len() != b.len() {
-        return false;
-    }
-    let mut differences: u8 = 0;
-    let mut i = 0;
-    while i < a.len() {
-        differences = differences | (a[i] ^ b[i]);
-        i += 1;
-    }
-    differences == 0
-}
+use texts::equal;
 
 // The normal forms of two interchanges are the same, which Judge accepted and of which it said this.
 fn equal_forms(first: &[u8], second: &[u8], i: Figures, j: Figures) -> bool

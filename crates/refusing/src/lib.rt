@@ -34,5 +34,9 @@ pub fn number_of(fault: Fault) -> u8
         Fault::BufferShort => 14,
         Fault::BadList => 15,
         Fault::NeedsRelease => 16,
+        Fault::NoFreeSlot => 17,
+        Fault::NoRoom => 18,
+        Fault::UnsoundShelf => 19,
+        Fault::FreeSlot => 20,
     }
 }

@@ -4,12 +4,13 @@ use mathlib.Core.Path.{_≡_, refl}
 use mathlib.Core.Bool.{false}
 use lib.Dec.{eqb}
 use Rattle.refusals.specs.declared.Fault.{Fault}
-use Rattle.refusals.specs.declared.Fault.the-variants.{TooLong, UnusableAdvice, NoOpening, StrayRelease, UnendedSegment, BrokenTag, ForeignLevel, OutsideLevel, MisplacedSegment, BadControl, ReferenceDiffers, CountWrong, NormalTooLong, BufferShort, BadList, NeedsRelease}
+use Rattle.refusals.specs.declared.Fault.the-variants.{TooLong, UnusableAdvice, NoOpening, StrayRelease, UnendedSegment, BrokenTag, ForeignLevel, OutsideLevel, MisplacedSegment, BadControl, ReferenceDiffers, CountWrong, NormalTooLong, BufferShort, BadList, NeedsRelease, NoFreeSlot, NoRoom, UnsoundShelf, FreeSlot}
 use Rattle.refusals.specs.declared.Refusal.{Refusal}
 use Rattle.refusals.specs.Refusals.{number}
 use Rattle.answers.specs.Answers.{refused, refusedInput}
 use Rattle.surface.specs.Verdicts.{value, refusedVerdict, verdictOf}
 use Rattle.surface.specs.Answered.{writtenOf, comparisonOf, locationOf, listingOf}
+use Rattle.surface.specs.OfShelf.{startedOf, shelvingOf, gotOf, slotNumbersOf}
 
 -- no refusal has the number 0
 refusal-numbered : (f : Fault) → eqb (number f) 0 ≡ false
@@ -29,6 +30,10 @@ refusal-numbered NormalTooLong = refl
 refusal-numbered BufferShort = refl
 refusal-numbered BadList = refl
 refusal-numbered NeedsRelease = refl
+refusal-numbered NoFreeSlot = refl
+refusal-numbered NoRoom = refl
+refusal-numbered UnsoundShelf = refl
+refusal-numbered FreeSlot = refl
 
 -- ---- the struct of a refusal, from its number and its place
 
@@ -66,3 +71,19 @@ module _ (r : Refusal) {n : ℕ} (e : n ≡ number (r .fault)) where
   pub refused-listing : record { number = n; place = r .place; bytes = 0; numbers = 0 } ≡ listingOf (refused r)
   unfolding listingOf value refused
   refused-listing = rw (e, refusal-numbered (r .fault))
+
+  pub refused-started : record { number = n; place = r .place } ≡ startedOf (refused r)
+  unfolding startedOf value refused
+  refused-started = rw (e, refusal-numbered (r .fault))
+
+  pub refused-shelving : record { number = n; added = 0; place = r .place; slot = 0 } ≡ shelvingOf (refused r)
+  unfolding shelvingOf value refused
+  refused-shelving = rw (e, refusal-numbered (r .fault))
+
+  pub refused-got : record { number = n; place = r .place; offset = 0; length = 0 } ≡ gotOf (refused r) 0 0
+  unfolding gotOf value refused
+  refused-got = rw (e, refusal-numbered (r .fault))
+
+  pub refused-slots : record { number = n; place = r .place; occupied = 0; lowest = 0 } ≡ slotNumbersOf (refused r)
+  unfolding slotNumbersOf value refused
+  refused-slots = rw (e, refusal-numbered (r .fault))

@@ -2,3 +2,4 @@ pub mod Verdicts
 pub mod Answered
 pub mod Parts
 pub mod Rules
+pub mod OfShelf

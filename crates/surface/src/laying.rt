@@ -20,7 +20,7 @@ use answers::Stored;
 use refusals::Refusal;
 use refusing::number_of;
 
-fn refusal_number(refusal: Refusal) -> u32
+pub fn refusal_number(refusal: Refusal) -> u32
     ensures { λ r. ⌜ r ≡ number (refusal .fault) ⌝ }
 {
     let fault = refusal.fault;

@@ -1,4 +1,4 @@
-// The surface: all operations of paper 01, "Operations", for programs in C and Rust. It promises, for
+// The surface: all operations of paper 01, "Operations", and of the shelf (request 2026-04), for programs in C and Rust. It promises, for
 // any bytes and any numbers, the paper's answers as the definitions in specs/ lay them out in structs,
 // and every byte and number of each lent buffer at exit. A slice crosses as a pointer and a length;
 // nothing is asked of what it holds. `laying` makes the structs of the answers.
@@ -12,13 +12,23 @@ ghost use Rattle.surface.specs.Verdicts.{verdictOf};
 ghost use Rattle.surface.specs.Answered.{writtenOf, comparisonOf, locationOf, listingOf};
 ghost use Rattle.surface.specs.Parts.{keptOf, partOf};
 ghost use Rattle.surface.specs.Rules.{rules};
+ghost use Rattle.surface.specs.OfShelf.{startedOf, shelvingOf, gotOf, slotNumbersOf};
+ghost use Rattle.shelves.specs.Layout.{versionOne};
+ghost use Rattle.shelves.specs.Operations.{start as startOf, startShelf, put as putOf, putShelf, gotOffset, gotLength, lengthAnswer, remove as removeOf, removeShelf, slotsOf};
+use answers::Stored;
 use laying::comparison_of;
 use laying::listing_of;
 use laying::location_of;
 use laying::verdict_of;
 use laying::written_of;
+use shelf_laying::got_at;
+use shelf_laying::got_refused;
+use shelf_laying::shelving_of;
+use shelf_laying::slot_numbers_of;
+use shelf_laying::started_of;
 
 mod laying;
+mod shelf_laying;
 
 // What Judge says. `number` is 0 where the interchange is accepted, and `place` is then 0; where it
 // is refused, `number` and `place` are the refusal's and all else is 0.
@@ -90,6 +100,43 @@ pub struct Listing {
     pub place: usize,
     pub bytes: usize,
     pub numbers: usize,
+}
+
+// What a shelf's Start says: 0, or the refusal's number and place.
+#[repr(C)]
+pub struct Started {
+    pub number: u32,
+    pub place: usize,
+}
+
+// What a shelf's Put says: 0, the slot, and 1 for a text that is new or 0 for the copy of one that is
+// there; or the refusal's number and place.
+#[repr(C)]
+pub struct Shelving {
+    pub number: u32,
+    pub added: u32,
+    pub place: usize,
+    pub slot: usize,
+}
+
+// What a shelf's Get says and hands back: 0 and a part of the shelf; or the refusal's number and place,
+// and zero bytes at the shelf's start.
+#[repr(C)]
+pub struct Got {
+    pub number: u32,
+    pub place: usize,
+    pub offset: usize,
+    pub length: usize,
+}
+
+// What is read off a shelf's map: 0, how many slots are occupied and the lowest free one, 64 where none
+// is; or the refusal's number and place.
+#[repr(C)]
+pub struct SlotNumbers {
+    pub number: u32,
+    pub place: usize,
+    pub occupied: usize,
+    pub lowest: usize,
 }
 
 // Which rules the answers follow: a caller holds it against the number of the header that it was built with.
@@ -186,4 +233,47 @@ pub extern "C" fn hverolda_write(
     ensures { λ r. ⌜ (r ≡ writtenOf (writeOf (now (service .entry)) (now (bytes .entry)) (now (table .entry)) (now (output .entry)))) × (now (output .exit) ≡ writeOutput (now (service .entry)) (now (bytes .entry)) (now (table .entry)) (now (output .entry))) ⌝ }
 {
     written_of(write::write(service, bytes, table, output))
+}
+
+#[no_mangle]
+pub extern "C" fn hverolda_shelf_start(shelf: &mut [u8]) -> Started
+    ensures { λ r. ⌜ (r ≡ startedOf (startOf versionOne (now (shelf .entry)))) × (now (shelf .exit) ≡ startShelf versionOne (now (shelf .entry))) ⌝ }
+{
+    started_of(shelf::start(shelf))
+}
+
+#[no_mangle]
+pub extern "C" fn hverolda_shelf_put(shelf: &mut [u8], input: &[u8]) -> Shelving
+    ensures { λ r. ⌜ (r ≡ shelvingOf (putOf versionOne (now (shelf .entry)) (now (input .entry)))) × (now (shelf .exit) ≡ putShelf versionOne (now (shelf .entry)) (now (input .entry))) ⌝ }
+{
+    shelving_of(shelf::put(shelf, input))
+}
+
+// A slice that is handed back cannot cross, so the part is named: `shelf::get` hands back the same. What
+// it was refused by is said with it.
+#[no_mangle]
+pub extern "C" fn hverolda_shelf_get(shelf: &[u8], slot: usize) -> Got
+    ensures { λ r. ⌜ r ≡ gotOf (lengthAnswer versionOne (now (shelf .entry)) slot) (gotOffset versionOne (now (shelf .entry)) slot) (gotLength versionOne (now (shelf .entry)) slot) ⌝ }
+{
+    match shelf::measure(shelf, slot) {
+        Stored::Refused(refusal) => got_refused(refusal),
+        Stored::Length(length) => {
+            let l = shelf_layout::version_one();
+            got_at(shelf_layout::start_of(shelf, l, slot), length)
+        }
+    }
+}
+
+#[no_mangle]
+pub extern "C" fn hverolda_shelf_remove(shelf: &mut [u8], slot: usize) -> Written
+    ensures { λ r. ⌜ (r ≡ writtenOf (removeOf versionOne (now (shelf .entry)) slot)) × (now (shelf .exit) ≡ removeShelf versionOne (now (shelf .entry)) slot) ⌝ }
+{
+    written_of(shelf::remove(shelf, slot))
+}
+
+#[no_mangle]
+pub extern "C" fn hverolda_shelf_slots(shelf: &[u8]) -> SlotNumbers
+    ensures { λ r. ⌜ r ≡ slotNumbersOf (slotsOf versionOne (now (shelf .entry))) ⌝ }
+{
+    slot_numbers_of(shelf::slots(shelf))
 }

@@ -1,6 +1,7 @@
 /*
  * Hverolda for C: judges an EDIFACT interchange (ISO 9735, 1990), reads its values, writes
- * interchanges, makes a normal form, and says whether two interchanges are the same.
+ * interchanges, makes a normal form, says whether two interchanges are the same, and keeps each one
+ * once on a shelf.
  *
  * The archive is target/staticlib/libsurface.a, which `rt staticlib surface` proves and writes, for
  * x86-64 Linux. It needs nothing but the C library's memset:
@@ -8,16 +9,16 @@
  *     cc -std=c99 -o mailbox docs/src/c/example.c target/staticlib/libsurface.a
  *
  * What is proved. For any bytes and any numbers, each function's answer and every byte and number of
- * each buffer at exit are what the definitions in crates/surface/specs and crates/operations/specs
- * say; no function reads or writes outside what it is lent, and each one ends. This header and the
- * size of the stack are not part of the proof.
+ * each buffer at exit are what the definitions in crates/surface/specs, crates/operations/specs and
+ * crates/shelves/specs say; no function reads or writes outside what it is lent, and each one ends.
+ * This header and the size of the stack are not part of the proof.
  *
  * What the caller owes. A slice is a pointer and, right after it, the number of its elements.
  *   - The pointer is valid for that many elements for the whole call, and they take fewer than 2^63
  *     bytes. A table's pointer is aligned for uint32_t.
  *   - All of them hold values: a buffer that is to be written to is initialised first, too.
  *   - A buffer that is written to overlaps no other argument. Inputs that are only read may overlap,
- *     or be the same.
+ *     or be the same. So what is put on a shelf is no part of that shelf.
  *   - Nobody else writes to an input, or uses a buffer, during the call.
  *   - Where the number is 0, nothing is read or written through the pointer, and it may be null.
  *     Where it is not 0, the pointer may not be null.
@@ -26,8 +27,9 @@
  * Threads. The functions have no state: no globals, no heap, no errno, no input or output. Calls may
  * run at the same time as long as each keeps to what is owed above.
  *
- * Stack. Compare and Keep hold two arrays of 32,000 bytes each, and take some 65,300 bytes in all.
- * The other functions take less than 2,000. There is no recursion.
+ * Stack. Compare and Keep hold two arrays of 32,000 bytes each, and take some 65,300 bytes in all. A
+ * shelf's Put holds one, and takes some 33,300. The other functions take less than 2,000. There is no
+ * recursion.
  *
  * Cost. What a function does with an input is a few steps a byte, and of an input over 32,000 bytes
  * none. Write looks at every value that its table names, and these may overlap. Under a release
@@ -35,12 +37,15 @@
  * characters in all values (refusal 16): 32,000 records that name the same N bytes cost 32,000 * N
  * steps, some 2 s for N = 32,000 and ten times as long for ten times as many. Who takes tables from
  * strangers adds up the lengths first: more than 32,000 bytes in values are refused in any case.
+ * Each function of a shelf but Start judges all texts that the shelf keeps, so that a call costs what
+ * Judge costs over as many bytes, and at most half as much again, whatever the bytes are.
  *
  * Limits. An input, a written text and a normal form have at most 32,000 bytes. So a normal form or a
  * written text fits 32,000 bytes, and what Read stores fits 32,000 bytes and 96,000 numbers, since
  * each value in the input is followed by a separator or a terminator. A table that Write is given has
  * at most 96,000 numbers. What is longer may be given, and is refused. A buffer that is written to
- * may have any length, Read's table with it.
+ * may have any length, Read's table with it. A shelf has 525 to 65,536 bytes; one of another size may
+ * be given, and is refused.
  *
  * Line breaks. Carriage returns and line feeds (bytes 13 and 10) directly after a segment's
  * terminator, or directly after the advice, are passed over, however many; anywhere else they are
@@ -63,6 +68,11 @@ extern "C" {
 /* The most bytes of an input, a text and a normal form; the most numbers of a table for Write. */
 #define HVEROLDA_LONGEST 32000
 #define HVEROLDA_LONGEST_TABLE 96000
+
+/* The slots of a shelf, and its fewest and most bytes. */
+#define HVEROLDA_SLOTS 64
+#define HVEROLDA_SMALLEST_SHELF 525
+#define HVEROLDA_LARGEST_SHELF 65536
 
 /*
  * The number of the rules that this header is for. It rises with each change of an answer, so that
@@ -123,7 +133,16 @@ enum hverolda_refusal {
     HVEROLDA_BAD_LIST = 15,
     /* A value holds a service character and there is no release. Place: the lowest such record's
        number, from 0. */
-    HVEROLDA_NEEDS_RELEASE = 16
+    HVEROLDA_NEEDS_RELEASE = 16,
+    /* No slot of the shelf is free, and the text is not there. Place: 64. */
+    HVEROLDA_NO_FREE_SLOT = 17,
+    /* The shelf has fewer free bytes than the text needs, and it is not there. Place: the bytes that
+       it needs. */
+    HVEROLDA_NO_ROOM = 18,
+    /* No sound shelf; Start: fewer than 525 or more than 65,536 bytes. Place: 0. */
+    HVEROLDA_UNSOUND_SHELF = 19,
+    /* The slot is free, or above 63. Place: the slot. */
+    HVEROLDA_FREE_SLOT = 20
 };
 
 /*
@@ -147,7 +166,10 @@ typedef struct hverolda_verdict {
     uint8_t terminator;
 } hverolda_verdict;
 
-/* What Normalise and Write say: `length` bytes were stored; or `number` and `place`. All else is 0. */
+/*
+ * What Normalise and Write say: `length` bytes were stored; what a shelf's Remove says: so many were
+ * taken away; or `number` and `place`. All else is 0.
+ */
 typedef struct hverolda_written {
     uint32_t number;
     size_t place;
@@ -200,6 +222,45 @@ typedef struct hverolda_listing {
     size_t bytes;
     size_t numbers;
 } hverolda_listing;
+
+/* What a shelf's Start says: all is 0; or `number` and `place`. */
+typedef struct hverolda_started {
+    uint32_t number;
+    size_t place;
+} hverolda_started;
+
+/*
+ * What a shelf's Put says: `slot` is where the text is, and `added` is 1 where it is new there, or 0
+ * where it was there already; or `number` and `place`. All else is 0.
+ */
+typedef struct hverolda_shelving {
+    uint32_t number;
+    uint32_t added;
+    size_t place;
+    size_t slot;
+} hverolda_shelving;
+
+/*
+ * What a shelf's Get says and hands back: `length` bytes of the shelf from `offset` on; or `number` and
+ * `place`, and 0 bytes from 0. All else is 0.
+ */
+typedef struct hverolda_got {
+    uint32_t number;
+    size_t place;
+    size_t offset;
+    size_t length;
+} hverolda_got;
+
+/*
+ * What is read off a shelf's map: how many slots are occupied and the lowest free one, 64 where none
+ * is; or `number` and `place`. All else is 0.
+ */
+typedef struct hverolda_slot_numbers {
+    uint32_t number;
+    size_t place;
+    size_t occupied;
+    size_t lowest;
+} hverolda_slot_numbers;
 
 /* Which rules the archive follows: HVEROLDA_RULES where it is this header's. Nothing is refused. */
 uint32_t hverolda_rules(void);
@@ -292,6 +353,64 @@ hverolda_written hverolda_write(const uint8_t *service, size_t service_length,
                                 const uint32_t *table, size_t table_length,
                                 uint8_t *output, size_t output_length);
 
+/*
+ * A shelf is a buffer that keeps up to 64 normal forms, each once and in a slot of its own: `EDS`, a
+ * 16-bit version (1), a 64-bit map of occupied slots (slot k is the bit worth 2^k), 64 pairs of 32-bit
+ * start and length, and from byte 525 on the texts. Numbers are big-endian, starts count from the
+ * buffer's beginning, and no pointer is in it: a shelf may be copied, stored in a file and mapped.
+ *
+ * It is sound when the occupied texts are normal forms by the rules of the archive, all different,
+ * disjoint and together fill the room from byte 525 without gaps, and free pairs and free bytes are
+ * zero. Every function but Start asks this first, of any bytes: a shelf that comes from a file or a
+ * stranger may be lent as it is. What these functions leave is sound, unless they refuse by 19.
+ *
+ * Whatever is refused, the shelf keeps all of its bytes.
+ */
+
+/*
+ * Start: writes an empty shelf over `shelf`, whatever was there.
+ *
+ * Refusals: 19 where it has fewer than 525 bytes or more than 65,536.
+ * Afterwards `shelf` holds `EDS`, the version and zeros.
+ */
+hverolda_started hverolda_shelf_start(uint8_t *shelf, size_t shelf_length);
+
+/*
+ * Put: keeps the normal form of an interchange, unless it is there already, under whatever spelling it
+ * came. A new text goes behind the last one, and into the lowest free slot.
+ *
+ * Refusals: 19, then Judge's; then, where the text is not there, 17, then 18.
+ * Afterwards `shelf` holds the text, its pair and its bit in the map, and is otherwise as it was; where
+ * the text was there already it keeps all of its bytes.
+ */
+hverolda_shelving hverolda_shelf_put(uint8_t *shelf, size_t shelf_length,
+                                     const uint8_t *input, size_t input_length);
+
+/*
+ * Get: the part of the shelf that a slot keeps. A part that was handed back may move with the next
+ * Remove.
+ *
+ * Refusals: 19, then 20.
+ */
+hverolda_got hverolda_shelf_get(const uint8_t *shelf, size_t shelf_length, size_t slot);
+
+/*
+ * Remove: takes away the text that a slot keeps, and says how long it was. The texts behind it move
+ * down, and keep their slots; the slot and the bytes are free again.
+ *
+ * Refusals: 19, then 20.
+ * Afterwards the texts behind it, and their starts, are lower by its length; its bit in the map, its
+ * pair and as many bytes behind the last text are zero; all else is as it was.
+ */
+hverolda_written hverolda_shelf_remove(uint8_t *shelf, size_t shelf_length, size_t slot);
+
+/*
+ * Slots: how many slots are occupied, and the lowest free one, into which the next new text goes.
+ *
+ * Refusals: 19.
+ */
+hverolda_slot_numbers hverolda_shelf_slots(const uint8_t *shelf, size_t shelf_length);
+
 #ifdef __cplusplus
 }
 #endif
@@ -332,6 +451,20 @@ HVEROLDA_HOLDS(sizeof(hverolda_listing) == 32)
 HVEROLDA_HOLDS(offsetof(hverolda_listing, place) == 8)
 HVEROLDA_HOLDS(offsetof(hverolda_listing, bytes) == 16)
 HVEROLDA_HOLDS(offsetof(hverolda_listing, numbers) == 24)
+HVEROLDA_HOLDS(sizeof(hverolda_started) == 16)
+HVEROLDA_HOLDS(offsetof(hverolda_started, place) == 8)
+HVEROLDA_HOLDS(sizeof(hverolda_shelving) == 24)
+HVEROLDA_HOLDS(offsetof(hverolda_shelving, added) == 4)
+HVEROLDA_HOLDS(offsetof(hverolda_shelving, place) == 8)
+HVEROLDA_HOLDS(offsetof(hverolda_shelving, slot) == 16)
+HVEROLDA_HOLDS(sizeof(hverolda_got) == 32)
+HVEROLDA_HOLDS(offsetof(hverolda_got, place) == 8)
+HVEROLDA_HOLDS(offsetof(hverolda_got, offset) == 16)
+HVEROLDA_HOLDS(offsetof(hverolda_got, length) == 24)
+HVEROLDA_HOLDS(sizeof(hverolda_slot_numbers) == 32)
+HVEROLDA_HOLDS(offsetof(hverolda_slot_numbers, place) == 8)
+HVEROLDA_HOLDS(offsetof(hverolda_slot_numbers, occupied) == 16)
+HVEROLDA_HOLDS(offsetof(hverolda_slot_numbers, lowest) == 24)
 #undef HVEROLDA_HOLDS
 
 #endif

@@ -40,6 +40,7 @@ operands_of() {
         compare | keep) operands=("$x") ;;
         locate) operands=(2 2 0) ;;
         write | respell) operands=("$six") ;;
+        shelf) operands=("$work/shelf" put) ;;
         *) operands=() ;;
     esac
 }
@@ -54,7 +55,7 @@ gigabyte() { head -c 1000000000 /dev/zero 2>/dev/null | tr '\0' "${1-\0}" 2>/dev
 
 accepted='accepted 5 1 0 93'
 sentence="the trailer's count is wrong"
-commands=(judge normalise compare keep locate read write respell)
+commands=(judge normalise compare keep locate read write respell shelf)
 # nearly all of its 31,900 bytes end an empty value: as many values as an interchange can have
 {
     printf "UNB+UNOA:1+AA+BB+260105:0930+R1'UNH+1+ORDERS:1:901:UN'BGM"
@@ -122,6 +123,102 @@ expect 1 "refused 12 67 $sentence"$'\n'"    *UNT*"$'\n'"    *^" '' on_terminal "
 mapfile -t shown <"$work/out"
 mark=${shown[2]%^}
 [[ ${shown[1]:${#mark}:3} == UNT ]] || complain "the mark stands under '${shown[1]:${#mark}:3}'"
+
+# ---- the command: a shelf in a file (shelf.pl kills it and runs eight at once)
+
+shelf=$work/shelf plain=$cases/11-plain-plus.edi
+# on SHELF..: what is done with it
+on() { "$hverolda" shelf "$@"; }
+unsound='refused 19 0 there is no sound shelf*'
+expect 2 '' "hverolda: $shelf: No such file*" on "$shelf" put "$x"
+expect 0 'started 65536' '' on "$shelf" start
+[[ $(wc -c <"$shelf") == 65536 ]] || complain 'a shelf of another size'
+expect 2 '' "hverolda: $shelf: File exists*" on "$shelf" start
+expect 0 'new 0' '' on "$shelf" put "$x"
+expect 1 'copy 0' '' on "$shelf" put "$respelled"
+expect 1 'copy 0' '' on "$shelf" put <"$work/in-lines"
+expect 1 "$x: copy 0"$'\n'"$plain: new 1"$'\n'"$wrong: refused 12 67 $sentence" '' on "$shelf" put "$x" "$plain" "$wrong"
+expect 0 $'occupied 2\nheld 185\nfree 64826\n0 93\n1 92' '' on "$shelf" list
+expect 0 "UNA:+.? '$(cat "$x")" '' on "$shelf" get 0
+cmp -s <(printf "UNA:+.? '" && cat "$x") "$work/out" || complain 'a kept text has a byte besides'
+for slot in 2 63 64 18446744073709551615; do
+    expect 1 '' "hverolda: $shelf: refused 20 $slot no text is kept *" on "$shelf" get "$slot"
+    expect 1 "refused 20 $slot no text is kept *" '' on "$shelf" remove "$slot"
+done
+expect 0 'removed 93' '' on "$shelf" remove 0
+expect 0 $'occupied 1\nheld 92\nfree 64919\n1 92' '' on "$shelf" list
+expect 0 'new 0' '' on "$shelf" put "$respelled"
+expect 0 'UNA*A+B*' '' on "$shelf" get 1
+
+# sizes, and a shelf that is full
+for size in 0 524 65537 18446744073709551615; do
+    expect 1 "$unsound" '' on "$work/other" start "$size"
+done
+[[ ! -e $work/other ]] || complain 'a file of another size'
+expect 0 'started 525' '' on "$work/least" start 525
+expect 1 'refused 18 93 *' '' on "$work/least" put "$x"
+mkdir "$work/many"
+for number in {100..164}; do
+    sed "s/R1/R$number/g" "$x" >"$work/many/$number"
+done
+# each text has 97 bytes
+expect 0 'started 6733' '' on "$work/full" start $((525 + 64 * 97))
+expect 0 "*/100: new 0"$'\n'"*/163: new 63" '' on "$work/full" put "$work/many/"1[0-5]? "$work/many/"16[0-3]
+lines 64
+expect 1 'refused 17 64 *' '' on "$work/full" put "$work/many/164"
+expect 1 'copy 63' '' on "$work/full" put "$work/many/163"
+expect 0 $'occupied 64\nheld 6208\nfree 0\n0 97\n*63 97' '' on "$work/full" list
+expect 0 'removed 97' '' on "$work/full" remove 31
+expect 0 'new 31' '' on "$work/full" put "$work/many/164"
+
+# a damaged shelf is refused and left as it is, and so is what is no shelf
+cp "$shelf" "$work/damaged"
+printf V | dd of="$work/damaged" bs=1 seek=525 conv=notrunc status=none
+: >"$work/empty"
+for other in damaged empty many/100; do
+    cp "$work/$other" "$work/before"
+    expect 1 "$unsound" '' on "$work/$other" put "$x"
+    expect 1 "$unsound" '' on "$work/$other" remove 0
+    expect 1 '' "hverolda: $work/$other: $unsound" on "$work/$other" get 0
+    expect 1 '' "hverolda: $work/$other: $unsound" on "$work/$other" list
+    cmp -s "$work/before" "$work/$other" || complain "$other is changed"
+done
+mkfifo "$work/pipe"
+for other in "$work" "$work/pipe" /dev/zero; do
+    expect 2 '' "hverolda: $other: it is no regular file" on "$other" list
+    expect 2 '' "hverolda: $other: it is no regular file" on "$other" put "$x"
+done
+
+# the file that takes its place has its permissions, and takes the place of what a link names
+chmod 640 "$shelf"
+ln -s shelf "$work/link"
+expect 0 'new 2' '' on "$work/link" put "$work/many/100"
+[[ -L $work/link && $(stat -c %a "$shelf") == 640 ]] || complain 'a link or a permission is lost'
+expect 1 'copy 2' '' on "$shelf" put "$work/many/100"
+
+# a file that cannot be written changes nothing; an answer that cannot be written comes after the change
+limited() { (trap '' XFSZ && ulimit -f 16 && "$@"); }
+cp "$shelf" "$work/before"
+expect 2 '' "hverolda: $shelf: File too large*" limited on "$shelf" put "$work/many/101"
+expect 2 '' "hverolda: $work/other: File too large*" limited on "$work/other" start
+cmp -s "$work/before" "$shelf" || complain 'half a shelf'
+compgen -G "$work/.*.hverolda-*" && complain 'a file is left beside a shelf'
+expect 2 '' 'hverolda: standard output: No space left*' full on "$shelf" put "$work/many/101"
+expect 1 'copy 3' '' on "$shelf" put "$work/many/101"
+# what a killed run left beside it is no hindrance
+cp "$x" "$work/.shelf.hverolda-new"
+cp "$x" "$work/.other.hverolda-start"
+expect 0 'new 4' '' on "$shelf" put "$work/many/102"
+expect 0 'started 65536' '' on "$work/other" start
+compgen -G "$work/.*.hverolda-*" && complain 'a file is left beside a shelf'
+
+expect 2 '' "hverolda: a shelf's file and what to do *" on
+expect 2 '' "hverolda: a shelf's file and what to do *" on "$shelf"
+expect 2 '' "hverolda: '$x' is nothing that is done *" on "$shelf" "$x"
+expect 2 '' "hverolda: get has other operands*" on "$shelf" get
+expect 2 '' "hverolda: list has other operands*" on "$shelf" list 0
+expect 2 '' "hverolda: '-1' is no option*" on "$shelf" get -1
+expect 2 '' "hverolda: 'x' is no number*" on "$shelf" remove x
 
 # ---- the command: what goes wrong
 
@@ -198,6 +295,13 @@ expect 0 '' 'usage: run_locate *' "$programs/run_locate" 2 2 1234567890 "$x"
 expect 0 '' 'usage: run_compare *' "$programs/run_compare"
 expect 0 '' 'usage: run_compare *' "$programs/run_compare" "$x"
 expect 0 'refused text 16 16' '' "$programs/run_respell" '+*.  ~' "$x"
+expect 0 $'started\nunreadable\nunreadable\nnew 0\ncopy 0\nUNA*\nremoved 93\nslots 0 0' "$trouble" \
+    "$programs/run_shelf" 1000 put "$work/none" put "$work" put "$x" put "$respelled" get 0 remove 0 slots -
+expect 0 'refused 19 0' '' "$programs/run_shelf" 524
+expect 0 '' 'usage: run_shelf *' "$programs/run_shelf"
+expect 0 '' 'usage: run_shelf *' "$programs/run_shelf" put "$x"
+expect 0 $'started\nnew 0' '' small "$programs/run_shelf" 65536 put "$work/wide"
+expect 0 '' $'standard output: Bad *\nstandard output: Bad *' closed "$programs/run_shelf" 1000 put "$x"
 for name in judge compare locate respell; do
     operands_of "$name"
     expect 0 '' 'standard output: Bad file descriptor' closed "$programs/run_$name" "${operands[@]}" "$x"

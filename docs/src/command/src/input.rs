@@ -28,13 +28,23 @@ pub fn each(
     room: usize,
     say: impl Fn(&Input) -> Said,
 ) -> Result<Status, Trouble> {
+    try_each(output, operands, room, |input| Ok(say(input)))
+}
+
+/// The same, where what there is to say may end the command.
+pub fn try_each(
+    output: &mut Output,
+    operands: &[OsString],
+    room: usize,
+    say: impl Fn(&Input) -> Result<Said, Trouble>,
+) -> Result<Status, Trouble> {
     let standard = [OsString::from("-")];
     let names = if operands.is_empty() { &standard } else { operands };
     once(names)?;
     let mut worst = Status::Yes;
     for name in names {
         let status = match read(name, room, names.len() > 1) {
-            Some(input) => output.say(&input, say(&input))?,
+            Some(input) => output.say(&input, say(&input)?)?,
             None => Status::Trouble,
         };
         worst = worst.max(status);

@@ -38,7 +38,7 @@ fn run(output: &mut Output, operands: &[OsString]) -> Result<Status, Trouble> {
 }
 
 /// Digits only: no sign, no space.
-fn number(word: &OsStr) -> Result<usize, Trouble> {
+pub fn number(word: &OsStr) -> Result<usize, Trouble> {
     let digits = word.to_str().filter(|text| text.bytes().all(|byte| byte.is_ascii_digit()));
     match digits.and_then(|text| text.parse().ok()) {
         Some(number) => Ok(number),

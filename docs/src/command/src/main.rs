@@ -11,6 +11,7 @@ compile_error!("the command is for Linux with the GNU C library");
 mod input;
 mod lines;
 mod output;
+mod shelf_file;
 
 use std::env;
 use std::ffi::OsString;
@@ -25,7 +26,7 @@ macro_rules! commands {
     };
 }
 
-commands! { judge normalise compare keep locate read write respell }
+commands! { judge normalise compare keep locate read write respell shelf }
 
 pub struct Command {
     name: &'static str,
@@ -39,9 +40,9 @@ pub struct Command {
 /// The exit status; of several inputs' the worst.
 #[derive(Clone, Copy, PartialEq, Eq, PartialOrd, Ord)]
 pub enum Status {
-    /// Accepted, same, present.
+    /// Accepted, same, present, new.
     Yes = 0,
-    /// Refused, different, absent.
+    /// Refused, different, absent, a copy.
     No = 1,
     /// There is no answer.
     Trouble = 2,
@@ -53,6 +54,8 @@ pub enum Trouble {
     Usage(String),
     /// Standard output cannot be written.
     Output(std::io::Error),
+    /// A file of this name that is changed, or that all else needs, is in trouble.
+    File(String, std::io::Error),
 }
 
 pub fn usage<T>(message: &str) -> Result<T, Trouble> {
@@ -63,15 +66,16 @@ const USAGE: &str = "\
 Usage: hverolda COMMAND [OPERAND]..
        hverolda COMMAND --help
        hverolda --version
-Judges, reads, writes and compares EDIFACT interchanges by the rules of ISO 9735 (1990).
+Judges, reads, writes, compares and keeps EDIFACT interchanges by the rules of ISO 9735
+(1990).
 
 ";
 
 const STATUSES: &str = "
-Exit status: 0 accepted, same or present; 1 refused, different or absent; 2 trouble, as a
-file that cannot be read or standard output that cannot be written. Trouble is said on
-standard error and never on standard output, so that it never looks like an answer. A
-pipe that nobody reads ends the command by its signal.
+Exit status: 0 accepted, same, present or new; 1 refused, different, absent or a copy; 2
+trouble, as a file that cannot be read or standard output that cannot be written. Trouble
+is said on standard error and never on standard output, so that it never looks like an
+answer. A pipe that nobody reads ends the command by its signal.
 ";
 
 const FILES: &str = "
@@ -90,14 +94,17 @@ colon; what could look like another field in a name is \\x and two hexadecimal d
 pub extern "C" fn main(_count: i32, _words: *const *const u8) -> i32 {
     let words: Vec<OsString> = env::args_os().skip(1).collect();
     let command = words.first().and_then(|word| COMMANDS.iter().find(|known| word == known.name));
-    let answer = Output::open().and_then(|mut output| match command {
-        Some(command) => run(command, &mut output, &words[1..]),
-        None => run_none(&mut output, &words),
-    }
-    .and_then(|status| output.close().map(|()| status)));
+    let answer = Output::open().and_then(|mut output| {
+        match command {
+            Some(command) => run(command, &mut output, &words[1..]),
+            None => run_none(&mut output, &words),
+        }
+        .and_then(|status| output.close().map(|()| status))
+    });
     match answer {
         Ok(status) => return status as i32,
         Err(Trouble::Output(error)) => complain(&format!("standard output: {error}")),
+        Err(Trouble::File(name, error)) => complain(&format!("{name}: {error}")),
         Err(Trouble::Usage(message)) => {
             let name = command.map_or(String::new(), |command| format!(" {}", command.name));
             complain(&format!("{message}\nTry 'hverolda{name} --help'."));

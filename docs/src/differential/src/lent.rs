@@ -47,6 +47,11 @@ impl<T: Element> Lent<T> {
         self.length
     }
 
+    /// What is lent.
+    pub fn slice(&mut self) -> &mut [T] {
+        &mut self.memory[self.before..self.before + self.length]
+    }
+
     /// What is lent as it is now; the guards must be as they were.
     pub fn exit(&self, name: &str) -> Result<&[T], String> {
         let end = self.before + self.length;

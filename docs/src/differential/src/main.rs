@@ -8,6 +8,7 @@
 //! run with status 1. So does a refusal that an operation can give and that
 //! never occurred, unless `--partial` says that the run is a short one.
 //! `--tight` leaves the guards out, for a run under a tool that watches memory.
+//! `--shelf` does so many operations on shelves in place of the cases.
 
 mod breaks;
 mod by_second;
@@ -23,6 +24,7 @@ mod pairs;
 mod rules;
 mod run;
 mod sections;
+mod shelf;
 mod tables;
 mod tally;
 mod wide;
@@ -32,7 +34,8 @@ use std::process::ExitCode;
 use run::{Checked, Run};
 use tally::Tally;
 
-const USAGE: &str = "usage: differential SEED COUNT [--quiet] [--counts] [--partial] [--tight]";
+const USAGE: &str =
+    "usage: differential SEED COUNT [--shelf] [--quiet] [--counts] [--partial] [--tight]";
 
 #[derive(Default)]
 struct Options {
@@ -40,6 +43,7 @@ struct Options {
     counts: bool,
     partial: bool,
     tight: bool,
+    shelf: bool,
 }
 
 /// The seed, the count and the options that the words of the command name.
@@ -52,6 +56,7 @@ fn command() -> Option<(u64, u64, Options)> {
             "--counts" => options.counts = true,
             "--partial" => options.partial = true,
             "--tight" => options.tight = true,
+            "--shelf" => options.shelf = true,
             _ => numbers.push(word.parse().ok()?),
         }
     }
@@ -69,26 +74,50 @@ fn main() -> ExitCode {
             return ExitCode::from(2);
         }
     };
-    let mut run = Run::new(seed, options.tight);
-    if let Err((case, disagreement)) = all(&mut run, count) {
-        eprint!("differential: seed {seed}, case {case}: {disagreement}");
-        return ExitCode::FAILURE;
+    let told = match options.shelf {
+        true => on_shelves(seed, count, &options),
+        false => on_cases(seed, count, &options),
+    };
+    match told {
+        Ok((summary, counts)) => {
+            if !options.quiet {
+                println!("seed {seed}, {summary}");
+            }
+            if options.counts {
+                print!("{counts}");
+            }
+            ExitCode::SUCCESS
+        }
+        Err(what) => {
+            eprintln!("differential: seed {seed}, {what}");
+            ExitCode::FAILURE
+        }
     }
+}
+
+/// A line and a table of what was met, or what is wrong.
+type Told = Result<(String, String), String>;
+
+fn on_cases(seed: u64, count: u64, options: &Options) -> Told {
+    let mut run = Run::new(seed, options.tight);
+    all(&mut run, count).map_err(|(case, disagreement)| format!("case {case}: {disagreement}"))?;
     let mut faults = run.tally.strays();
     if !options.partial {
         faults.extend(run.tally.gaps());
     }
-    if !faults.is_empty() {
-        eprintln!("differential: seed {seed}, {count} cases: {}", faults.join("; "));
-        return ExitCode::FAILURE;
+    match faults.is_empty() {
+        true => Ok((summary(count, &run.tally), run.tally.to_string())),
+        false => Err(format!("{count} cases: {}", faults.join("; "))),
     }
-    if !options.quiet {
-        println!("{}", summary(seed, count, &run.tally));
+}
+
+fn on_shelves(seed: u64, count: u64, options: &Options) -> Told {
+    let counts = shelf::run(seed, count, options.tight)?;
+    let gaps = if options.partial { Vec::new() } else { counts.gaps() };
+    match gaps.is_empty() {
+        true => Ok((counts.summary(), counts.to_string())),
+        false => Err(format!("{count} operations: {}", gaps.join("; "))),
     }
-    if options.counts {
-        print!("{}", run.tally);
-    }
-    ExitCode::SUCCESS
 }
 
 /// The stated cases, which are case 0, and so many at random.
@@ -98,13 +127,13 @@ fn all(run: &mut Run, count: u64) -> Result<(), (u64, Box<run::Disagreement>)> {
     (1..=count).try_for_each(|case| numbered(case, cases::any(run)))
 }
 
-fn summary(seed: u64, count: u64, tally: &Tally) -> String {
+fn summary(count: u64, tally: &Tally) -> String {
     let pairs: Vec<String> = pairs::CHANGES
         .iter()
         .map(|change| format!("{} {}", tally.of("pair", change.name()), change.name()))
         .collect();
     format!(
-        "seed {seed}, {count} cases, {} calls: answers, buffers and guards as they should be; \
+        "{count} cases, {} calls: answers, buffers and guards as they should be; \
          pairs: {}; rarest refusal: {}",
         tally.calls,
         pairs.join(", "),

@@ -17,6 +17,7 @@
 //! | find a component | [`locate`], [`part`] | |
 //! | read all values | [`read`] | [`values`] |
 //! | write an interchange | [`write()`] | [`text_of`] |
+//! | keep each interchange once | [`Shelf`] | [`Shelf`] |
 //!
 //! ```
 //! let first = b"UNB+UNOA:1+AA+BB+260105:0930+R1'UNH+1+ORDERS:1:901:UN'\
@@ -50,6 +51,7 @@ mod locating;
 mod normalising;
 mod reading;
 mod refusal;
+mod shelf;
 mod value_list;
 mod writing;
 
@@ -64,6 +66,7 @@ pub use locating::{locate, part};
 pub use normalising::{normal_form, normalise};
 pub use reading::{read, values, Listing};
 pub use refusal::{Fault, Refusal};
+pub use shelf::{Shelf, Shelved, Slots};
 pub use value_list::{Kind, UnknownKind, ValueList, Values};
 pub use writing::{text_of, write};
 
@@ -72,6 +75,15 @@ pub const LONGEST: usize = 32_000;
 
 /// The longest table that [`write()`] takes, in numbers (refusal 15).
 pub const LONGEST_TABLE: usize = 96_000;
+
+/// How many texts a shelf keeps at most.
+pub const SLOTS: usize = 64;
+
+/// The fewest bytes of a shelf: those of one that can keep no text.
+pub const SMALLEST_SHELF: usize = 525;
+
+/// The most bytes of a shelf.
+pub const LARGEST_SHELF: usize = 65_536;
 
 /// The number of the rules that this crate was written for. It rises with each
 /// change of an answer: whoever stores verdicts or normal forms stores it beside

@@ -45,6 +45,14 @@ pub enum Fault {
     List,
     /// 16: a value holds a service character and there is no release character.
     NoRelease,
+    /// 17: no slot of the shelf is free.
+    NoSlot,
+    /// 18: the shelf has fewer free bytes than the text needs.
+    NoRoom,
+    /// 19: there is no sound shelf, or a buffer is none of a shelf's sizes.
+    Shelf,
+    /// 20: the slot is free, or there is none of that number.
+    Slot,
     /// A number above these, by which only an archive that is newer than this
     /// crate refuses; see [`rules`](crate::rules()).
     Unknown(u32),
@@ -52,7 +60,7 @@ pub enum Fault {
 
 /// The faults in the order of their numbers, from 1, with what is wrong as the
 /// end of a sentence.
-const FAULTS: [(Fault, &str); 16] = [
+const FAULTS: [(Fault, &str); 20] = [
     (Fault::OverLength, "there are more than 32000 bytes"),
     (Fault::Advice, "the service string advice is not usable"),
     (Fault::Beginning, "the body does not begin with UNB and the element separator"),
@@ -69,6 +77,10 @@ const FAULTS: [(Fault, &str); 16] = [
     (Fault::Buffer, "a lent buffer is too short"),
     (Fault::List, "the value list's table is malformed, or the segment begins with a line break"),
     (Fault::NoRelease, "a service character stands in a value, with none to release it"),
+    (Fault::NoSlot, "all 64 slots of the shelf are occupied"),
+    (Fault::NoRoom, "the shelf has too few free bytes"),
+    (Fault::Shelf, "there is no sound shelf of 525 to 65536 bytes"),
+    (Fault::Slot, "no text is kept in this slot"),
 ];
 
 impl Fault {
@@ -101,7 +113,7 @@ impl fmt::Display for Fault {
 /// A refusal: its fault and its place. In what the place counts depends on the
 /// fault: bytes from the beginning of the input or text for most, bytes of the
 /// normal form for 13, bytes or table numbers needed for 14, records of the
-/// table for 15 and 16.
+/// table for 15 and 16, slots for 17 and 20, bytes needed for 18.
 ///
 /// ```
 /// let refusal = hverolda::judge(b"UNA:+.? '").unwrap_err();
@@ -144,6 +156,9 @@ impl fmt::Display for Refusal {
             Fault::List | Fault::NoRelease => {
                 write!(f, "refused {number} at record {place}: {fault}")
             }
+            Fault::NoSlot | Fault::Shelf => write!(f, "refused {number}: {fault}"),
+            Fault::NoRoom => write!(f, "refused {number}: {fault}: {place} are needed"),
+            Fault::Slot => write!(f, "refused {number} at slot {place}: {fault}"),
             Fault::Unknown(_) => write!(f, "refused {number}, place {place}: {fault}"),
             _ => write!(f, "refused {number} at byte {place}: {fault}"),
         }
@@ -161,22 +176,22 @@ mod tests {
     }
 
     #[test]
-    fn the_numbers_are_one_to_sixteen() {
+    fn the_numbers_are_one_to_twenty() {
         let numbers: Vec<u32> = FAULTS.iter().map(|(fault, _)| fault.number()).collect();
-        assert_eq!(numbers, (1..=16).collect::<Vec<u32>>());
+        assert_eq!(numbers, (1..=20).collect::<Vec<u32>>());
         assert_eq!(Fault::of_number(0), None);
         assert_eq!(Fault::of_number(12), Some(Fault::Count));
     }
 
     #[test]
     fn a_number_of_a_newer_archive_is_told() {
-        for number in [17, u32::MAX] {
+        for number in [21, u32::MAX] {
             let fault = Fault::of_number(number).unwrap();
             assert_eq!((fault, fault.number()), (Fault::Unknown(number), number));
-            assert!(Fault::NoRelease < fault);
+            assert!(Fault::Slot < fault);
         }
-        let newer = "refused 17, place 64: the archive is newer, and this crate does not know why";
-        assert_eq!(sentence(17, 64), newer);
+        let newer = "refused 21, place 64: the archive is newer, and this crate does not know why";
+        assert_eq!(sentence(21, 64), newer);
     }
 
     #[test]
@@ -205,6 +220,10 @@ mod tests {
              or the segment begins with a line break"
         );
         assert!(sentence(16, 7).starts_with("refused 16 at record 7: "));
+        assert_eq!(sentence(17, 64), "refused 17: all 64 slots of the shelf are occupied");
+        assert_eq!(sentence(18, 93), "refused 18: the shelf has too few free bytes: 93 are needed");
+        assert_eq!(sentence(19, 0), "refused 19: there is no sound shelf of 525 to 65536 bytes");
+        assert_eq!(sentence(20, 63), "refused 20 at slot 63: no text is kept in this slot");
     }
 
     #[test]

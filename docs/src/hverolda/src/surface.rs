@@ -9,7 +9,10 @@
 
 mod layout;
 
-pub use layout::{Comparison, Kept, Listing, Location, Part, Verdict, Written};
+pub use layout::{
+    Comparison, Got, Kept, Listing, Location, Part, Shelving, SlotNumbers, Started, Verdict,
+    Written,
+};
 
 extern "C" {
     /// Says which rules the archive follows.
@@ -81,6 +84,26 @@ extern "C" {
         output: *mut u8,
         room: usize,
     ) -> Written;
+
+    /// Writes an empty shelf over a buffer.
+    pub fn hverolda_shelf_start(shelf: *mut u8, size: usize) -> Started;
+
+    /// Keeps the normal form of one interchange.
+    pub fn hverolda_shelf_put(
+        shelf: *mut u8,
+        size: usize,
+        input: *const u8,
+        length: usize,
+    ) -> Shelving;
+
+    /// Says which part of the shelf is the text that a slot keeps.
+    pub fn hverolda_shelf_get(shelf: *const u8, size: usize, slot: usize) -> Got;
+
+    /// Takes away the text that a slot keeps.
+    pub fn hverolda_shelf_remove(shelf: *mut u8, size: usize, slot: usize) -> Written;
+
+    /// Says how many slots are occupied, and which free one is the lowest.
+    pub fn hverolda_shelf_slots(shelf: *const u8, size: usize) -> SlotNumbers;
 }
 
 // Each function below passes on the pointer and the length of slices that are
@@ -160,4 +183,34 @@ pub fn write(service: &[u8], bytes: &[u8], table: &[u32], output: &mut [u8]) -> 
             output.len(),
         )
     }
+}
+
+/// Writes an empty shelf over a buffer.
+pub fn shelf_start(shelf: &mut [u8]) -> Started {
+    // SAFETY: as in `normalise`.
+    unsafe { hverolda_shelf_start(shelf.as_mut_ptr(), shelf.len()) }
+}
+
+/// Keeps the normal form of one interchange.
+pub fn shelf_put(shelf: &mut [u8], input: &[u8]) -> Shelving {
+    // SAFETY: as in `normalise`.
+    unsafe { hverolda_shelf_put(shelf.as_mut_ptr(), shelf.len(), input.as_ptr(), input.len()) }
+}
+
+/// Says which part of the shelf is the text that a slot keeps.
+pub fn shelf_get(shelf: &[u8], slot: usize) -> Got {
+    // SAFETY: as in `judge`; the slot may be any number.
+    unsafe { hverolda_shelf_get(shelf.as_ptr(), shelf.len(), slot) }
+}
+
+/// Takes away the text that a slot keeps.
+pub fn shelf_remove(shelf: &mut [u8], slot: usize) -> Written {
+    // SAFETY: as in `normalise`; the slot may be any number.
+    unsafe { hverolda_shelf_remove(shelf.as_mut_ptr(), shelf.len(), slot) }
+}
+
+/// Says how many slots are occupied, and which free one is the lowest.
+pub fn shelf_slots(shelf: &[u8]) -> SlotNumbers {
+    // SAFETY: as in `judge`.
+    unsafe { hverolda_shelf_slots(shelf.as_ptr(), shelf.len()) }
 }

@@ -1,11 +1,11 @@
 //! A second program for the paper "What we will build and its rules" and for
 //! the change requests that have landed: it judges one EDIFACT interchange,
-//! reads its values, writes interchanges, makes a normal form and says whether
-//! two interchanges are the same.
+//! reads its values, writes interchanges, makes a normal form, says whether two
+//! interchanges are the same, and keeps normal forms on a shelf.
 //!
 //! One module for one idea; the first comment of each module names the clause
 //! of the paper, or the request, that it follows. The operations stand in
-//! `operations`.
+//! `operations`, those of the shelf in `shelf`.
 
 pub mod break_cases;
 pub mod break_checks;
@@ -30,6 +30,9 @@ pub mod section_checks;
 pub mod sections;
 pub mod selftest;
 pub mod service_characters;
+pub mod shelf;
+pub mod shelf_checks;
+pub mod shelf_lines;
 pub mod standard_examples;
 pub mod trimming;
 pub mod value_list;

@@ -1,5 +1,5 @@
 //! The command line:
-//! `second judge|compare|locate|respell|answers|generate|cases|selftest`.
+//! `second judge|compare|locate|respell|shelf|answers|generate|cases|selftest`.
 
 use std::fs::{self, File};
 use std::io::{self, BufReader, BufWriter, Read, Write};
@@ -7,10 +7,14 @@ use std::path::Path;
 use std::process::ExitCode;
 
 use second::operations::{self, Numbers};
-use second::{cases, generator, program_lines, report_lines, request_stream, respelling, selftest};
+use second::{
+    cases, generator, program_lines, report_lines, request_stream, respelling, selftest,
+    shelf_lines,
+};
 
 const USAGE: &str = "usage: second judge [FILE] | compare FIRST SECOND .. | \
                      locate SEGMENT ELEMENT COMPONENT FILE.. | respell SERVICE FILE.. | \
+                     shelf SIZE [put FILE | get SLOT | remove SLOT | slots -].. | \
                      answers [FILE] | generate SEED COUNT [KINDS] | cases DIR | selftest";
 
 fn main() -> ExitCode {
@@ -24,6 +28,7 @@ fn main() -> ExitCode {
             locate([segment, element, component], files)
         }
         ["respell", service, ref files @ ..] => respell(service, files),
+        ["shelf", size, ref history @ ..] if history.len() % 2 == 0 => shelf(size, history),
         ["answers"] => answers(None),
         ["answers", file] => answers(Some(file)),
         ["generate", seed, count] => generate(seed, count, generator::ALL_KINDS),
@@ -93,6 +98,27 @@ fn respell(service: &str, files: &[&str]) -> io::Result<ExitCode> {
     for file in files {
         let lines = respelling::respelled_lines(service.as_bytes(), &fs::read(file)?);
         out.write_all(&lines)?;
+    }
+    out.flush()?;
+    Ok(ExitCode::SUCCESS)
+}
+
+fn shelf(size: &str, history: &[&str]) -> io::Result<ExitCode> {
+    let number = |word: &str| word.parse().map_err(|_| fault("no number"));
+    let mut shelf = vec![0; number(size)?];
+    let mut out = BufWriter::new(io::stdout());
+    out.write_all(&shelf_lines::started_line(&mut shelf))?;
+    out.write_all(b"\n")?;
+    for step in history.chunks(2) {
+        let line = match *step {
+            ["put", file] => shelf_lines::put_line(&mut shelf, &fs::read(file)?),
+            ["get", slot] => shelf_lines::got_line(&shelf, number(slot)?),
+            ["remove", slot] => shelf_lines::removed_line(&mut shelf, number(slot)?),
+            ["slots", _] => shelf_lines::slots_line(&shelf),
+            _ => return Err(fault(USAGE)),
+        };
+        out.write_all(&line)?;
+        out.write_all(b"\n")?;
     }
     out.flush()?;
     Ok(ExitCode::SUCCESS)

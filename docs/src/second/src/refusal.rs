@@ -1,7 +1,7 @@
 //! A refusal: its number and its place.
 //!
-//! Paper, clause "Refusals by number". The order by place and then by number
-//! is the order within a stage.
+//! Paper, clause "Refusals by number"; change request 2026-04, "The shelf", has
+//! 17 to 20. The order by place and then by number is the order within a stage.
 
 /// The longest input, text and normal form, in bytes (refusals 1 and 13).
 pub const LONGEST: usize = 32_000;
@@ -25,6 +25,10 @@ pub const NORMAL_LENGTH: u32 = 13;
 pub const BUFFER: u32 = 14;
 pub const LIST: u32 = 15;
 pub const NO_RELEASE: u32 = 16;
+pub const NO_SLOT: u32 = 17;
+pub const NO_ROOM: u32 = 18;
+pub const NO_SHELF: u32 = 19;
+pub const FREE_SLOT: u32 = 20;
 
 /// Fields in this order, so that the derived order is "the lowest place, then
 /// the lowest number".

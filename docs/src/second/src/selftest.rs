@@ -15,6 +15,7 @@ use crate::operations::{
 use crate::refusal::{Answer, Refusal, BUFFER, LONGEST, LONGEST_TABLE};
 use crate::request_stream::{next_request, put_request, Request};
 use crate::section_checks::check_sections;
+use crate::shelf_checks::check_shelf;
 use crate::value_list::{NEW_ELEMENT, NEW_SEGMENT, RECORD};
 
 /// How many inputs of each sort are tried.
@@ -39,6 +40,7 @@ pub fn run() -> Result<usize, String> {
     check_levels()?;
     check_sections()?;
     check_breaks()?;
+    check_shelf()?;
     if let Some(line) = crate::cases::check_cases().pop() {
         return Err(line);
     }

@@ -117,3 +117,59 @@ pub struct Listing {
     /// How many numbers of the table were stored.
     pub numbers: usize,
 }
+
+/// What a shelf's Start says.
+#[repr(C)]
+#[derive(Clone, Copy, Debug, Default, PartialEq, Eq)]
+#[must_use]
+pub struct Started {
+    /// The refusal's number.
+    pub number: u32,
+    /// The refusal's place.
+    pub place: usize,
+}
+
+/// What a shelf's Put says.
+#[repr(C)]
+#[derive(Clone, Copy, Debug, Default, PartialEq, Eq)]
+#[must_use]
+pub struct Shelving {
+    /// The refusal's number.
+    pub number: u32,
+    /// 1 where the text is new, 0 where it is the copy of one that is there.
+    pub added: u32,
+    /// The refusal's place.
+    pub place: usize,
+    /// The slot in which the text is.
+    pub slot: usize,
+}
+
+/// What a shelf's Get says, and the part of the shelf that it hands back.
+#[repr(C)]
+#[derive(Clone, Copy, Debug, Default, PartialEq, Eq)]
+#[must_use]
+pub struct Got {
+    /// The refusal's number.
+    pub number: u32,
+    /// The refusal's place.
+    pub place: usize,
+    /// Where the part begins.
+    pub offset: usize,
+    /// How long it is.
+    pub length: usize,
+}
+
+/// What is read off a shelf's map.
+#[repr(C)]
+#[derive(Clone, Copy, Debug, Default, PartialEq, Eq)]
+#[must_use]
+pub struct SlotNumbers {
+    /// The refusal's number.
+    pub number: u32,
+    /// The refusal's place.
+    pub place: usize,
+    /// How many slots are occupied.
+    pub occupied: usize,
+    /// The lowest free slot, 64 where none is free.
+    pub lowest: usize,
+}

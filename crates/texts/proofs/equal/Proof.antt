@@ -1,4 +1,4 @@
--- `compare::equal` meets its contract. The loop's invariant: what is gathered so far is none exactly where the texts are the same so
+-- `texts::equal` meets its contract. The loop's invariant: what is gathered so far is none exactly where the texts are the same so
 -- far. What is left of them falls. Assumes nothing.
 use Prim.Native.Nat.{ℕ, _-_, _≤_}
 use mathlib.Core.Path.{_≡_, sym, ap, ap₂, _∙_}
@@ -7,9 +7,9 @@ use lib.ListN.{length, take}
 use lib.Seq.{take-length}
 use Rattle.lists.specs.Lists.{same}
 use Rattle.lists.proofs.Texts.{same-length}
-use Rattle.compare.proofs.Bytes.{SoFar, so-far-none, so-far-step}
-use Rattle.compare.proofs.equal.Statement.{statement}
-use Rattle.compare.proofs.equal.Tie as tie
+use Rattle.texts.proofs.Bytes.{SoFar, so-far-none, so-far-step}
+use Rattle.texts.proofs.equal.Statement.{statement}
+use Rattle.texts.proofs.equal.Tie as tie
 
 abbrev Inv-loop : tie.InvT-loop
 Inv-loop a b differences₀ i₀ differences i = (i ≤ length a) × SoFar a b differences i

@@ -1,0 +1,3 @@
+pub mod Shortens
+pub mod Within
+pub mod OwnForm

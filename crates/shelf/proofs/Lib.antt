@@ -1,0 +1,7 @@
+pub mod Refusing
+pub mod Empty
+pub mod Copies
+pub mod Puts
+pub mod Spans
+pub mod Pairs
+pub mod Without

@@ -1,0 +1,51 @@
+-- `shelf::remove_from` meets its contract. Assumes nothing.
+use Prim.Native.Nat.{ℕ, _+_, _-_, _*_, _^_, _≤_, _<_}
+use mathlib.Core.Path.{_≡_, refl, sym, ap, ap₂, subst, _∙_}
+use Rattle.shelf_layout.specs.Laid.{laid}
+use Rattle.shelves.specs.Operations.{slotRefusal}
+use Rattle.shelf.proofs.Refusing.{passed-kept, passed-range, outcome-passed, outcome-failed}
+use Rattle.shelf.proofs.Spans.{removes-refused, removes-kept}
+use borrow.Author.Needs.{needs}
+use Rattle.shelf.proofs.remove_from.Statement.{statement}
+use Rattle.shelf.proofs.remove_from.Tie as tie
+
+slot-refusal-requires : tie.Need-slot-refusal-requires
+slot-refusal-requires c κs = search needs
+
+enum-told : tie.Need-enum-told
+enum-told c = search needs
+
+length-of-requires : tie.Need-length-of-requires
+length-of-requires c κs = let x = c .before .before .before .before .before .before .args in passed-range (laid (x .l)) (x .s .now) (x .slot) (outcome-passed (slotRefusal (laid (x .l)) (x .s .now) (x .slot)) (sym (c .before .before .before .slot-refusal .ensures) ∙ c .before .enum-told .given .1))
+
+take-out-requires : tie.Need-take-out-requires
+take-out-requires c κs = let x = c .before .before .before .before .before .before .before .before .args in let known = passed-kept (laid (x .l)) (x .s .now) (x .slot) (outcome-passed (slotRefusal (laid (x .l)) (x .s .now) (x .slot)) (sym (c .before .before .before .before .before .slot-refusal .ensures) ∙ c .before .before .before .enum-told .given .1)) in ((known .0, c .before .before .before .before .before .before .before .before .pre), known .1)
+
+enum-known-r : tie.Need-enum-known-r
+enum-known-r c = search needs
+
+same-length : tie.Need-same-length
+same-length c = search needs
+
+returns : tie.Need-returns
+returns c = let x = c .before .before .before .before .before .before .before .before .before .before .before .args in removes-kept (laid (x .l)) (x .s .now) (x .slot) (outcome-passed (slotRefusal (laid (x .l)) (x .s .now) (x .slot)) (sym (c .before .before .before .before .before .before .before .before .slot-refusal .ensures) ∙ c .before .before .before .before .before .before .enum-told .given .1)) (c .before .before .before .before .length-of .ensures .0) (c .before .before .take-out .ensures)
+
+same-length-2 : tie.Need-same-length-2
+same-length-2 c = search needs
+
+returns-2 : tie.Need-returns-2
+returns-2 c = let x = c .before .before .before .before .before .before .args in removes-refused (laid (x .l)) (x .s .now) (x .slot) (outcome-failed (slotRefusal (laid (x .l)) (x .s .now) (x .slot)) (sym (c .before .before .before .slot-refusal .ensures) ∙ c .before .r .given .1))
+
+pub remove-from-spec : {M : Type 1} → statement M
+remove-from-spec =
+    tie.close
+    (tie.spec
+    slot-refusal-requires
+    enum-told
+    length-of-requires
+    take-out-requires
+    enum-known-r
+    same-length
+    returns
+    same-length-2
+    returns-2)

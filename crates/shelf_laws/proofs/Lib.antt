@@ -1,0 +1,14 @@
+pub mod PutSound
+pub mod RemoveSound
+pub mod PutCases
+pub mod RemoveCases
+pub mod Order
+pub mod Slots
+pub mod Between
+pub mod PutLaws
+pub mod RemoveLaws
+pub mod Histories
+pub mod Counting
+pub mod Filled
+pub mod InWords
+pub mod Theorems

@@ -1,0 +1,3 @@
+pub mod InWords
+pub mod Histories
+pub mod Shelf

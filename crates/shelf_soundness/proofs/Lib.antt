@@ -1,0 +1,5 @@
+pub mod Loops
+pub mod Ranges
+pub mod Gathered
+pub mod Forms
+pub mod Whole

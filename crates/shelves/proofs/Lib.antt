@@ -1,0 +1,14 @@
+pub mod Passing
+pub mod Bits
+pub mod Sums
+pub mod Zeros
+pub mod Sound
+pub mod Answered
+pub mod Found
+pub mod Stored
+pub mod Gathered
+pub mod Held
+pub mod Added
+pub mod Removed
+pub mod Empty
+pub mod Words

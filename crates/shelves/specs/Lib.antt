@@ -1,0 +1,4 @@
+pub mod Layout
+pub mod Soundness
+pub mod Answers
+pub mod Operations

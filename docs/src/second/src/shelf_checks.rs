@@ -1,0 +1,428 @@
+//! Shelves: sound ones and others, every refusal with its place, the order of
+//! refusals, and histories beside a list of what should be kept.
+//!
+//! Change request 2026-04, "The shelf".
+
+use crate::cases::X;
+use crate::generator::{any_input, any_valid, same_contents, with_breaks, Draft, Random};
+use crate::judging::accept;
+use crate::operations::{judge, normalise};
+use crate::refusal::{
+    Answer, Refusal, BEGINNING, FREE_SLOT, LONGEST, NO_ROOM, NO_SHELF, NO_SLOT, ORDER,
+};
+use crate::shelf::{
+    get, is_sound, lowest_free, lowest_free_in, occupied, occupied_in, put, remove, start, Got,
+    Put, LARGEST, SLOTS, SMALLEST,
+};
+
+type Check = Result<(), String>;
+
+fn ensure(holds: bool, what: &str) -> Check {
+    match holds {
+        true => Ok(()),
+        false => Err(format!("the shelf: {what}")),
+    }
+}
+
+/// The first failure.
+pub fn check_shelf() -> Check {
+    check_maps()?;
+    check_start()?;
+    check_sound_shelves()?;
+    check_unsound_shelves()?;
+    check_every_byte()?;
+    check_refusals()?;
+    check_full_shelf()?;
+    (0..30).try_for_each(check_history)
+}
+
+/// The number of ones, and the trailing ones.
+fn check_maps() -> Check {
+    let mut random = Random::new(64);
+    let mut maps = vec![0, u64::MAX, 1, u64::MAX - 1, u64::MAX / 2, 1 << 63];
+    maps.extend((0..500).map(|_| random.number() | random.number() >> random.below(64)));
+    maps.extend((0..64).map(|ones| (1u64 << ones) - 1));
+    maps.into_iter().try_for_each(|map| {
+        let counted = occupied_in(map) == map.count_ones() as usize;
+        let found = lowest_free_in(map) == map.trailing_ones() as usize;
+        ensure(counted && found, &format!("the map {map:x}"))
+    })
+}
+
+/// A buffer of this size with these texts, laid out as the request says: each
+/// with its slot, in the order in which they lie.
+fn laid_out(size: usize, texts: &[(usize, &[u8])]) -> Vec<u8> {
+    let mut map = 0u64;
+    let mut pairs = [[0u32; 2]; SLOTS];
+    let mut bytes: Vec<u8> = Vec::new();
+    for (slot, text) in texts {
+        map |= 1 << slot;
+        pairs[*slot] = [(SMALLEST + bytes.len()) as u32, text.len() as u32];
+        bytes.extend(*text);
+    }
+    let mut shelf = b"EDS\x00\x01".to_vec();
+    shelf.extend(map.to_be_bytes());
+    shelf.extend(pairs.iter().flatten().flat_map(|number| number.to_be_bytes()));
+    shelf.extend(bytes);
+    shelf.resize(size, 0);
+    shelf
+}
+
+/// The normal form of an accepted interchange.
+fn normal_form(input: &[u8]) -> Vec<u8> {
+    let mut form = vec![0; LONGEST];
+    let length = normalise(input, &mut form).unwrap_or(0);
+    form.truncate(length);
+    form
+}
+
+/// A small interchange with this reference.
+fn small(reference: usize) -> Vec<u8> {
+    format!("UNB+UNOA:1++++{reference}'UNH+1'UNT+2+1'UNZ+1+{reference}'").into_bytes()
+}
+
+fn refusal(number: u32, place: usize) -> Refusal {
+    Refusal { place, number }
+}
+
+/// The shelf is refused by every operation, whatever else is wrong, and stays
+/// as it was.
+fn check_unsound(shelf: &[u8], why: &str) -> Check {
+    ensure(!is_sound(shelf), &format!("{why} is sound"))?;
+    let none = refusal(NO_SHELF, 0);
+    let mut same = shelf.to_vec();
+    for input in [X.as_bytes(), b"", b"UNA"] {
+        ensure(put(&mut same, input) == Err(none), &format!("put: {why}"))?;
+    }
+    for slot in [0, 3, 63, 64, usize::MAX] {
+        let nothing = Got { refusal: Some(none), offset: 0, bytes: &[] };
+        ensure(get(&same, slot) == nothing, &format!("get: {why}"))?;
+        ensure(remove(&mut same, slot) == Err(none), &format!("remove: {why}"))?;
+    }
+    let figures = [occupied(&same), lowest_free(&same)];
+    ensure(figures == [Err(none); 2] && same == shelf, &format!("figures: {why}"))
+}
+
+/// Start writes over any bytes of an allowed size, and nothing else.
+fn check_start() -> Check {
+    for size in [SMALLEST, SMALLEST + 1, 4_000, LARGEST] {
+        let mut buffer = vec![0xA5; size];
+        ensure(start(&mut buffer) == Ok(()), &format!("start on {size} bytes"))?;
+        ensure(buffer == laid_out(size, &[]) && is_sound(&buffer), "an empty shelf")?;
+        let figures = (occupied(&buffer), lowest_free(&buffer));
+        ensure(figures == (Ok(0), Ok(0)), "an empty shelf's figures")?;
+    }
+    for size in [0, 1, 3, SMALLEST - 1, LARGEST + 1, 2 * LARGEST] {
+        let mut buffer = vec![0xA5; size];
+        let refused = start(&mut buffer) == Err(refusal(NO_SHELF, 0));
+        ensure(refused && buffer == vec![0xA5; size], &format!("start on {size} bytes"))?;
+    }
+    Ok(())
+}
+
+/// Texts in any order of slots, at the smallest size and at any other, under
+/// either mark.
+fn check_sound_shelves() -> Check {
+    let (x, one, two) = (normal_form(X.as_bytes()), normal_form(&small(1)), normal_form(&small(2)));
+    let comma = normal_form(&[b"UNA:+,? '", X.as_bytes()].concat());
+    ensure(x.len() == 93 && one.len() == 47 && comma.len() == 93, "the texts")?;
+    let rows: [&[(usize, &[u8])]; 6] = [
+        &[(0, &x)],
+        &[(63, &x)],
+        &[(3, &x), (0, &one)],
+        &[(0, &one), (3, &x), (1, &two)],
+        &[(63, &two), (62, &one), (0, &x), (7, &comma)],
+        &[(5, &comma), (6, &x)],
+    ];
+    for texts in rows {
+        let needed = texts.iter().map(|(_, text)| text.len()).sum::<usize>() + SMALLEST;
+        for size in [needed, needed + 1, 2_000, LARGEST] {
+            let shelf = laid_out(size, texts);
+            ensure(is_sound(&shelf), &format!("a sound shelf of {size} bytes"))?;
+            ensure(occupied(&shelf) == Ok(texts.len()), "occupied slots")?;
+            for (slot, text) in texts {
+                let got = get(&shelf, *slot);
+                let whole = got.refusal.is_none() && got.bytes == *text;
+                let there = shelf[got.offset..].starts_with(text);
+                ensure(whole && there, &format!("the text of slot {slot}"))?;
+            }
+        }
+        check_unsound(&laid_out(needed, texts)[..needed - 1], "a shelf without its last byte")?;
+    }
+    Ok(())
+}
+
+/// Stores a number of four bytes.
+fn store(shelf: &mut [u8], place: usize, number: u32) {
+    shelf[place..place + 4].copy_from_slice(&number.to_be_bytes());
+}
+
+/// Shelves that miss one thing.
+fn check_unsound_shelves() -> Check {
+    let (x, one) = (normal_form(X.as_bytes()), normal_form(&small(1)));
+    let both: [(usize, &[u8]); 2] = [(3, &x), (0, &one)];
+    let sound = laid_out(1_000, &both);
+    ensure(is_sound(&sound), "the shelf of two texts")?;
+    let (pair_0, pair_3, behind) = (13, 13 + 24, SMALLEST + x.len() + one.len());
+    let changed = |change: &dyn Fn(&mut Vec<u8>)| {
+        let mut shelf = sound.clone();
+        change(&mut shelf);
+        shelf
+    };
+    let two_breaks = [&x[..], b"\r\n"].concat();
+    let respelled = b"UNA;*.! ~UNB*UNOA;1****1~UNH*1~UNT*2*1~UNZ*1*1~";
+    let padded = b"UNA:+.? 'UNB+UNOA:1++++1'UNH+1+'UNT+2+1'UNZ+1+1'";
+    let section = b"UNA:+.? 'UNB+UNOA:1++++1'UNH+1'UNS+D'UNS+D'UNT+4+1'UNZ+1+1'";
+    let unsound = [
+        ("version 2", changed(&|shelf| shelf[4] = 2)),
+        ("version 257", changed(&|shelf| shelf[3] = 1)),
+        ("EDX", changed(&|shelf| shelf[2] = b'X')),
+        ("no size", Vec::new()),
+        ("a head alone", sound[..524].to_vec()),
+        ("65537 bytes", laid_out(LARGEST + 1, &both)),
+        ("a free slot's start", changed(&|shelf| store(shelf, 13 + 8, 525))),
+        ("a free slot's length", changed(&|shelf| store(shelf, 13 + 12, 1))),
+        ("a free byte", changed(&|shelf| shelf[behind] = b'\n')),
+        ("the last byte", changed(&|shelf| shelf[999] = 1)),
+        ("an occupied slot without an entry", changed(&|shelf| shelf[5] |= 128)),
+        ("an occupied slot of length 0", {
+            changed(&|shelf| {
+                shelf[12] |= 4;
+                store(shelf, 13 + 16, behind as u32);
+            })
+        }),
+        ("an entry that is free by the map", changed(&|shelf| shelf[12] &= !1)),
+        ("a gap", {
+            changed(&|shelf| {
+                let first = SMALLEST + x.len();
+                shelf.copy_within(first..first + one.len(), first + 1);
+                shelf[first] = 0;
+                store(shelf, pair_0, first as u32 + 1);
+            })
+        }),
+        ("a gap at byte 525", {
+            changed(&|shelf| {
+                shelf.copy_within(525..behind, 526);
+                shelf[525] = 0;
+                store(shelf, pair_0, 526 + x.len() as u32);
+                store(shelf, pair_3, 526);
+            })
+        }),
+        ("two slots with one text", {
+            changed(&|shelf| {
+                shelf[12] |= 4;
+                shelf.copy_within(pair_3..pair_3 + 8, 13 + 16);
+            })
+        }),
+        ("two copies", laid_out(1_000, &[(3, &x), (0, &one), (1, &x)])),
+        ("one entry for two texts", {
+            changed(&|shelf| {
+                shelf[12] = 8;
+                store(shelf, pair_0, 0);
+                store(shelf, pair_0 + 4, 0);
+                store(shelf, pair_3 + 4, (x.len() + one.len()) as u32);
+            })
+        }),
+        ("a start before byte 525", changed(&|shelf| store(shelf, pair_3, 524))),
+        ("a length beyond the shelf", changed(&|shelf| store(shelf, pair_0 + 4, 1_000))),
+        ("a sum over 32 bits", {
+            changed(&|shelf| {
+                store(shelf, pair_0, u32::MAX);
+                store(shelf, pair_0 + 4, (SMALLEST + x.len() + one.len() + 1) as u32);
+            })
+        }),
+        ("X itself", laid_out(1_000, &[(0, X.as_bytes())])),
+        ("a normal form and breaks", laid_out(1_000, &[(0, &two_breaks)])),
+        ("another spelling", laid_out(1_000, &[(0, respelled)])),
+        ("a spelling with empty ends", laid_out(1_000, &[(0, padded)])),
+        ("a text refused by the rules as they stand", laid_out(1_000, &[(0, section)])),
+        ("a text of no interchange", laid_out(1_000, &[(0, b"A")])),
+    ];
+    let by_section = judge(section).map_err(|refusal| refusal.number);
+    ensure(by_section == Err(ORDER), "a D twice")?;
+    for accepted in [&two_breaks[..], respelled, padded] {
+        ensure(judge(accepted).is_ok(), "accepted, and no normal form")?;
+    }
+    unsound.iter().try_for_each(|(why, shelf)| check_unsound(shelf, why))
+}
+
+/// A change of any bit outside the texts makes a sound shelf unsound; in a text
+/// it does so unless that is another normal form that is not there.
+fn check_every_byte() -> Check {
+    let texts = [normal_form(&small(1)), normal_form(X.as_bytes()), normal_form(&small(2))];
+    let sound = laid_out(800, &[(9, &texts[0]), (2, &texts[1]), (41, &texts[2])]);
+    let mut ends = SMALLEST;
+    for (number, text) in texts.iter().enumerate() {
+        for (place, bit) in (0..text.len()).flat_map(|place| (0..8).map(move |bit| (place, bit))) {
+            let mut shelf = sound.clone();
+            shelf[ends + place] ^= 1 << bit;
+            let changed = &shelf[ends..ends + text.len()];
+            let its_own = accept(changed).map_or(false, |told| told.normal_form() == changed);
+            let there = (0..3).any(|other| other != number && texts[other] == changed);
+            let as_it_should_be = is_sound(&shelf) == (its_own && !there);
+            ensure(as_it_should_be, &format!("text {number}, byte {place}, bit {bit}"))?;
+        }
+        ends += text.len();
+    }
+    for place in (0..SMALLEST).chain(ends..800) {
+        for bit in 0..8 {
+            let mut shelf = sound.clone();
+            shelf[place] ^= 1 << bit;
+            ensure(!is_sound(&shelf), &format!("byte {place}, bit {bit}"))?;
+        }
+    }
+    Ok(())
+}
+
+/// A put that is refused leaves the shelf as it was.
+fn check_put_refused(shelf: &[u8], input: &[u8], expected: Refusal, why: &str) -> Check {
+    let mut same = shelf.to_vec();
+    let answer = put(&mut same, input);
+    ensure(answer == Err(expected) && same == shelf, &format!("{why}: {answer:?}"))
+}
+
+/// Each refusal of a sound shelf, with its place.
+fn check_refusals() -> Check {
+    let (x, one) = (normal_form(X.as_bytes()), normal_form(&small(1)));
+    let full_bytes = laid_out(SMALLEST + x.len() + 46, &[(1, &x)]);
+    check_put_refused(&full_bytes, b"", refusal(BEGINNING, 0), "Judge's before 18")?;
+    check_put_refused(&full_bytes, &small(1), refusal(NO_ROOM, 47), "one byte short")?;
+    check_put_refused(&full_bytes[..SMALLEST + 93], &small(1), refusal(NO_ROOM, 47), "no byte")?;
+    let mut exact = laid_out(SMALLEST + x.len() + 47, &[(1, &x)]);
+    let put_there = put(&mut exact, &small(1)) == Ok(Put::New(0));
+    let expected = laid_out(SMALLEST + x.len() + 47, &[(1, &x), (0, &one)]);
+    ensure(put_there && exact == expected, "room for exactly this text")?;
+    for slot in [0, 2, 63, 64, 65, 1 << 32, usize::MAX] {
+        let free = Err(refusal(FREE_SLOT, slot));
+        let mut shelf = full_bytes.clone();
+        let same = remove(&mut shelf, slot) == free && shelf == full_bytes;
+        ensure(same, &format!("remove of slot {slot}"))?;
+        let got = get(&shelf, slot);
+        let nothing = Got { refusal: free.err(), offset: 0, bytes: &[] };
+        ensure(got == nothing, &format!("get of slot {slot}"))?;
+    }
+    Ok(())
+}
+
+/// 64 texts: a copy is found, a refused input is Judge's, a new one is 17 where
+/// there is room for it and where there is none.
+fn check_full_shelf() -> Check {
+    let texts: Vec<Vec<u8>> = (100..164).map(|number| normal_form(&small(number))).collect();
+    let needed = SMALLEST + texts.iter().map(Vec::len).sum::<usize>();
+    for size in [needed, needed + 1, needed + 1_000] {
+        let mut shelf = vec![1; size];
+        start(&mut shelf).map_err(|_| "a shelf of 64 texts is not started".to_string())?;
+        for (slot, text) in texts.iter().enumerate() {
+            ensure(put(&mut shelf, text) == Ok(Put::New(slot)), "64 texts")?;
+        }
+        let figures = (occupied(&shelf), lowest_free(&shelf));
+        ensure(figures == (Ok(64), Ok(64)), "a full shelf's figures")?;
+        check_put_refused(&shelf, &small(99), refusal(NO_SLOT, 64), "17")?;
+        check_put_refused(&shelf, b"UNA", refusal(2, 0), "Judge's before 17")?;
+        let before = shelf.clone();
+        for slot in 0..SLOTS {
+            let found = put(&mut shelf, &small(100 + slot)) == Ok(Put::Found(slot));
+            ensure(found && shelf == before, "a copy on a full shelf")?;
+        }
+        for slot in [0, 1, 31, 62, 63] {
+            let mut other = shelf.clone();
+            let removed = remove(&mut other, slot) == Ok(texts[slot].len());
+            ensure(removed && lowest_free(&other) == Ok(slot), "a slot that is free again")?;
+            ensure(put(&mut other, &texts[slot]) == Ok(Put::New(slot)), "room used again")?;
+        }
+    }
+    Ok(())
+}
+
+/// What a shelf should hold, and what was put and removed so far.
+struct Kept {
+    size: usize,
+    texts: Vec<(usize, Vec<u8>)>,
+    put: usize,
+    removed: usize,
+}
+
+impl Kept {
+    fn bytes_held(&self) -> usize {
+        self.texts.iter().map(|(_, text)| text.len()).sum()
+    }
+
+    fn put(&mut self, input: &[u8]) -> Answer<Put> {
+        judge(input)?;
+        let text = normal_form(input);
+        if let Some((slot, _)) = self.texts.iter().find(|(_, kept)| *kept == text) {
+            return Ok(Put::Found(*slot));
+        }
+        let free = (0..SLOTS).find(|slot| self.texts.iter().all(|(other, _)| other != slot));
+        let slot = free.ok_or(refusal(NO_SLOT, 64))?;
+        if SMALLEST + self.bytes_held() + text.len() > self.size {
+            return Err(refusal(NO_ROOM, text.len()));
+        }
+        self.put += text.len();
+        self.texts.push((slot, text));
+        Ok(Put::New(slot))
+    }
+
+    fn remove(&mut self, slot: usize) -> Answer<usize> {
+        let found = self.texts.iter().position(|(other, _)| *other == slot);
+        let (_, text) = self.texts.remove(found.ok_or(refusal(FREE_SLOT, slot))?);
+        self.removed += text.len();
+        Ok(text.len())
+    }
+
+    fn shelf(&self) -> Vec<u8> {
+        let texts: Vec<(usize, &[u8])> =
+            self.texts.iter().map(|(slot, text)| (*slot, &text[..])).collect();
+        laid_out(self.size, &texts)
+    }
+}
+
+/// The draft in some spelling.
+fn any_spelling(random: &mut Random, draft: &Draft) -> Vec<u8> {
+    let input = same_contents(random, draft).spelled();
+    match random.chance(33) {
+        true => with_breaks(random, &input).input,
+        false => input,
+    }
+}
+
+/// Puts of new texts and of copies, removes of every position, and refusals of
+/// all sorts; after each the shelf has the bytes that it should have.
+fn check_history(seed: u64) -> Check {
+    let mut random = Random::new(seed);
+    let pool: Vec<Draft> = (0..90).map(|_| any_valid(&mut random)).collect();
+    let size = random.pick(&[SMALLEST, 700, 1_500, 4_000, 20_000, LARGEST]);
+    let mut kept = Kept { size, texts: Vec::new(), put: 0, removed: 0 };
+    let mut shelf = random.bytes(size);
+    start(&mut shelf).map_err(|_| "a shelf is not started".to_string())?;
+    for step in 0..200 {
+        let name = |what: &str| format!("{what}, seed {seed}, step {step}");
+        let draft = random.pick(&pool);
+        let slot = match kept.texts.is_empty() || random.chance(15) {
+            true => random.pick(&[0, 1, 5, 62, 63, 64, 1_000, usize::MAX]),
+            false => random.pick(&kept.texts).0,
+        };
+        match random.below(20) {
+            0..=13 => {
+                let input = any_spelling(&mut random, &draft);
+                ensure(put(&mut shelf, &input) == kept.put(&input), &name("put"))?;
+            }
+            14 => {
+                let input = any_input(&mut random);
+                ensure(put(&mut shelf, &input) == kept.put(&input), &name("put of any"))?;
+            }
+            _ => ensure(remove(&mut shelf, slot) == kept.remove(slot), &name("remove"))?,
+        }
+        ensure(shelf == kept.shelf(), &name("the bytes"))?;
+        let held = kept.bytes_held();
+        ensure(held == kept.put - kept.removed, &name("put less removed"))?;
+        let got = get(&shelf, slot);
+        let text = kept.texts.iter().find(|(other, _)| *other == slot);
+        match text {
+            Some((_, text)) => ensure(got.bytes == text, &name("get"))?,
+            None => ensure(got.refusal == Some(refusal(FREE_SLOT, slot)), &name("get"))?,
+        }
+        ensure(occupied(&shelf) == Ok(kept.texts.len()), &name("occupied"))?;
+    }
+    Ok(())
+}
