@@ -215,5 +215,5 @@ for my $round (1 .. $rounds) {
     my $beside = "$folder/.shared$round.hverolda-new";
     die "left behind: $beside\n" if -e $beside;
 }
-print "$kills killed: $before_it before the change ($left with a file half done), $after_it after it; "
-    . "of as many fifths that start $starts after it; $rounds times eight at once: nothing lost\n";
+print "$kills killed: $before_it before the change ($left with a file half done), $after_it after it; " . int($kills / 5) . " killed starts: "
+    . "$starts after it; $rounds times eight at once: nothing lost\n";

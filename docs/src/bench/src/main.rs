@@ -1,13 +1,16 @@
 //! Times the proved Judge, Normalise and Compare against the second program's, in one
-//! run: nanoseconds a byte of the input. A benchmark, not a test.
+//! run: nanoseconds a byte of the input; and the shelf's operations against Judge
+//! over the kept texts. A benchmark, not a test.
 //!
-//! `bench [ROUNDS]`: each round runs the four functions on every interchange,
-//! one after the other, in an order that moves on with each round.
+//! `bench [ROUNDS] [shelf]`: each round runs the four functions on every interchange,
+//! one after the other, in an order that moves on with each round. With `shelf` there
+//! is only the shelf's part.
 
 mod lines;
 mod orders;
 mod pairs;
 mod passes;
+mod shelf;
 mod surface;
 
 use std::time::Instant;
@@ -27,10 +30,15 @@ const ROUNDS: usize = 9;
 const NAMES: [&str; 4] = ["judge", "second's judge", "normalise", "second's normalise"];
 
 fn main() {
-    let rounds = match std::env::args().nth(1) {
-        Some(word) => word.parse().expect("ROUNDS is a number"),
-        None => ROUNDS,
+    let words: Vec<String> = std::env::args().skip(1).filter(|word| word != "shelf").collect();
+    let rounds = match &words[..] {
+        [] => ROUNDS,
+        [word] => word.parse().expect("ROUNDS is a number"),
+        _ => panic!("usage: bench [ROUNDS] [shelf]"),
     };
+    if std::env::args().any(|word| word == "shelf") {
+        return shelf::report(rounds);
+    }
     let mut random = Random::new(SEED);
     let interchanges: Vec<Vec<u8>> = (0..INTERCHANGES)
         .map(|_| {
@@ -54,6 +62,7 @@ fn main() {
     report_passes(&interchanges[..INTERCHANGES / 4], rounds);
     pairs::report(&interchanges[..INTERCHANGES / 4], rounds);
     lines::report(&mut random, rounds, &mut ours, &mut theirs);
+    shelf::report(rounds);
 }
 
 /// How many are accepted, after both have answered the same on all, with the

@@ -6,6 +6,7 @@
 use second::operations::Verdict;
 use second::refusal::{Answer, Refusal};
 use second::service_characters::ServiceCharacters;
+use second::shelf::Put;
 
 #[repr(C)]
 struct JudgeNumbers {
@@ -38,6 +39,36 @@ struct CompareNumbers {
     place: usize,
 }
 
+#[repr(C)]
+struct StartNumbers {
+    number: u32,
+    place: usize,
+}
+
+#[repr(C)]
+struct PutNumbers {
+    number: u32,
+    added: u32,
+    place: usize,
+    slot: usize,
+}
+
+#[repr(C)]
+struct GetNumbers {
+    number: u32,
+    place: usize,
+    offset: usize,
+    length: usize,
+}
+
+#[repr(C)]
+struct SlotNumbers {
+    number: u32,
+    place: usize,
+    occupied: usize,
+    lowest: usize,
+}
+
 extern "C" {
     fn hverolda_compare(
         first: *const u8,
@@ -52,6 +83,16 @@ extern "C" {
         input: *const u8,
         length: usize,
     ) -> NormaliseNumbers;
+    fn hverolda_shelf_start(shelf: *mut u8, size: usize) -> StartNumbers;
+    fn hverolda_shelf_put(
+        shelf: *mut u8,
+        size: usize,
+        input: *const u8,
+        length: usize,
+    ) -> PutNumbers;
+    fn hverolda_shelf_get(shelf: *const u8, size: usize, slot: usize) -> GetNumbers;
+    fn hverolda_shelf_remove(shelf: *mut u8, size: usize, slot: usize) -> NormaliseNumbers;
+    fn hverolda_shelf_slots(shelf: *const u8, size: usize) -> SlotNumbers;
 }
 
 /// Judge, with the second program's type for the answer.
@@ -93,9 +134,52 @@ pub fn normalise(input: &[u8], buffer: &mut [u8]) -> Answer<usize> {
 /// Compare, of two that are accepted.
 pub fn is_same(first: &[u8], second: &[u8]) -> bool {
     // SAFETY: as in `judge`.
-    let told = unsafe {
-        hverolda_compare(first.as_ptr(), first.len(), second.as_ptr(), second.len())
-    };
+    let told =
+        unsafe { hverolda_compare(first.as_ptr(), first.len(), second.as_ptr(), second.len()) };
     assert_eq!((told.number, told.input, told.place), (0, 0, 0));
     told.same == 1
+}
+
+fn told<T>(number: u32, place: usize, answer: T) -> Answer<T> {
+    match number {
+        0 => Ok(answer),
+        number => Err(Refusal { place, number }),
+    }
+}
+
+/// A shelf's Start.
+pub fn start(shelf: &mut [u8]) -> Answer<()> {
+    // SAFETY: as in `judge`.
+    let answer = unsafe { hverolda_shelf_start(shelf.as_mut_ptr(), shelf.len()) };
+    told(answer.number, answer.place, ())
+}
+
+/// A shelf's Put.
+pub fn put(shelf: &mut [u8], input: &[u8]) -> Answer<Put> {
+    // SAFETY: as in `normalise`.
+    let answer =
+        unsafe { hverolda_shelf_put(shelf.as_mut_ptr(), shelf.len(), input.as_ptr(), input.len()) };
+    let put = if answer.added == 1 { Put::New(answer.slot) } else { Put::Found(answer.slot) };
+    told(answer.number, answer.place, put)
+}
+
+/// The offset and the length of what a shelf's Get hands back.
+pub fn get(shelf: &[u8], slot: usize) -> Answer<(usize, usize)> {
+    // SAFETY: as in `judge`.
+    let answer = unsafe { hverolda_shelf_get(shelf.as_ptr(), shelf.len(), slot) };
+    told(answer.number, answer.place, (answer.offset, answer.length))
+}
+
+/// A shelf's Remove.
+pub fn remove(shelf: &mut [u8], slot: usize) -> Answer<usize> {
+    // SAFETY: as in `judge`.
+    let answer = unsafe { hverolda_shelf_remove(shelf.as_mut_ptr(), shelf.len(), slot) };
+    told(answer.number, answer.place, answer.length)
+}
+
+/// How many slots of a shelf are occupied, and the lowest free one.
+pub fn slots(shelf: &[u8]) -> Answer<(usize, usize)> {
+    // SAFETY: as in `judge`.
+    let answer = unsafe { hverolda_shelf_slots(shelf.as_ptr(), shelf.len()) };
+    told(answer.number, answer.place, (answer.occupied, answer.lowest))
 }

@@ -26,8 +26,9 @@ pub fn beginning<'a>(random: &mut Random, pool: &'a Pool) -> Beginning<'a> {
     let mut puts = FILLS_AND_EMPTIES;
     let (shelf, texts, most) = match random.below(100) {
         0..=2 => {
-            let size = random.pick(&[0, 1, 3, 524, 524, 65_537]);
-            (random.bytes(size), small, 8)
+            let size =
+                random.pick(&[0, 1, 3, SMALLEST - 1, SMALLEST - 1, LARGEST + 1, LARGEST + 1]);
+            (other_size(random, small, size), small, 8)
         }
         3..=6 => {
             let size = SMALLEST + random.below(3);
@@ -77,6 +78,17 @@ fn made(random: &mut Random, texts: &[Text], count: usize) -> Vec<u8> {
     let more = texts[random.below(texts.len())].form.len();
     let free = random.pick(&[0, 1, more - 1, more, more + 1, 200, 500]);
     laid_out(SMALLEST + held + free, &kept)
+}
+
+/// Any bytes, or what would be a sound shelf but for its size.
+fn other_size(random: &mut Random, texts: &[Text], size: usize) -> Vec<u8> {
+    if random.chance(30) {
+        return random.bytes(size);
+    }
+    let kept = [(random.below(SLOTS), &texts[random.below(texts.len())].form[..])];
+    let mut shelf = laid_out(LARGEST + 1, &kept[..random.below(2)]);
+    shelf.truncate(size);
+    shelf
 }
 
 fn shuffle(random: &mut Random, list: &mut [usize]) {

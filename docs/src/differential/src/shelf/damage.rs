@@ -9,7 +9,7 @@ use super::layout::{by_position, free_slots, map, pair, store_map, store_pair, M
 /// A damage by its name; false where the shelf has nothing to do it to.
 type Damage = (&'static str, fn(&mut Random, &mut [u8]) -> bool);
 
-pub const DAMAGES: [Damage; 19] = [
+pub const DAMAGES: [Damage; 20] = [
     ("the beginning or the version", head),
     ("a bit of the map", map_bit),
     ("a start", start),
@@ -21,6 +21,7 @@ pub const DAMAGES: [Damage; 19] = [
     ("an occupied slot of length 0", empty_text),
     ("a byte of a text", text_byte),
     ("the mark of a text", mark),
+    ("the element separator of a text", separator),
     ("a text over another", text_copied),
     ("a boundary between texts", boundary),
     ("a gap between texts", gap),
@@ -191,6 +192,19 @@ fn mark(random: &mut Random, shelf: &mut [u8]) -> bool {
     match any_place(random, shelf) {
         Some((_, start, end)) if start + 5 < end => {
             shelf[start + 5] = if shelf[start + 5] == b'.' { b',' } else { b'.' };
+            true
+        }
+        _ => false,
+    }
+}
+
+/// The same interchange, as long as its normal form, which it is not.
+fn separator(random: &mut Random, shelf: &mut [u8]) -> bool {
+    match any_place(random, shelf) {
+        // behind an advice, nothing is released
+        Some((_, start, end)) if start + 9 < end && !shelf[start + 9..end].contains(&b'?') => {
+            let pluses = shelf[start..end].iter_mut().filter(|byte| **byte == b'+');
+            pluses.for_each(|byte| *byte = b'*');
             true
         }
         _ => false,
