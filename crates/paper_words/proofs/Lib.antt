@@ -1,4 +1,13 @@
-pub mod Parts
-pub mod Writer
+pub mod Answering
+pub mod Meanings
+pub mod Opening
+pub mod Tags
+pub mod Levels
+pub mod Grammar
+pub mod Misplaced
+pub mod Controls
+pub mod Judged
+pub mod Written
+pub mod Values
 pub mod PaperWords
 pub mod Further

@@ -1,5 +1,4 @@
-// The definitions in the paper's words: for each sentence of paper 01 that a definition computes, a
-// statement with the paper's numbers that does not go through that definition, in the order of the
-// paper (specs/PaperWords.antt), to be read in some twenty minutes with the paper beside it; and
-// further cases, computed (specs/Further.antt). The proofs only cite the crates below. What holds for
-// whole interchanges is left to `theorems`.
+// Paper 01 in the paper's words: under its headings its notions, with its letters and numbers, and that
+// the definitions say the same (specs/PaperWords.antt), to be read in some ten minutes with the paper beside
+// it. What Judge and Write refuse, and at which place, is said as a whole. Further cases are computed
+// (specs/Further.antt). What is demanded of accepted interchanges is left to `theorems`.
