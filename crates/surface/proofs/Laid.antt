@@ -13,7 +13,7 @@ use Rattle.surface.specs.Answered.{writtenOf, comparisonOf, locationOf, 
 use Rattle.surface.specs.OfShelf.{startedOf, shelvingOf, gotOf, slotNumbersOf}
 
 -- no refusal has the number 0
-refusal-numbered : (f : Fault) → eqb (number f) 0 ≡ false
+pub refusal-numbered : (f : Fault) → eqb (number f) 0 ≡ false
 refusal-numbered TooLong = refl
 refusal-numbered UnusableAdvice = refl
 refusal-numbered NoOpening = refl

@@ -1,3 +1,4 @@
 pub mod Laid
 pub mod Handed
 pub mod GotParts
+pub mod MailboxLaid

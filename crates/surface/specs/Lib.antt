@@ -3,3 +3,4 @@ pub mod Answered
 pub mod Parts
 pub mod Rules
 pub mod OfShelf
+pub mod OfMailbox

@@ -1,4 +1,5 @@
-// The surface: all operations of paper 01, "Operations", and of the shelf (request 2026-04), for programs in C and Rust. It promises, for
+// The surface: all operations of paper 01, "Operations", of the shelf (request 2026-04) and of mailbox files (request 2026-02), for
+// programs in C and Rust. It promises, for
 // any bytes and any numbers, the paper's answers as the definitions in specs/ lay them out in structs,
 // and every byte and number of each lent buffer at exit. A slice crosses as a pointer and a length;
 // nothing is asked of what it holds. `laying` makes the structs of the answers.
@@ -13,6 +14,8 @@ ghost use Rattle.surface.specs.Answered.{writtenOf, comparisonOf, locati
 ghost use Rattle.surface.specs.Parts.{keptOf, partOf};
 ghost use Rattle.surface.specs.Rules.{rules};
 ghost use Rattle.surface.specs.OfShelf.{startedOf, shelvingOf, gotOf, slotNumbersOf};
+ghost use Rattle.surface.specs.OfMailbox.{morningOf};
+ghost use Rattle.mailbox_files.specs.Report.{report as reportOf};
 ghost use Rattle.shelves.specs.Layout.{versionOne};
 ghost use Rattle.shelves.specs.Operations.{start as startOf, startShelf, put as putOf, putShelf, gotOffset, gotLength, lengthAnswer, remove as removeOf, removeShelf, slotsOf};
 use answers::Stored;
@@ -21,6 +24,7 @@ use laying::listing_of;
 use laying::location_of;
 use laying::verdict_of;
 use laying::written_of;
+use mailbox_laying::morning_of;
 use shelf_laying::got_at;
 use shelf_laying::got_refused;
 use shelf_laying::shelving_of;
@@ -28,6 +32,7 @@ use shelf_laying::slot_numbers_of;
 use shelf_laying::started_of;
 
 mod laying;
+mod mailbox_laying;
 mod shelf_laying;
 
 // What Judge says. `number` is 0 where the interchange is accepted, and `place` is then 0; where it
@@ -137,6 +142,21 @@ pub struct SlotNumbers {
     pub place: usize,
     pub occupied: usize,
     pub lowest: usize,
+}
+
+// What the morning report of a mailbox file says: 0, and the figures over its pieces; or the refusal's number
+// and place, and then every figure is 0. `refused` is indexed by the refusal's number, 1 to 13; the one at 0
+// is 0. `total` and `longest` are the lengths of the accepted interchanges' normal forms.
+#[repr(C)]
+pub struct MorningFigures {
+    pub number: u32,
+    pub accepted: u32,
+    pub refused: [u32; 14],
+    pub segments: u32,
+    pub messages: u32,
+    pub place: usize,
+    pub total: usize,
+    pub longest: usize,
 }
 
 // Which rules the answers follow: a caller holds it against the number of the header that it was built with.
@@ -276,4 +296,11 @@ pub extern "C" fn hverolda_shelf_slots(shelf: &[u8]) -> SlotNumbers
     ensures { λ r. ⌜ r ≡ slotNumbersOf (slotsOf versionOne (now (shelf .entry))) ⌝ }
 {
     slot_numbers_of(shelf::slots(shelf))
+}
+
+#[no_mangle]
+pub extern "C" fn hverolda_report(file: &[u8]) -> MorningFigures
+    ensures { λ r. ⌜ r ≡ morningOf (reportOf (now (file .entry))) ⌝ }
+{
+    morning_of(report::report(file))
 }

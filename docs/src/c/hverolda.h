@@ -75,6 +75,10 @@ extern "C" {
 #define HVEROLDA_SMALLEST_SHELF 525
 #define HVEROLDA_LARGEST_SHELF 65536
 
+/* The most bytes of a mailbox file; the numbers under which Judge refuses are 1 to 13. */
+#define HVEROLDA_LONGEST_FILE 65536
+#define HVEROLDA_JUDGED_NUMBERS 14
+
 /*
  * The number of the rules that this header is for. It rises with each change of an answer, so that
  * whoever stores verdicts or normal forms, and this number beside them, sees when they are old.
@@ -91,7 +95,7 @@ extern "C" {
  */
 enum hverolda_refusal {
     HVEROLDA_NOT_REFUSED = 0,
-    /* Input or text over 32,000 bytes. Place: 0. */
+    /* Input or text over 32,000 bytes; a mailbox file over 65,536. Place: 0. */
     HVEROLDA_TOO_LONG = 1,
     /* Unusable advice, or shorter than its 9 bytes; Write: not six usable bytes. Place: 0. */
     HVEROLDA_UNUSABLE_ADVICE = 2,
@@ -263,6 +267,23 @@ typedef struct hverolda_slot_numbers {
     size_t lowest;
 } hverolda_slot_numbers;
 
+/*
+ * The morning figures of a mailbox file: how many of its interchanges are accepted; how many are
+ * refused under each number, which is the index, 1 to 13 (the one at 0 is 0); and of the accepted ones
+ * segments, messages, the total length of their normal forms and the longest of these lengths, 0 where
+ * none is accepted. Or `number` and `place`, and all else is 0.
+ */
+typedef struct hverolda_morning {
+    uint32_t number;
+    uint32_t accepted;
+    uint32_t refused[HVEROLDA_JUDGED_NUMBERS];
+    uint32_t segments;
+    uint32_t messages;
+    size_t place;
+    size_t total;
+    size_t longest;
+} hverolda_morning;
+
 /* Which rules the archive follows: HVEROLDA_RULES where it is this header's. Nothing is refused. */
 uint32_t hverolda_rules(void);
 
@@ -412,6 +433,19 @@ hverolda_written hverolda_shelf_remove(uint8_t *shelf, size_t shelf_length, size
  */
 hverolda_slot_numbers hverolda_shelf_slots(const uint8_t *shelf, size_t shelf_length);
 
+/*
+ * Report: the morning figures of a mailbox file, which has interchanges end to end.
+ *
+ * The file is cut into pieces. A piece ends after its first UNZ segment and the line breaks behind it;
+ * its service characters are those of its own beginning. Where the cutting meets what is refused by 2
+ * to 6, or the file's end, before a UNZ, the rest is one piece, and the last. Each piece is accepted,
+ * or refused under the number that Judge gives it: 1 for one over 32,000 bytes. A file of no bytes has
+ * no pieces. The time is that of one pass over the file and of Judge over each piece.
+ *
+ * Refusals: 1 where the file has more than 65,536 bytes.
+ */
+hverolda_morning hverolda_report(const uint8_t *file, size_t file_length);
+
 #ifdef __cplusplus
 }
 #endif
@@ -466,6 +500,14 @@ HVEROLDA_HOLDS(sizeof(hverolda_slot_numbers) == 32)
 HVEROLDA_HOLDS(offsetof(hverolda_slot_numbers, place) == 8)
 HVEROLDA_HOLDS(offsetof(hverolda_slot_numbers, occupied) == 16)
 HVEROLDA_HOLDS(offsetof(hverolda_slot_numbers, lowest) == 24)
+HVEROLDA_HOLDS(sizeof(hverolda_morning) == 96)
+HVEROLDA_HOLDS(offsetof(hverolda_morning, accepted) == 4)
+HVEROLDA_HOLDS(offsetof(hverolda_morning, refused) == 8)
+HVEROLDA_HOLDS(offsetof(hverolda_morning, segments) == 64)
+HVEROLDA_HOLDS(offsetof(hverolda_morning, messages) == 68)
+HVEROLDA_HOLDS(offsetof(hverolda_morning, place) == 72)
+HVEROLDA_HOLDS(offsetof(hverolda_morning, total) == 80)
+HVEROLDA_HOLDS(offsetof(hverolda_morning, longest) == 88)
 #undef HVEROLDA_HOLDS
 
 #endif

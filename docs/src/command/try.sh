@@ -55,7 +55,7 @@ gigabyte() { head -c 1000000000 /dev/zero 2>/dev/null | tr '\0' "${1-\0}" 2>/dev
 
 accepted='accepted 5 1 0 93'
 sentence="the trailer's count is wrong"
-commands=(judge normalise compare keep locate read write respell shelf)
+commands=(judge normalise compare keep locate read write respell report shelf)
 # nearly all of its 31,900 bytes end an empty value: as many values as an interchange can have
 {
     printf "UNB+UNOA:1+AA+BB+260105:0930+R1'UNH+1+ORDERS:1:901:UN'BGM"
@@ -123,6 +123,36 @@ expect 1 "refused 12 67 $sentence"$'\n'"    *UNT*"$'\n'"    *^" '' on_terminal "
 mapfile -t shown <"$work/out"
 mark=${shown[2]%^}
 [[ ${shown[1]:${#mark}:3} == UNT ]] || complain "the mark stands under '${shown[1]:${#mark}:3}'"
+
+# ---- the command: the morning figures of mailbox files
+
+# figures ACCEPTED SEGMENTS MESSAGES TOTAL LONGEST [NUMBER=COUNT]..: the lines that say them, the others being 0
+figures() {
+    local number count
+    printf 'accepted\t%s\n' "$1"
+    for number in {1..13}; do
+        count=0
+        for pair in "${@:6}"; do [[ $pair == "$number="* ]] && count=${pair#*=}; done
+        printf 'refused by %s\t%s\n' "$number" "$count"
+    done
+    printf 'segments\t%s\nmessages\t%s\ntotal of normal lengths\t%s\nlongest normal length\t%s\n' "$2" "$3" "$4" "$5"
+}
+# each_of LABEL FIGURES: the lines, each after a label
+each_of() { sed "s|^|$1|" <<<"$2"; }
+{ cat "$x" && printf '\r\n' && cat "$respelled" "$wrong" && printf 'rest'; } >"$work/mailbox"
+morning=$(figures 2 10 2 186 93 3=1 12=1)
+expect 0 "$morning" '' "$hverolda" report "$work/mailbox"
+expect 0 "$morning" '' "$hverolda" report <"$work/mailbox"
+expect 0 "$(figures 0 0 0 0 0)" '' "$hverolda" report /dev/null
+head -c 65536 /dev/zero | tr '\0' "'" >"$work/terminators"
+expect 0 "$(figures 0 0 0 0 0 1=1)" '' "$hverolda" report "$work/terminators"
+{ cat "$work/terminators" && printf "'"; } >"$work/longer"
+over='refused 1 0 the file has more than 65536 bytes'
+expect 1 "$over" '' "$hverolda" report "$work/longer"
+expect 1 "$over" '' narrow "$hverolda" report < <(gigabyte)
+expect 1 "$(each_of "$work/mailbox: " "$morning")"$'\n'"$work/longer: $over"$'\n'"$(each_of "$x: " "$(figures 1 5 1 93 93)")
+$(each_of 'all files: ' "$(figures 3 15 3 279 93 3=1 12=1)")"$'\nall files: files\t2' '' "$hverolda" report "$work/mailbox" "$work/longer" "$x"
+expect 2 '' 'hverolda: standard output: No space left*' full "$hverolda" report "$x"
 
 # ---- the command: a shelf in a file (shelf.pl kills it and runs eight at once)
 

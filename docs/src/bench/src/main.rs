@@ -1,11 +1,12 @@
 //! Times the proved Judge, Normalise and Compare against the second program's, in one
 //! run: nanoseconds a byte of the input; and the shelf's operations against Judge
-//! over the kept texts. A benchmark, not a test.
+//! over the kept texts; and Report over mailbox files. A benchmark, not a test.
 //!
-//! `bench [ROUNDS] [shelf]`: each round runs the four functions on every interchange,
-//! one after the other, in an order that moves on with each round. With `shelf` there
-//! is only the shelf's part.
+//! `bench [ROUNDS] [shelf | files]`: each round runs the four functions on every interchange,
+//! one after the other, in an order that moves on with each round. With `shelf` or
+//! `files` there is only that part.
 
+mod files;
 mod lines;
 mod orders;
 mod pairs;
@@ -30,14 +31,18 @@ const ROUNDS: usize = 9;
 const NAMES: [&str; 4] = ["judge", "second's judge", "normalise", "second's normalise"];
 
 fn main() {
-    let words: Vec<String> = std::env::args().skip(1).filter(|word| word != "shelf").collect();
+    let is_part = |word: &String| word == "shelf" || word == "files";
+    let words: Vec<String> = std::env::args().skip(1).filter(|word| !is_part(word)).collect();
     let rounds = match &words[..] {
         [] => ROUNDS,
         [word] => word.parse().expect("ROUNDS is a number"),
-        _ => panic!("usage: bench [ROUNDS] [shelf]"),
+        _ => panic!("usage: bench [ROUNDS] [shelf | files]"),
     };
     if std::env::args().any(|word| word == "shelf") {
         return shelf::report(rounds);
+    }
+    if std::env::args().any(|word| word == "files") {
+        return files::report(rounds);
     }
     let mut random = Random::new(SEED);
     let interchanges: Vec<Vec<u8>> = (0..INTERCHANGES)
@@ -63,6 +68,7 @@ fn main() {
     pairs::report(&interchanges[..INTERCHANGES / 4], rounds);
     lines::report(&mut random, rounds, &mut ours, &mut theirs);
     shelf::report(rounds);
+    files::report(rounds);
 }
 
 /// How many are accepted, after both have answered the same on all, with the

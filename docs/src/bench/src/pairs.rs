@@ -46,7 +46,10 @@ pub fn report(orders: &[Vec<u8>], rounds: usize) {
                     let told = opaque(if side == 0 {
                         surface::is_same(opaque(order), opaque(&other))
                     } else {
-                        matches!(operations::compare(opaque(order), opaque(&other)), Comparison::Same)
+                        matches!(
+                            operations::compare(opaque(order), opaque(&other)),
+                            Comparison::Same
+                        )
                     });
                     least[side] = least[side].min(began.elapsed().as_nanos() as u64);
                     assert_eq!(told, same, "{name}");

@@ -69,6 +69,18 @@ struct SlotNumbers {
     lowest: usize,
 }
 
+#[repr(C)]
+struct MorningNumbers {
+    number: u32,
+    accepted: u32,
+    refused: [u32; 14],
+    segments: u32,
+    messages: u32,
+    place: usize,
+    total: usize,
+    longest: usize,
+}
+
 extern "C" {
     fn hverolda_compare(
         first: *const u8,
@@ -93,6 +105,7 @@ extern "C" {
     fn hverolda_shelf_get(shelf: *const u8, size: usize, slot: usize) -> GetNumbers;
     fn hverolda_shelf_remove(shelf: *mut u8, size: usize, slot: usize) -> NormaliseNumbers;
     fn hverolda_shelf_slots(shelf: *const u8, size: usize) -> SlotNumbers;
+    fn hverolda_report(file: *const u8, length: usize) -> MorningNumbers;
 }
 
 /// Judge, with the second program's type for the answer.
@@ -182,4 +195,12 @@ pub fn slots(shelf: &[u8]) -> Answer<(usize, usize)> {
     // SAFETY: as in `judge`.
     let answer = unsafe { hverolda_shelf_slots(shelf.as_ptr(), shelf.len()) };
     told(answer.number, answer.place, (answer.occupied, answer.lowest))
+}
+
+/// Interchanges accepted and refused, and the total of normal lengths.
+pub fn report(file: &[u8]) -> (usize, usize, usize) {
+    // SAFETY: the pointer and the length are those of a lent slice.
+    let told = unsafe { hverolda_report(file.as_ptr(), file.len()) };
+    assert_eq!(told.number, 0);
+    (told.accepted as usize, told.refused.iter().sum::<u32>() as usize, told.total)
 }

@@ -26,7 +26,7 @@ macro_rules! commands {
     };
 }
 
-commands! { judge normalise compare keep locate read write respell shelf }
+commands! { judge normalise compare keep locate read write respell report shelf }
 
 pub struct Command {
     name: &'static str,

@@ -8,7 +8,8 @@
 //! run with status 1. So does a refusal that an operation can give and that
 //! never occurred, unless `--partial` says that the run is a short one.
 //! `--tight` leaves the guards out, for a run under a tool that watches memory.
-//! `--shelf` does so many operations on shelves in place of the cases.
+//! `--shelf` does so many operations on shelves in place of the cases, `--mailbox`
+//! reports on so many mailbox files.
 
 mod breaks;
 mod by_second;
@@ -19,6 +20,7 @@ mod cases;
 mod inputs;
 mod lent;
 mod limits;
+mod mailbox;
 mod owned;
 mod pairs;
 mod rules;
@@ -35,7 +37,7 @@ use run::{Checked, Run};
 use tally::Tally;
 
 const USAGE: &str =
-    "usage: differential SEED COUNT [--shelf] [--quiet] [--counts] [--partial] [--tight]";
+    "usage: differential SEED COUNT [--shelf | --mailbox] [--quiet] [--counts] [--partial] [--tight]";
 
 #[derive(Default)]
 struct Options {
@@ -44,6 +46,7 @@ struct Options {
     partial: bool,
     tight: bool,
     shelf: bool,
+    mailbox: bool,
 }
 
 /// The seed, the count and the options that the words of the command name.
@@ -57,6 +60,7 @@ fn command() -> Option<(u64, u64, Options)> {
             "--partial" => options.partial = true,
             "--tight" => options.tight = true,
             "--shelf" => options.shelf = true,
+            "--mailbox" => options.mailbox = true,
             _ => numbers.push(word.parse().ok()?),
         }
     }
@@ -74,9 +78,10 @@ fn main() -> ExitCode {
             return ExitCode::from(2);
         }
     };
-    let told = match options.shelf {
-        true => on_shelves(seed, count, &options),
-        false => on_cases(seed, count, &options),
+    let told = match (options.shelf, options.mailbox) {
+        (true, _) => on_shelves(seed, count, &options),
+        (_, true) => on_mailboxes(seed, count, &options),
+        _ => on_cases(seed, count, &options),
     };
     match told {
         Ok((summary, counts)) => {
@@ -117,6 +122,15 @@ fn on_shelves(seed: u64, count: u64, options: &Options) -> Told {
     match gaps.is_empty() {
         true => Ok((counts.summary(), counts.to_string())),
         false => Err(format!("{count} operations: {}", gaps.join("; "))),
+    }
+}
+
+fn on_mailboxes(seed: u64, count: u64, options: &Options) -> Told {
+    let counts = mailbox::run(seed, count, options.tight)?;
+    let gaps = if options.partial { Vec::new() } else { counts.gaps() };
+    match gaps.is_empty() {
+        true => Ok((counts.summary(), counts.to_string())),
+        false => Err(format!("{count} files: {}", gaps.join("; "))),
     }
 }
 

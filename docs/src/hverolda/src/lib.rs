@@ -18,6 +18,7 @@
 //! | read all values | [`read`] | [`values`] |
 //! | write an interchange | [`write()`] | [`text_of`] |
 //! | keep each interchange once | [`Shelf`] | [`Shelf`] |
+//! | count what a mailbox file holds | [`report()`] | |
 //!
 //! ```
 //! let first = b"UNB+UNOA:1+AA+BB+260105:0930+R1'UNH+1+ORDERS:1:901:UN'\
@@ -51,6 +52,7 @@ mod locating;
 mod normalising;
 mod reading;
 mod refusal;
+mod reporting;
 mod shelf;
 mod value_list;
 mod writing;
@@ -66,6 +68,7 @@ pub use locating::{locate, part};
 pub use normalising::{normal_form, normalise};
 pub use reading::{read, values, Listing};
 pub use refusal::{Fault, Refusal};
+pub use reporting::{report, Report};
 pub use shelf::{Shelf, Shelved, Slots};
 pub use value_list::{Kind, UnknownKind, ValueList, Values};
 pub use writing::{text_of, write};
@@ -84,6 +87,9 @@ pub const SMALLEST_SHELF: usize = 525;
 
 /// The most bytes of a shelf.
 pub const LARGEST_SHELF: usize = 65_536;
+
+/// The longest mailbox file that [`report()`] takes, in bytes (its refusal 1).
+pub const LONGEST_FILE: usize = 65_536;
 
 /// The number of the rules that this crate was written for. It rises with each
 /// change of an answer: whoever stores verdicts or normal forms stores it beside

@@ -10,8 +10,8 @@
 mod layout;
 
 pub use layout::{
-    Comparison, Got, Kept, Listing, Location, Part, Shelving, SlotNumbers, Started, Verdict,
-    Written,
+    Comparison, Got, Kept, Listing, Location, Morning, Part, Shelving, SlotNumbers, Started,
+    Verdict, Written,
 };
 
 extern "C" {
@@ -104,6 +104,9 @@ extern "C" {
 
     /// Says how many slots are occupied, and which free one is the lowest.
     pub fn hverolda_shelf_slots(shelf: *const u8, size: usize) -> SlotNumbers;
+
+    /// Says the morning figures of a mailbox file.
+    pub fn hverolda_report(file: *const u8, length: usize) -> Morning;
 }
 
 // Each function below passes on the pointer and the length of slices that are
@@ -213,4 +216,10 @@ pub fn shelf_remove(shelf: &mut [u8], slot: usize) -> Written {
 pub fn shelf_slots(shelf: &[u8]) -> SlotNumbers {
     // SAFETY: as in `judge`.
     unsafe { hverolda_shelf_slots(shelf.as_ptr(), shelf.len()) }
+}
+
+/// Says the morning figures of a mailbox file.
+pub fn report(file: &[u8]) -> Morning {
+    // SAFETY: as in `judge`.
+    unsafe { hverolda_report(file.as_ptr(), file.len()) }
 }

@@ -1,11 +1,12 @@
 //! A second program for the paper "What we will build and its rules" and for
 //! the change requests that have landed: it judges one EDIFACT interchange,
 //! reads its values, writes interchanges, makes a normal form, says whether two
-//! interchanges are the same, and keeps normal forms on a shelf.
+//! interchanges are the same, keeps normal forms on a shelf, and reports on a
+//! file of interchanges.
 //!
 //! One module for one idea; the first comment of each module names the clause
 //! of the paper, or the request, that it follows. The operations stand in
-//! `operations`, those of the shelf in `shelf`.
+//! `operations`, those of the shelf in `shelf`, the report in `mailbox`.
 
 pub mod break_cases;
 pub mod break_checks;
@@ -16,6 +17,8 @@ pub mod generator;
 pub mod judging;
 pub mod level;
 pub mod line_breaks;
+pub mod mailbox;
+pub mod mailbox_checks;
 pub mod normal_form;
 pub mod operations;
 pub mod order;

@@ -1,5 +1,5 @@
 //! The command line:
-//! `second judge|compare|locate|respell|shelf|answers|generate|cases|selftest`.
+//! `second judge|compare|locate|respell|report|shelf|answers|generate|cases|selftest`.
 
 use std::fs::{self, File};
 use std::io::{self, BufReader, BufWriter, Read, Write};
@@ -8,13 +8,13 @@ use std::process::ExitCode;
 
 use second::operations::{self, Numbers};
 use second::{
-    cases, generator, program_lines, report_lines, request_stream, respelling, selftest,
+    cases, generator, mailbox, program_lines, report_lines, request_stream, respelling, selftest,
     shelf_lines,
 };
 
 const USAGE: &str = "usage: second judge [FILE] | compare FIRST SECOND .. | \
                      locate SEGMENT ELEMENT COMPONENT FILE.. | respell SERVICE FILE.. | \
-                     shelf SIZE [put FILE | get SLOT | remove SLOT | slots -].. | \
+                     report FILE.. | shelf SIZE [put FILE | get SLOT | remove SLOT | slots -].. | \
                      answers [FILE] | generate SEED COUNT [KINDS] | cases DIR | selftest";
 
 fn main() -> ExitCode {
@@ -29,6 +29,7 @@ fn main() -> ExitCode {
         }
         ["respell", service, ref files @ ..] => respell(service, files),
         ["shelf", size, ref history @ ..] if history.len() % 2 == 0 => shelf(size, history),
+        ["report", ref files @ ..] => report(files),
         ["answers"] => answers(None),
         ["answers", file] => answers(Some(file)),
         ["generate", seed, count] => generate(seed, count, generator::ALL_KINDS),
@@ -98,6 +99,15 @@ fn respell(service: &str, files: &[&str]) -> io::Result<ExitCode> {
     for file in files {
         let lines = respelling::respelled_lines(service.as_bytes(), &fs::read(file)?);
         out.write_all(&lines)?;
+    }
+    out.flush()?;
+    Ok(ExitCode::SUCCESS)
+}
+
+fn report(files: &[&str]) -> io::Result<ExitCode> {
+    let mut out = BufWriter::new(io::stdout());
+    for file in files {
+        writeln!(out, "{}", report_lines::report_line(&mailbox::report(&fs::read(file)?)))?;
     }
     out.flush()?;
     Ok(ExitCode::SUCCESS)

@@ -20,20 +20,34 @@ pub fn read_body<'a>(
     characters: &ServiceCharacters,
 ) -> Answer<Contents<'a>> {
     let mut contents = Contents::new(input, characters.release);
-    let mut kind = ValueKind::NewSegment;
     let mut at = body;
-    while at < input.len() || kind != ValueKind::NewSegment {
+    while at < input.len() {
+        at = read_segment(&mut contents, at, characters)?;
+    }
+    Ok(contents)
+}
+
+/// Adds the segment that starts here; the place behind it and behind the breaks
+/// that follow, where the next one starts.
+pub fn read_segment(
+    contents: &mut Contents,
+    start: usize,
+    characters: &ServiceCharacters,
+) -> Answer<usize> {
+    let input = contents.source;
+    let mut kind = ValueKind::NewSegment;
+    let mut at = start;
+    loop {
         let value = read_value(input, at, characters)?;
         contents.add(kind, value);
         let end = value.range().end;
         kind = kind_after(input[end], characters);
         at = end + 1;
         if kind == ValueKind::NewSegment {
-            check_last_tag(&contents)?;
-            at = after_breaks(input, at);
+            check_last_tag(contents)?;
+            return Ok(after_breaks(input, at));
         }
     }
-    Ok(contents)
 }
 
 /// How the next value goes on after this separator or terminator.

@@ -4,6 +4,7 @@
 //! other lines are those of a request stream's answers.
 
 use crate::contents::Part;
+use crate::mailbox::Report;
 use crate::operations::{Comparison, Kept, ReadCounts, Spelled, Verdict, Which};
 use crate::refusal::{Answer, Refusal};
 
@@ -45,6 +46,21 @@ pub fn judge_and_characters_line(answer: &Answer<Verdict>) -> String {
         }
     }
     line
+}
+
+/// `report` and 18 figures: interchanges accepted, refused under 1 to 13, and of
+/// the accepted ones segments, messages, total of normal lengths and the longest;
+/// or the refusal of the file.
+pub fn report_line(answer: &Answer<Report>) -> String {
+    let report = match answer {
+        Ok(report) => report,
+        Err(refusal) => return refusal_line(refusal),
+    };
+    let mut figures = vec![report.accepted];
+    figures.extend(report.refused);
+    figures.extend([report.segments, report.messages, report.total_length, report.longest]);
+    let words: Vec<String> = figures.iter().map(usize::to_string).collect();
+    format!("report {}", words.join(" "))
 }
 
 /// The line of Normalise and of Write.

@@ -7,6 +7,7 @@
 use crate::break_checks::check_breaks;
 use crate::generator::{any_input, any_valid, request, same_contents, Random};
 use crate::level::{holds, Level};
+use crate::mailbox_checks::check_mailbox;
 use crate::normal_form::normal_characters;
 use crate::operations::{
     compare, judge, keep, locate, normalise, read, spelled, write, Comparison, Numbers, Verdict,
@@ -41,6 +42,7 @@ pub fn run() -> Result<usize, String> {
     check_sections()?;
     check_breaks()?;
     check_shelf()?;
+    check_mailbox()?;
     if let Some(line) = crate::cases::check_cases().pop() {
         return Err(line);
     }

@@ -173,3 +173,26 @@ pub struct SlotNumbers {
     /// The lowest free slot, 64 where none is free.
     pub lowest: usize,
 }
+
+/// The morning figures of a mailbox file.
+#[repr(C)]
+#[derive(Clone, Copy, Debug, Default, PartialEq, Eq)]
+#[must_use]
+pub struct Morning {
+    /// The refusal's number.
+    pub number: u32,
+    /// How many interchanges are accepted.
+    pub accepted: u32,
+    /// How many are refused under each number, which is the index; the one at 0 is 0.
+    pub refused: [u32; 14],
+    /// Segments of the accepted ones.
+    pub segments: u32,
+    /// Messages of the accepted ones.
+    pub messages: u32,
+    /// The refusal's place.
+    pub place: usize,
+    /// The total length of their normal forms.
+    pub total: usize,
+    /// The length of the longest.
+    pub longest: usize,
+}

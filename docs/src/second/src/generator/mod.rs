@@ -9,6 +9,7 @@ mod damage;
 mod draft;
 mod limits;
 mod lists;
+mod mailboxes;
 mod random;
 mod soups;
 
@@ -27,6 +28,7 @@ use lists::{break_list, fill_table, list_of_draft, random_list, List};
 
 pub use breaks::{filled_with_breaks, in_lines, with_breaks, Broken};
 pub use draft::Draft;
+pub use mailboxes::any_file;
 pub use random::Random;
 
 /// The letters of all operations.
@@ -97,6 +99,17 @@ fn damaged(random: &mut Random, mut draft: Draft, damages: usize) -> Vec<u8> {
         damage_bytes(random, &draft, &mut input, aim);
     }
     input
+}
+
+/// An interchange with one or two damages that aim at 7 to 12, which are judged
+/// after all its segments are read.
+fn damaged_after_cutting(random: &mut Random) -> Vec<u8> {
+    let mut draft = any_valid(random);
+    for _ in 0..random.pick(&[1, 1, 2]) {
+        let aim = random.between(7, 12) as u32;
+        damage_draft(random, &mut draft, aim);
+    }
+    draft.spelled()
 }
 
 /// Any input: valid, damaged, a soup, or about a limit; one time in three with
