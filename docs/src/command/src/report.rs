@@ -11,12 +11,19 @@ pub const COMMAND: Command = Command {
     help: "\
 Counts the interchanges of mailbox files, which have them end to end.
 
+A file is cut after each UNZ segment and the line breaks behind it, and each piece is
+judged. Where the bytes before a UNZ cannot be read as segments (2 to 6), or there is
+none, the rest of the file is one piece that is refused: nothing behind is counted.
+
 Prints lines of a name, a tab and a figure for each FILE: interchanges accepted; refused
-under each number from 1 to 13; and of the accepted ones segments, messages, the total of
-the lengths of their normal forms and the longest of them. Where several files are named,
-the same follows for all files: sums, and the longest of all; and how many files these
-are. A file of more than 65536 bytes is refused by 1, and counts in none of them. The
-status is 1 where a file is refused, whatever the interchanges of the others are.
+by each number from 1 to 13; and of the accepted ones segments, messages, the total of
+the lengths of their normal forms and the longest of them. A file of more than 65536
+bytes has one line in their place: refused 1 0 and why. Where several files are named,
+lines that begin with \"all files:\" follow: the sums, the longest of all, and how many
+files these are; a file that is refused or cannot be read counts in none of them.
+
+The status is 1 where a file is refused as a whole, and 0 otherwise, also where
+interchanges in it are refused.
 ",
     run,
 };
