@@ -1,8 +1,8 @@
-// Plays a history of a shelf: `run_shelf SIZE [put FILE | get SLOT | remove SLOT | slots -] ..` starts an empty shelf of
-// SIZE bytes and does what the arguments say, in order. It prints a line for each: `started`; `new SLOT` or
-// `copy SLOT`; the kept text; `removed LENGTH`; `slots OCCUPIED LOWEST-FREE`; or `refused NUMBER PLACE`. The line
-// of a file that cannot be read is `unreadable`, and standard error says why. A program in Rattle ends with
-// status 0 whatever it says.
+// Plays a history of a shelf: `run_shelf SIZE [put FILE | get SLOT | remove SLOT | slots - | sums -] ..` starts an
+// empty shelf of SIZE bytes and does what the arguments say, in order. It prints a line for each: `started`;
+// `new SLOT` or `copy SLOT`; the kept text; `removed LENGTH`; `slots OCCUPIED LOWEST-FREE`; `sums HELD DUPLICATES`;
+// or `refused NUMBER PLACE`. The line of a file that cannot be read is `unreadable`, and standard error says why.
+// A program in Rattle ends with status 0 whatever it says.
 use answers::Stored;
 use inputs::Number;
 use inputs::ROOM;
@@ -15,6 +15,7 @@ use printing::print_value;
 use refusals::Outcome;
 use shelves::Shelved;
 use shelves::Slots;
+use shelves::TwoSums;
 
 // A word, and a number after it.
 fn print_number(word: &[u8], value: usize) -> bool {
@@ -41,6 +42,18 @@ fn print_slots(slots: Slots) -> bool {
                 && print_line(b"")
         }
         Slots::Refused(refusal) => print_refused(b"refused", refusal),
+    }
+}
+
+fn print_sums(sums: TwoSums) -> bool {
+    match sums {
+        TwoSums::Numbers { held, duplicates } => {
+            io::write_all(STDOUT_FILENO, b"sums")
+                && print_value(held as u64)
+                && print_value(duplicates as u64)
+                && print_line(b"")
+        }
+        TwoSums::Refused(refusal) => print_refused(b"refused", refusal),
     }
 }
 
@@ -78,7 +91,7 @@ fn number_at(argument: usize) -> usize {
     }
 }
 
-// What a word asks for, by its first letter, of the file or the slot that the next argument names.
+// What a word asks for, by its first two letters, of the file or the slot that the next argument names.
 fn do_operation(s: &mut [u8], word: usize, argument: usize) -> bool {
     let mut letters = [0u8; 16];
     os::arg(word, &mut letters);
@@ -91,6 +104,9 @@ fn do_operation(s: &mut [u8], word: usize, argument: usize) -> bool {
     }
     if letter == b'r' {
         return print_removed(shelf::remove(s, number_at(argument)));
+    }
+    if letters[1] == b'u' {
+        return print_sums(shelf::sums(s));
     }
     print_slots(shelf::slots(s))
 }
@@ -125,7 +141,7 @@ fn main() {
     if 65537 < size {
         io::write_all(
             STDERR_FILENO,
-            b"usage: run_shelf SIZE [put FILE | get SLOT | remove SLOT | slots -] ..\n",
+            b"usage: run_shelf SIZE [put FILE | get SLOT | remove SLOT | slots - | sums -] ..\n",
         );
         return;
     }

@@ -1,7 +1,11 @@
 pub mod Refusing
 pub mod Empty
 pub mod Copies
-pub mod Puts
+pub mod Lowest
 pub mod Spans
+pub mod Lent
+pub mod Puts
 pub mod Pairs
 pub mod Without
+pub mod Again
+pub mod Local

@@ -27,19 +27,27 @@ module _ (l : Layout) (s : List ℕ) (slot : ℕ) where
   outcome-unsound e f = ap outcome (sym (slot-unsound l s slot (sym e ∙ f)))
 
   module _ (q : sound l s ≡ true) where
-    outcome-free : there l s slot ≡ false → Failed (record { fault = FreeSlot; place = slot }) ≡ outcome (slotRefusal l s slot)
-    unfolding outcome
-    outcome-free e = ap outcome (sym (slot-free l s slot q e))
+    -- a slot above 63, a free one, and one that keeps a text
+    pub refusal-above : slotCount ≤ slot → slotRefusal l s slot ≡ some (record { fault = FreeSlot; place = slot })
+    refusal-above h = slot-free l s slot q (ap (λ (b : Bool). b && isOccupied s slot) (le-ltb slot slotCount h))
+
+    pub refusal-empty : slot < slotCount → isOccupied s slot ≡ false → slotRefusal l s slot ≡ some (record { fault = FreeSlot; place = slot })
+    refusal-empty h o = slot-free l s slot q (ap (λ (b : Bool). b && isOccupied s slot) (lt-ltb slot slotCount h) ∙ o)
+
+    pub refusal-kept : slot < slotCount → isOccupied s slot ≡ true → slotRefusal l s slot ≡ none
+    refusal-kept h o = slot-there l s slot q (ap (λ (b : Bool). b && isOccupied s slot) (lt-ltb slot slotCount h) ∙ o)
 
     pub outcome-above : slotCount ≤ slot → Failed (record { fault = FreeSlot; place = slot }) ≡ outcome (slotRefusal l s slot)
-    outcome-above h = outcome-free (ap (λ (b : Bool). b && isOccupied s slot) (le-ltb slot slotCount h))
+    unfolding outcome
+    outcome-above h = ap outcome (sym (refusal-above h))
 
     pub outcome-empty : slot < slotCount → isOccupied s slot ≡ false → Failed (record { fault = FreeSlot; place = slot }) ≡ outcome (slotRefusal l s slot)
-    outcome-empty h o = outcome-free (ap (λ (b : Bool). b && isOccupied s slot) (lt-ltb slot slotCount h) ∙ o)
+    unfolding outcome
+    outcome-empty h o = ap outcome (sym (refusal-empty h o))
 
     pub outcome-kept : slot < slotCount → isOccupied s slot ≡ true → Passed ≡ outcome (slotRefusal l s slot)
     unfolding outcome
-    outcome-kept h o = ap outcome (sym (slot-there l s slot q (ap (λ (b : Bool). b && isOccupied s slot) (lt-ltb slot slotCount h) ∙ o)))
+    outcome-kept h o = ap outcome (sym (refusal-kept h o))
 
     there-by : slotRefusal l s slot ≡ none → there l s slot ≡ true
     there-by e =

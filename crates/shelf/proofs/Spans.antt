@@ -21,7 +21,7 @@ use Rattle.slot_map.specs.Slots.{occupiedCount, lowestFreeIn}
 use Rattle.shelf_contracts.specs.Promises.{Gets, Measures, Removes, Counts}
 use Rattle.shelf.specs.declared.Span.{Span}
 use Rattle.shelf.specs.Parts.{gotSpan}
-use Rattle.shelf.proofs.Puts.{lowest-by}
+use Rattle.shelf.proofs.Lowest.{lowest-by}
 
 module _ (l : Layout) (s : List ℕ) (slot : ℕ) where
   module _ {r : Refusal} (e : slotRefusal l s slot ≡ some r) where

@@ -1,5 +1,5 @@
 -- A shelf without one of its texts. Assumes nothing.
-use Prim.Native.Nat.{ℕ, zero, suc, _+_, _-_, _*_, _^_, _≤_, _<_}
+use Prim.Native.Nat.{ℕ, zero, suc, _+_, _-_, _*_, _≤_, _<_}
 use mathlib.Core.Path.{_≡_, refl, sym, ap, ap₂, _∙_}
 use mathlib.Core.Bool.{Bool, true, false}
 use mathlib.Core.List.{List, [], _∷_, _++_}
@@ -10,13 +10,12 @@ use lib.ListN.{length, take, drop, replicate}
 use lib.Seq.{sets}
 use Rattle.lists.specs.Lists.{gather}
 use Rattle.lists.proofs.Texts.{decided, gather-append}
-use Rattle.numbers.specs.Numbers.{inBytes}
 use Rattle.numbers.proofs.Numbers.{number-before}
-use Rattle.shelves.specs.Layout.{Layout, slotCount, below, mapOf, isOccupied, base, pairPlace, startOf, lengthOf, endOf}
+use Rattle.shelves.specs.Layout.{Layout, slotCount, below, isOccupied, base, pairPlace, startOf, lengthOf, endOf}
 use Rattle.shelves.specs.Soundness.{sound}
-use Rattle.shelves.specs.Operations.{pairWithout, textsWithout, without}
+use Rattle.shelves.specs.Operations.{pairWithout, textsWithout}
 use Rattle.shelves.proofs.Sound.{Sound, says-sound}
-use Rattle.shelf.specs.Parts.{Lowers}
+use Rattle.shelf.specs.Parts.{Lowers, cleared}
 use Rattle.shelf.proofs.Pairs.{pairs}
 
 module _ (l : Layout) (s : List ℕ) (slot : ℕ) (q : sound l s ≡ true) (i : slot < slotCount) (o : isOccupied s slot ≡ true) where
@@ -76,14 +75,9 @@ module _ (l : Layout) (s : List ℕ) (slot : ℕ) (q : sound l s ≡ true) (i : 
         ∙ ap₂ (λ (x y : List ℕ). x ++ (y ++ [])) (pairs-kept n (omega arith)) (pair-kept n (omega arith))
         ∙ sym (gather-append (pairWithout l s slot) (below n) (n ∷ []))
 
-    pub taken-out : {m : ℕ} {paired after : List ℕ} → m ≡ mapOf s - 2 ^ slot → paired ≡ sets moved (l .pairs) (pairs l moved slot slotCount)
-        → after ≡ sets paired 5 (inBytes 8 m) → after ≡ without l s slot
-    unfolding without
-    taken-out d p g =
-        g
-        ∙ ap₂ (λ (x : List ℕ) (n : ℕ). sets x 5 (inBytes 8 n))
-        (p ∙ ap₂ (λ (x y : List ℕ). sets x (l .pairs) y) e (pairs-kept slotCount (omega arith)))
-        d
+    pub taken-out : {paired : List ℕ} → paired ≡ sets moved (l .pairs) (pairs l moved slot slotCount) → paired ≡ cleared l s slot
+    unfolding cleared
+    taken-out p = p ∙ ap₂ (λ (x y : List ℕ). sets x (l .pairs) y) e (pairs-kept slotCount (omega arith))
 
 -- the texts behind it, from the numbers that were read
 pub texts-moved : (l : Layout) (s : List ℕ) (slot : ℕ) {a n end : ℕ} → a ≡ startOf l s slot → n ≡ lengthOf l s slot → end ≡ endOf l s

@@ -1,24 +1,50 @@
--- What the parts of the shelf's operations leave: a text put where the shelf is sound and the interchange accepted, a kept text asked for, a
--- pair stored without a text that was removed. Assumes nothing.
+-- What the parts of the shelf's operations leave: a text put where the shelf is sound, a kept text asked for, a pair stored without a text that
+-- was removed; and the operations that are lent the summary, which leave the shelf's head alone. Assumes nothing.
 use Prim.Native.Nat.{ℕ, _-_, _≤_, _<_}
 use mathlib.Core.Path.{_≡_}
 use mathlib.Core.Bool.{Bool, true, false}
 use mathlib.Core.List.{List}
 use mathlib.Core.Option.{none, some}
 use lib.Dec.{eqb, ltb}
-use Rattle.lists.specs.Lists.{if_then_else_, same}
+use lib.ListN.{length}
+use lib.Seq.{sets}
+use Rattle.lists.specs.Lists.{if_then_else_, same, gather}
 use Rattle.stages.specs.Contents.{normalForm}
 use Rattle.stages.specs.Stages.{refusalOf}
-use Rattle.shelves.specs.declared.Shelved.{Shelved}
-use Rattle.shelves.specs.Layout.{Layout, slotCount, isOccupied, startOf, lengthOf, textOf}
-use Rattle.shelves.specs.Operations.{pairOf, copyOf, gotOffset, gotLength}
-use Rattle.shelf_contracts.specs.Promises.{Puts}
+use Rattle.answers.specs.declared.Stored.{Stored}
+use Rattle.shelves.specs.declared.Summary.{Summary}
+use Rattle.shelves.specs.Layout.{Layout, versionTwo, slotCount, below, isOccupied, pairPlace, startOf, lengthOf, textOf, endOf}
+use Rattle.shelves.specs.Summary.{summaryOf}
+use Rattle.shelves.specs.Operations.{pairOf, lowestFree, copyOf, gotOffset, gotLength, pairWithout, textsWithout}
+use Rattle.shelf_contracts.specs.Promises.{Puts, Removes}
+use Rattle.shelf_summary.specs.declared.Placed.{Placed}
+use Rattle.shelf_summary.specs.Steps.{storedBack, shelvedOf, afterPut, PutFits, afterRemove, RemoveFits}
 use Rattle.shelf.specs.declared.Span.{Span}
 
 module _ (l : Layout) where
+  -- the text behind the last one and its pair, before the head is stored
+  unfoldable pub stowed : (s form : List ℕ) → List ℕ
+  stowed s form =
+      sets (sets s (endOf l s) form) (pairPlace l (lowestFree l s)) (pairOf (endOf l s) (length form))
+
+  -- the same of a text that is taken out
+  unfoldable pub cleared : List ℕ → (slot : ℕ) → List ℕ
+  cleared s slot =
+      sets (sets s (startOf l s slot) (textsWithout l s slot)) (l .pairs) (gather (pairWithout l s slot) (below slotCount))
+
+  -- Put, all but the head: with the summary that it makes stored there it is Put, and that summary can be made
+  abbrev pub PutsText : (s input : List ℕ) → Placed → (after : List ℕ) → Type 0
+  PutsText s input r after =
+      Puts l s input (shelvedOf r) (storedBack after (afterPut (summaryOf s) r)) × PutFits (summaryOf s) r
+
   -- Put of any interchange that is accepted and has this normal form
-  abbrev pub PutsForm : (s form : List ℕ) → Shelved → (after : List ℕ) → Type 0
-  PutsForm s form r after = (input : List ℕ) → refusalOf input ≡ none → normalForm input ≡ form → Puts l s input r after
+  abbrev pub PutsForm : (s form : List ℕ) → Placed → (after : List ℕ) → Type 0
+  PutsForm s form r after = (input : List ℕ) → refusalOf input ≡ none → normalForm input ≡ form → PutsText s input r after
+
+  -- Remove, all but the head
+  abbrev pub TakesText : (s : List ℕ) (slot : ℕ) → Stored → (after : List ℕ) → Type 0
+  TakesText s slot r after =
+      Removes l s slot r (storedBack after (afterRemove (summaryOf s) slot r)) × RemoveFits (summaryOf s) slot r
 
   -- a slot keeps this text
   unfoldable pub keepsText : (s form : List ℕ) → ℕ → Bool
@@ -42,3 +68,10 @@ module _ (l : Layout) where
 unfoldable pub loweredPair : (removed start size slot : ℕ) → (a n : ℕ) → List ℕ
 loweredPair removed start size slot a n =
     if eqb slot removed then pairOf 0 0 else if ltb start a then pairOf (a - size) n else pairOf a n
+
+-- the operations that are lent the summary: with it stored at the head, they are Put and Remove
+abbrev pub PutsLent : (s input : List ℕ) → Placed → (after : List ℕ) (u : Summary) → Type 0
+PutsLent s input r after u = Puts versionTwo s input (shelvedOf r) (storedBack after u)
+
+abbrev pub RemovesLent : (s : List ℕ) (slot : ℕ) → Stored → (after : List ℕ) (u : Summary) → Type 0
+RemovesLent s slot r after u = Removes versionTwo s slot r (storedBack after u)

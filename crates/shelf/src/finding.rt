@@ -8,7 +8,6 @@ ghost use Rattle.shelf_layout.specs.Laid.{laid};
 ghost use Rattle.shelf.specs.Parts.{keepsText, CopyAt};
 use shelf_layout::Layout;
 use shelf_layout::length_of;
-use shelf_layout::map_of;
 use shelf_layout::start_of;
 use slot_map::SLOTS;
 use slot_map::is_occupied;
@@ -31,11 +30,10 @@ fn keeps(s: &[u8], l: Layout, map: u64, slot: usize, form: &[u8]) -> bool
 }
 
 // The lowest occupied slot that keeps this text; 64 where none does.
-pub fn copy_of(s: &[u8], l: Layout, form: &[u8]) -> usize
-    requires { ⌜ sound (laid l) (now s) ≡ true ⌝ }
+pub fn copy_of(s: &[u8], l: Layout, map: u64, form: &[u8]) -> usize
+    requires { ⌜ (sound (laid l) (now s) ≡ true) × (map ≡ mapOf (now s)) ⌝ }
     ensures { λ r. ⌜ CopyAt (laid l) (now (s .entry)) (now (form .entry)) r ⌝ }
 {
-    let map = map_of(s);
     let mut slot = 0;
     while slot < SLOTS {
         if keeps(s, l, map, slot, form) {

@@ -1,17 +1,19 @@
-// The shelf (request 2026-04): Start, Put, Get, Remove, and the two numbers read off the map, over a lent
-// buffer. They promise, for any bytes, the answer that `shelves` gives and every byte of the shelf at
-// exit; what is refused leaves it unchanged. The functions that take a layout serve every version.
+// The shelf of version 2 (requests 2026-04 and 2026-06): Start, Put, Get, Remove, the two numbers read off the
+// map, and the two sums, over a lent buffer. They promise, for any bytes, the answer that `shelves` gives and
+// every byte of the shelf at exit; what is refused leaves it unchanged. Put and Remove are lent the summary at
+// the shelf's head. The functions that take a layout serve every version.
 ghost use mathlib.Core.Path.{_≡_};
 ghost use mathlib.Core.Bool.{true};
 ghost use Prim.Native.Nat.{_+_, _≤_};
 ghost use lib.ListN.{length};
 ghost use Rattle.refusals.specs.Refusals.{outcome};
-ghost use Rattle.shelves.specs.Layout.{versionOne};
+ghost use Rattle.shelves.specs.Layout.{versionTwo};
+ghost use Rattle.shelves.specs.Soundness.{sound};
 ghost use Rattle.shelves.specs.Operations.{slotRefusal};
-ghost use Rattle.shelf_contracts.specs.Promises.{Starts, Puts, Gets, Measures, Removes, Counts};
+ghost use Rattle.shelf_contracts.specs.Promises.{Starts, Puts, Gets, Measures, Removes, Counts, Sums};
 ghost use Rattle.shelf_layout.specs.Laid.{laid};
-ghost use Rattle.shelf.specs.Parts.{gotSpan};
-use answers::Judged;
+ghost use Rattle.shelf_summary.specs.Steps.{Heads, shelvedOf, PutStays};
+ghost use Rattle.shelf.specs.Parts.{gotSpan, PutsLent, RemovesLent};
 use answers::Stored;
 use refusals::Fault;
 use refusals::Outcome;
@@ -21,10 +23,18 @@ use shelf_layout::Layout;
 use shelf_layout::length_of;
 use shelf_layout::map_of;
 use shelf_layout::start_of;
-use shelf_layout::version_one;
+use shelf_layout::version_two;
 use shelf_soundness::is_sound;
+use shelf_summary::Placed;
+use shelf_summary::head_of;
+use shelf_summary::put_step;
+use shelf_summary::remove_step;
+use shelf_summary::shelved_of;
+use shelf_summary::store_head;
 use shelves::Shelved;
 use shelves::Slots;
+use shelves::Summary;
+use shelves::TwoSums;
 use slot_map::SLOTS;
 use slot_map::is_occupied;
 
@@ -55,9 +65,9 @@ pub fn start_as(s: &mut [u8], l: Layout) -> Outcome
 }
 
 pub fn start(s: &mut [u8]) -> Outcome
-    ensures { λ r. ⌜ Starts versionOne (now (s .entry)) r (now (s .exit)) ⌝ }
+    ensures { λ r. ⌜ Starts versionTwo (now (s .entry)) r (now (s .exit)) ⌝ }
 {
-    start_as(s, version_one())
+    start_as(s, version_two())
 }
 
 // ---- the two numbers read off the map
@@ -80,33 +90,63 @@ pub fn slots_of(s: &[u8], l: Layout) -> Slots
 }
 
 pub fn slots(s: &[u8]) -> Slots
-    ensures { λ r. ⌜ Counts versionOne (now (s .entry)) r ⌝ }
+    ensures { λ r. ⌜ Counts versionTwo (now (s .entry)) r ⌝ }
 {
-    slots_of(s, version_one())
+    slots_of(s, version_two())
+}
+
+// ---- the two sums
+
+pub fn sums(s: &[u8]) -> TwoSums
+    ensures { λ r. ⌜ Sums versionTwo (now (s .entry)) r ⌝ }
+{
+    if !is_sound(s, version_two()) {
+        return TwoSums::Refused(Refusal {
+            fault: Fault::UnsoundShelf,
+            place: 0,
+        });
+    }
+    let u = head_of(s);
+    TwoSums::Numbers {
+        held: u.held,
+        duplicates: u.duplicates,
+    }
 }
 
 // ---- Put
 
-pub fn put_into(s: &mut [u8], l: Layout, input: &[u8]) -> Shelved
-    requires { ⌜ l .pairs ≤ 65536 ⌝ }
-    ensures { λ r. ⌜ Puts (laid l) (now (s .entry)) (now (input .entry)) r (now (s .exit)) ⌝ }
+// The operation: it is lent the shelf and its summary, and leaves the shelf's head alone.
+fn put_lent(s: &mut [u8], u: &mut Summary, input: &[u8]) -> Placed
+    requires { ⌜ (sound versionTwo (now s) ≡ true) × Heads (now s) (now u) ⌝ }
+    ensures { λ r. ⌜ PutsLent (now (s .entry)) (now (input .entry)) r (now (s .exit)) (now (u .exit)) × PutStays r (now (u .entry)) (now (u .exit)) ⌝ }
 {
-    if !is_sound(s, l) {
+    let placed = putting::put_text(s, *u, input);
+    put_step(u, placed);
+    placed
+}
+
+// The summary that was read from the head is lent, and stored back there.
+fn put_on(s: &mut [u8], head: Summary, input: &[u8]) -> Placed
+    requires { ⌜ (sound versionTwo (now s) ≡ true) × Heads (now s) head ⌝ }
+    ensures { λ r. ⌜ Puts versionTwo (now (s .entry)) (now (input .entry)) (shelvedOf r) (now (s .exit)) ⌝ }
+{
+    let mut u = head;
+    let placed = put_lent(s, &mut u, input);
+    store_head(s, u);
+    placed
+}
+
+pub fn put(s: &mut [u8], input: &[u8]) -> Shelved
+    ensures { λ r. ⌜ Puts versionTwo (now (s .entry)) (now (input .entry)) r (now (s .exit)) ⌝ }
+{
+    if !is_sound(s, version_two()) {
         return Shelved::Refused(Refusal {
             fault: Fault::UnsoundShelf,
             place: 0,
         });
     }
-    match judge::judge(input) {
-        Judged::Refused(r) => Shelved::Refused(r),
-        Judged::Accepted(i) => putting::put_accepted(s, l, input, i),
-    }
-}
-
-pub fn put(s: &mut [u8], input: &[u8]) -> Shelved
-    ensures { λ r. ⌜ Puts versionOne (now (s .entry)) (now (input .entry)) r (now (s .exit)) ⌝ }
-{
-    put_into(s, version_one(), input)
+    let head = head_of(s);
+    shelved_of(put_on(s, head, input))
 }
 
 // ---- Get
@@ -147,15 +187,15 @@ pub fn got_from(s: &[u8], l: Layout, slot: usize) -> Span
 }
 
 pub fn got(s: &[u8], slot: usize) -> Span
-    ensures { λ r. ⌜ r ≡ gotSpan versionOne (now (s .entry)) slot ⌝ }
+    ensures { λ r. ⌜ r ≡ gotSpan versionTwo (now (s .entry)) slot ⌝ }
     ensures inside { λ r. ⌜ r .offset + r .length ≤ length (now (s .entry)) ⌝ }
 {
-    got_from(s, version_one(), slot)
+    got_from(s, version_two(), slot)
 }
 
 // That part of the shelf.
 pub fn get<'a>(s: &'a [u8], slot: usize) -> &'a [u8]
-    ensures { λ r. ⌜ Gets versionOne (s .entry) slot r ⌝ }
+    ensures { λ r. ⌜ Gets versionTwo (s .entry) slot r ⌝ }
 {
     let part = got(s, slot);
     let offset = part.offset;
@@ -175,29 +215,43 @@ pub fn measure_in(s: &[u8], l: Layout, slot: usize) -> Stored
 }
 
 pub fn measure(s: &[u8], slot: usize) -> Stored
-    ensures { λ r. ⌜ Measures versionOne (now (s .entry)) slot r ⌝ }
+    ensures { λ r. ⌜ Measures versionTwo (now (s .entry)) slot r ⌝ }
 {
-    measure_in(s, version_one(), slot)
+    measure_in(s, version_two(), slot)
 }
 
 // ---- Remove
 
-pub fn remove_from(s: &mut [u8], l: Layout, slot: usize) -> Stored
-    requires { ⌜ l .pairs ≤ 65536 ⌝ }
-    ensures { λ r. ⌜ Removes (laid l) (now (s .entry)) slot r (now (s .exit)) ⌝ }
+// The operation: it is lent the shelf and its summary, and leaves the shelf's head alone.
+fn remove_lent(s: &mut [u8], u: &mut Summary, slot: usize) -> Stored
+    requires { ⌜ (sound versionTwo (now s) ≡ true) × Heads (now s) (now u) ⌝ }
+    ensures { λ r. ⌜ RemovesLent (now (s .entry)) slot r (now (s .exit)) (now (u .exit)) × (now (u .exit) .duplicates ≡ now (u .entry) .duplicates) ⌝ }
 {
-    match slot_refusal(s, l, slot) {
-        Outcome::Passed => {
-            let length = length_of(s, l, slot);
-            removing::take_out(s, l, slot);
-            Stored::Length(length)
-        }
-        Outcome::Failed(r) => Stored::Refused(r),
-    }
+    let taken = removing::take_text(s, *u, slot);
+    remove_step(u, slot, taken);
+    taken
+}
+
+// The summary that was read from the head is lent, and stored back there.
+fn remove_on(s: &mut [u8], head: Summary, slot: usize) -> Stored
+    requires { ⌜ (sound versionTwo (now s) ≡ true) × Heads (now s) head ⌝ }
+    ensures { λ r. ⌜ Removes versionTwo (now (s .entry)) slot r (now (s .exit)) ⌝ }
+{
+    let mut u = head;
+    let taken = remove_lent(s, &mut u, slot);
+    store_head(s, u);
+    taken
 }
 
 pub fn remove(s: &mut [u8], slot: usize) -> Stored
-    ensures { λ r. ⌜ Removes versionOne (now (s .entry)) slot r (now (s .exit)) ⌝ }
+    ensures { λ r. ⌜ Removes versionTwo (now (s .entry)) slot r (now (s .exit)) ⌝ }
 {
-    remove_from(s, version_one(), slot)
+    if !is_sound(s, version_two()) {
+        return Stored::Refused(Refusal {
+            fault: Fault::UnsoundShelf,
+            place: 0,
+        });
+    }
+    let head = head_of(s);
+    remove_on(s, head, slot)
 }

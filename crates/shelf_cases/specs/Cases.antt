@@ -1,4 +1,5 @@
--- Shelves written out byte by byte: sound ones, damaged ones, and what the operations do to them. Assumes nothing.
+-- Shelves of version 1 written out byte by byte: sound ones, damaged ones, and what the operations do to them; and what is asked of a shelf
+-- of any version. Assumes nothing.
 use Prim.Native.Nat.{ℕ}
 use Prim.Native.String.{String}
 use mathlib.Core.Bool.{Bool, not, _&&_}
@@ -7,36 +8,40 @@ use lib.ListN.{length, take, drop, replicate}
 use lib.Dec.{eqb, leb}
 use Rattle.lists.specs.Lists.{text, same, begins, all, those}
 use Rattle.answers.specs.Answers.{Answer}
-use Rattle.shelves.specs.Layout.{versionOne, occupied, free, heading, textOf, endOf}
-use Rattle.shelves.specs.Soundness.{isNormalForm, eachTwo, isSized, lies, apart, differ, isBlankPair, sound}
+use Rattle.shelves.specs.Layout.{Layout, versionOne, occupied, free, heading, textOf, endOf}
+use Rattle.shelves.specs.Soundness.{isNormalForm, eachTwo, isSized, lies, apart, differ, isBlankPair, isSummed, sound}
 use Rattle.shelves.specs.Operations.{start, startShelf, slotsOf, put, putShelf, gotOffset, gotLength, lengthAnswer, remove, removeShelf}
 use Rattle.starred_cases.specs.Cases.{bgm, unz, with, x, says}
 
 -- ---- shelves
 
 -- the normal form of X (93 bytes), and a shorter one (52 bytes)
-abbrev long : List ℕ
+abbrev pub long : List ℕ
 long = text "UNA:+.? '" ++ x
 
-abbrev short : List ℕ
+abbrev pub short : List ℕ
 short = text "UNA:+.? 'UNB+UNOA:1+A+B+1+R'UNH+1+M'UNT+2+1'UNZ+1+R'"
 
 -- the eight bytes of a map of the slots 0 to 7, and the pairs of the first three slots
 abbrev mapped : ℕ → List ℕ
 mapped slots = replicate 7 0 ++ slots ∷ []
 
-abbrev pair : (high low size : ℕ) → List ℕ
+abbrev pub pair : (high low size : ℕ) → List ℕ
 pair high low size = 0 ∷ 0 ∷ high ∷ low ∷ 0 ∷ 0 ∷ 0 ∷ size ∷ []
 
-abbrev none : List ℕ
+abbrev pub none : List ℕ
 none = replicate 8 0
 
-abbrev shelfOf : (first : String) (version slots : ℕ) (a b c texts : List ℕ) (free : ℕ) → List ℕ
-shelfOf first version slots a b c texts free =
-    text first ++ 0 ∷ version ∷ mapped slots ++ a ++ b ++ c ++ replicate 488 0 ++ texts ++ replicate free 0
+-- the bytes of the two sums stand behind the map, where the version has them
+abbrev pub summed : (first : String) (version slots : ℕ) (sums a b c texts : List ℕ) (free : ℕ) → List ℕ
+summed first version slots sums a b c texts free =
+    text first ++ 0 ∷ version ∷ mapped slots ++ sums ++ a ++ b ++ c ++ replicate 488 0 ++ texts ++ replicate free 0
+
+abbrev pub shelfOf : (first : String) (version slots : ℕ) (a b c texts : List ℕ) (free : ℕ) → List ℕ
+shelfOf first version slots a b c texts free = summed first version slots [] a b c texts free
 
 -- the first text begins at 525 (2 * 256 + 13), the one behind the short one at 577, the one behind the long one at 618
-abbrev one : List ℕ
+abbrev pub one : List ℕ
 one = shelfOf "EDS" 1 1 (pair 2 13 93) none none long 60
 
 -- the short text is in slot 0 and the long one in slot 2; the long one lies first
@@ -102,7 +107,7 @@ pub record Row : Type 0 where
   pub shelf : List ℕ
   pub expected : List ℕ
 
-abbrev row : Answer → ℕ → List ℕ → List ℕ → List ℕ → Row
+abbrev pub row : Answer → ℕ → List ℕ → List ℕ → List ℕ → Row
 row answer number values shelf expected =
     record { answer = answer; number = number; values = values; shelf = shelf; expected = expected }
 
@@ -158,25 +163,27 @@ rows =
 unfoldable pub right : Row → Bool
 right r = says (r .answer) 0 (r .number) (r .values) && same (r .shelf) (r .expected)
 
-unfoldable pub isSound : List ℕ → Bool
-isSound s = sound versionOne s
+module _ (l : Layout) where
+  unfoldable pub isSound : List ℕ → Bool
+  isSound s = sound l s
 
-unfoldable pub isUnsound : List ℕ → Bool
-isUnsound s = not (sound versionOne s)
+  unfoldable pub isUnsound : List ℕ → Bool
+  isUnsound s = not (sound l s)
 
--- what soundness asks, in the order of its definition
-unfoldable pub asked : List ℕ → List Bool
-asked s =
-    isSized versionOne s
-    ∷ begins (heading versionOne) s
-    ∷ leb (endOf versionOne s) (length s)
-    ∷ all (lies versionOne s) (occupied s)
-    ∷ eachTwo (apart versionOne s) (occupied s)
-    ∷ all (λ k. isNormalForm (textOf versionOne s k)) (occupied s)
-    ∷ eachTwo (differ versionOne s) (occupied s)
-    ∷ all (isBlankPair versionOne s) (free s)
-    ∷ all (eqb 0) (drop (endOf versionOne s) s)
-    ∷ []
+  -- what soundness asks, in the order of its definition
+  unfoldable pub asked : List ℕ → List Bool
+  asked s =
+      isSized l s
+      ∷ begins (heading l) s
+      ∷ leb (endOf l s) (length s)
+      ∷ all (lies l s) (occupied s)
+      ∷ eachTwo (apart l s) (occupied s)
+      ∷ all (λ k. isNormalForm (textOf l s k)) (occupied s)
+      ∷ eachTwo (differ l s) (occupied s)
+      ∷ all (isBlankPair l s) (free s)
+      ∷ all (eqb 0) (drop (endOf l s) s)
+      ∷ isSummed l s
+      ∷ []
 
-unfoldable pub failsOne : List ℕ → Bool
-failsOne s = eqb (length (those not (asked s))) 1
+  unfoldable pub failsOne : List ℕ → Bool
+  failsOne s = eqb (length (those not (asked s))) 1

@@ -12,7 +12,9 @@ use Rattle.shelves.specs.declared.Shelved.{Shelved}
 use Rattle.shelves.specs.declared.Shelved.the-variants as shelved
 use Rattle.shelves.specs.declared.Slots.{Slots}
 use Rattle.shelves.specs.declared.Slots.the-variants as slots
-use Rattle.shelves.specs.Answers.{newAt, copyAt, toldShelved, toldSlots, toldOutcome}
+use Rattle.shelves.specs.declared.TwoSums.{TwoSums}
+use Rattle.shelves.specs.declared.TwoSums.the-variants as sums
+use Rattle.shelves.specs.Answers.{newAt, copyAt, toldShelved, toldSlots, toldSums, toldOutcome}
 
 -- the value of an answer at a number
 abbrev value : ℕ → Answer → ℕ
@@ -43,3 +45,10 @@ slots-tells (slots.Numbers n m) (slots.Numbers k j) e = ap₂ slots.Numbers (ap 
 slots-tells (slots.Numbers n m) (slots.Refused r) e = absurd (given-refused (n ∷ m ∷ []) r e)
 slots-tells (slots.Refused r) (slots.Numbers k j) e = absurd (given-refused (k ∷ j ∷ []) r (sym e))
 slots-tells (slots.Refused r) (slots.Refused q) e = ap slots.Refused (refused-tells r q e)
+
+pub sums-tells : (a b : TwoSums) → toldSums a ≡ toldSums b → a ≡ b
+unfolding toldSums given
+sums-tells (sums.Numbers n m) (sums.Numbers k j) e = ap₂ sums.Numbers (ap (value 0) e) (ap (value 1) e)
+sums-tells (sums.Numbers n m) (sums.Refused r) e = absurd (given-refused (n ∷ m ∷ []) r e)
+sums-tells (sums.Refused r) (sums.Numbers k j) e = absurd (given-refused (k ∷ j ∷ []) r (sym e))
+sums-tells (sums.Refused r) (sums.Refused q) e = ap sums.Refused (refused-tells r q e)

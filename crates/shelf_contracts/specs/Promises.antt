@@ -1,4 +1,4 @@
--- Request 2026-04: what each operation on a shelf promises of its answer and of the shelf's bytes at exit, for any input, refused or not.
+-- Requests 2026-04 and 2026-06: what each operation on a shelf promises of its answer and of the shelf's bytes at exit, for any input, refused or not.
 -- Its contract is this, of what was there at entry and what is there at exit. The layout is a parameter. Assumes nothing.
 use Prim.Native.Nat.{ℕ}
 use mathlib.Core.Path.{_≡_}
@@ -10,9 +10,10 @@ use Rattle.answers.specs.Answers.{toldStored}
 use Rattle.contracts.specs.Promises.{IsPart}
 use Rattle.shelves.specs.declared.Shelved.{Shelved}
 use Rattle.shelves.specs.declared.Slots.{Slots}
+use Rattle.shelves.specs.declared.TwoSums.{TwoSums}
 use Rattle.shelves.specs.Layout.{Layout}
-use Rattle.shelves.specs.Answers.{toldShelved, toldSlots, toldOutcome}
-use Rattle.shelves.specs.Operations.{start, startShelf, slotsOf, put, putShelf, gotOffset, gotLength, lengthAnswer, remove, removeShelf}
+use Rattle.shelves.specs.Answers.{toldShelved, toldSlots, toldSums, toldOutcome}
+use Rattle.shelves.specs.Operations.{start, startShelf, slotsOf, sumsOf, put, putShelf, gotOffset, gotLength, lengthAnswer, remove, removeShelf}
 
 module _ (l : Layout) where
   abbrev pub Starts : (buffer : List ℕ) → Outcome → (after : List ℕ) → Type 0
@@ -35,3 +36,7 @@ module _ (l : Layout) where
   -- the two numbers that are read off the map
   abbrev pub Counts : (s : List ℕ) → Slots → Type 0
   Counts s r = toldSlots r ≡ slotsOf l s
+
+  -- the text bytes held and the duplicates found
+  abbrev pub Sums : (s : List ℕ) → TwoSums → Type 0
+  Sums s r = toldSums r ≡ sumsOf l s

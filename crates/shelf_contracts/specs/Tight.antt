@@ -9,8 +9,9 @@ use Rattle.answers.specs.declared.Stored.{Stored}
 use Rattle.contracts.specs.Tight.{SameSlice}
 use Rattle.shelves.specs.declared.Shelved.{Shelved}
 use Rattle.shelves.specs.declared.Slots.{Slots}
+use Rattle.shelves.specs.declared.TwoSums.{TwoSums}
 use Rattle.shelves.specs.Layout.{Layout}
-use Rattle.shelf_contracts.specs.Promises.{Starts, Puts, Gets, Measures, Removes, Counts}
+use Rattle.shelf_contracts.specs.Promises.{Starts, Puts, Gets, Measures, Removes, Counts, Sums}
 
 pub record Tight (l : Layout) : Type 0 where
   pub start : (buffer : List ℕ) (r q : Outcome) (x y : List ℕ) → Starts l buffer r x → Starts l buffer q y → (r ≡ q) × (x ≡ y)
@@ -19,3 +20,4 @@ pub record Tight (l : Layout) : Type 0 where
   pub measure : (s : List ℕ) (slot : ℕ) (r q : Stored) → Measures l s slot r → Measures l s slot q → r ≡ q
   pub remove : (s : List ℕ) (slot : ℕ) (r q : Stored) (x y : List ℕ) → Removes l s slot r x → Removes l s slot q y → (r ≡ q) × (x ≡ y)
   pub count : (s : List ℕ) (r q : Slots) → Counts l s r → Counts l s q → r ≡ q
+  pub sums : (s : List ℕ) (r q : TwoSums) → Sums l s r → Sums l s q → r ≡ q

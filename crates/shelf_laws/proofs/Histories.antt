@@ -19,6 +19,7 @@ use Rattle.shelves.specs.Layout.{Layout, lengthOf, held, endOf}
 use Rattle.shelves.specs.Answers.{newAt, copyAt}
 use Rattle.shelves.specs.Operations.{lowestFree, put, putShelf, remove, removeShelf}
 use Rattle.shelves.proofs.Sound.{Sound}
+use Rattle.shelves.proofs.Copied.{held-as}
 use Rattle.shelf_laws.specs.Histories.{Operation, puts, gets, removes, isGiven, isNew, after, newlyPut, taken, afterAll, allPut, allRemoved}
 use Rattle.shelf_laws.proofs.PutCases as put
 use Rattle.shelf_laws.proofs.PutLaws as put-laws
@@ -27,7 +28,7 @@ use Rattle.shelf_laws.proofs.RemoveLaws as remove-laws
 
 -- what an answer tells
 
-refused-not-given : (r : Refusal) → isGiven (refused r) ≡ false
+pub refused-not-given : (r : Refusal) → isGiven (refused r) ≡ false
 unfolding isGiven refused
 refused-not-given r = ne-eqb (number (r .fault)) 0 (number-not-zero (r .fault))
 
@@ -52,18 +53,18 @@ module _ (l : Layout) (head : 13 ≤ l .pairs) (s : List ℕ) where
     put-adds : held l (putShelf l s input) ≡ held l s + counted (put l s input)
     unfolding endOf
     put-adds =
-        ⊎-elim (λ (c : put.Refusing l s input). nothing-new (c .stays) (ap isNew (c .answer) ∙ refused-not-new (c .refusal)))
-        (⊎-elim (λ (c : put.Copying l s input). nothing-new (c .stays) (ap isNew (c .answer) ∙ copy-not-new (c .slot)))
+        ⊎-elim (λ (c : put.Refusing l s input). nothing-new (ap (held l) (c .stays)) (ap isNew (c .answer) ∙ refused-not-new (c .refusal)))
+        (⊎-elim (λ (c : put.Copying l s input). nothing-new (held-as l head s (putShelf l s input) (c .copies)) (ap isNew (c .answer) ∙ copy-not-new (c .slot)))
         (λ (c : put.Storing l s input).
         let e = ap isNew (c .answer) ∙ new-is-new (lowestFree l s) in
         let n : counted (put l s input) ≡ length (normalForm input) = ap (λ (b : Bool). if b then length (normalForm input) else 0) e in
         omega (arith, c .adds .end)))
         (put.put-cases l s input head)
       where
-        nothing-new : putShelf l s input ≡ s → isNew (put l s input) ≡ false → held l (putShelf l s input) ≡ held l s + counted (put l s input)
+        nothing-new : held l (putShelf l s input) ≡ held l s → isNew (put l s input) ≡ false → held l (putShelf l s input) ≡ held l s + counted (put l s input)
         nothing-new stays e =
             let n : counted (put l s input) ≡ 0 = ap (λ (b : Bool). if b then length (normalForm input) else 0) e in
-            omega (arith, ap (held l) stays)
+            omega arith
 
   module _ (slot : ℕ) where
     abbrev told : Answer → ℕ
@@ -84,7 +85,7 @@ module _ (l : Layout) (head : 13 ≤ l .pairs) (s : List ℕ) where
         (remove.remove-cases l s slot head)
 
   -- one operation: a sound shelf stays sound, and the lengths add up
-  step : (o : Operation) → Sound l s → Sound l (after l s o) × (held l s + newlyPut l s o ≡ held l (after l s o) + taken l s o)
+  pub step : (o : Operation) → Sound l s → Sound l (after l s o) × (held l s + newlyPut l s o ≡ held l (after l s o) + taken l s o)
   unfolding after newlyPut taken
   step (puts input) was = (put-laws.keeps-sound l head s input was, omega (arith, put-adds input))
   step (gets slot) was = (was, omega arith)

@@ -12,7 +12,7 @@ use borrow.Author.Tests.{eqb-true, eq-eqb, leb-true, leb-false}
 use Rattle.lists.specs.Lists.{all}
 use Rattle.lists.proofs.Texts.{and-left, and-right, and-both, decided}
 use Rattle.lists.proofs.Tests.{says-begins, says-eq, decides}
-use Rattle.shelves.specs.Layout.{Layout, Occupied, base, heading, startOf, lengthOf, textOf, held, endOf}
+use Rattle.shelves.specs.Layout.{Layout, heldFigure, Occupied, base, heading, startOf, lengthOf, textOf, held, endOf}
 use Rattle.shelves.specs.Soundness.{isNormalForm, sound}
 use Rattle.shelves.proofs.Sound.{says-normal, Apart, Sound, says-sound}
 use Rattle.own_form_laws.proofs.OwnForm.{normal-nine}
@@ -58,7 +58,7 @@ module _ (l : Layout) (s : List ℕ) where
     )
 
     in-words : SoundInWords l s
-    unfolding endOf
+    unfolding endOf held heldFigure
     in-words = record {
       size = (was .least, was .most);
       headed = says-begins (heading l) s .0 (was .headed);
@@ -78,6 +78,7 @@ module _ (l : Layout) (s : List ℕ) where
           ap (λ (n : ℕ). getD s n 0) (sym e)
           ∙ sym (getD-drop (base l + held l s) s i 0)
           ∙ zeros-at (drop (base l + held l s) s) (was .zero) i (omega (arith, length-drop (base l + held l s) s));
+      sums = was .summed;
     }
 
   -- ---- from the words to the clauses
@@ -137,6 +138,7 @@ module _ (l : Layout) (s : List ℕ) where
             w .disjoint place j k p q (omega arith, omega arith) (omega arith, omega arith)
 
     by-clauses : Sound l s
+    unfolding held heldFigure
     by-clauses = record {
       least = w .size .0;
       most = w .size .1;
@@ -152,6 +154,7 @@ module _ (l : Layout) (s : List ℕ) where
           (λ i h.
           getD-drop (endOf l s) s i 0
           ∙ w .freeBytes (endOf l s + i) (omega (arith, end-is)) (omega (arith, length-drop (endOf l s) s)));
+      summed = w .sums;
     }
 
 -- The test passes exactly where the words hold.

@@ -4,10 +4,10 @@ pub mod PutCases
 pub mod RemoveCases
 pub mod Order
 pub mod Slots
-pub mod Between
 pub mod PutLaws
 pub mod RemoveLaws
 pub mod Histories
+pub mod Figures
 pub mod Counting
 pub mod Filled
 pub mod InWords

@@ -19,12 +19,12 @@ use Rattle.stages.specs.Stages.{placesOf, refusalOf}
 use Rattle.answers.specs.Answers.{Answer, refused}
 use Rattle.contracts.proofs.Told.{given-refused, refused-tells}
 use Rattle.acceptance_laws.proofs.Stages.{refused-exactly}
-use Rattle.shelves.specs.Layout.{Layout, slotCount, isOccupied, Occupied, Free, occupied, free, lengthOf, endOf}
+use Rattle.shelves.specs.Layout.{Layout, slotCount, isOccupied, Occupied, Free, duplicatesOf, occupied, free, lengthOf, held, endOf}
 use Rattle.shelves.specs.Soundness.{isSized, sound}
 use Rattle.shelves.specs.Answers.{newAt}
-use Rattle.shelves.specs.Operations.{start, lowestFree, slotsOf, copyOf, put, slotRefusal, lengthAnswer, remove}
+use Rattle.shelves.specs.Operations.{start, lowestFree, slotsOf, sumsOf, copyOf, put, slotRefusal, lengthAnswer, remove}
 use Rattle.shelves.proofs.Sound.{says-sized}
-use Rattle.shelves.proofs.Answered.{nineteen, start-refused, start-done, slots-refused, slots-given, put-refused, put-unsound, put-judged, put-copy, put-full, put-roomless, put-new, slot-unsound, slot-free, slot-there, slot-refused, slot-given}
+use Rattle.shelves.proofs.Answered.{nineteen, start-refused, start-done, slots-refused, slots-given, sums-refused, sums-given, put-refused, put-unsound, put-judged, put-copy, put-full, put-roomless, put-new, slot-unsound, slot-free, slot-there, slot-refused, slot-given}
 use Rattle.shelves.proofs.Found.{copy-holds, lowest-free, some-free, lowest-least}
 use Rattle.shelf_laws.specs.Shelf.{Sound, refusedAt, New}
 use Rattle.shelf_laws.proofs.PutCases.{new-not-refused, copy-not-refused}
@@ -159,7 +159,13 @@ module _ (l : Layout) (s : List ℕ) where
     unfolding remove
     remove-nineteen = length-nineteen
 
-  -- ---- the two numbers
+  -- ---- the two sums, and the two numbers
+
+  pub sums-nineteen : (sumsOf l s ≡ refused nineteen) ↔ (Sound l s → ⊥)
+  sums-nineteen = (
+    λ e sane. given-refused (held l s ∷ duplicatesOf s ∷ []) nineteen (sym (sums-given l s sane) ∙ e),
+    λ u. sums-refused l s (unsound-is u),
+  )
 
   pub slots-nineteen : (slotsOf l s ≡ refused nineteen) ↔ (Sound l s → ⊥)
   slots-nineteen = (

@@ -23,6 +23,7 @@ use Rattle.shelves.specs.Operations.{lowestFree, copyOf, putRefusal, put, putSh
 use Rattle.shelves.proofs.Sound.{Sound, says-sound}
 use Rattle.shelves.proofs.Answered.{put-refused, put-unsound, put-judged, put-copy, put-full, put-roomless, put-new}
 use Rattle.shelves.proofs.Added.{Added, with-text}
+use Rattle.shelves.proofs.Copied.{Copied, with-copy}
 use Rattle.shelves.proofs.Found.{copy-holds, copy-none, LowestFree, lowest-free}
 
 module _ (l : Layout) (s input : List ℕ) where
@@ -38,7 +39,7 @@ module _ (l : Layout) (s input : List ℕ) where
     pub there : Occupied s slot
     pub holds : textOf l s slot ≡ normalForm input
     pub answer : put l s input ≡ copyAt slot
-    pub stays : putShelf l s input ≡ s
+    pub copies : Copied l s (putShelf l s input)
 
   pub record Storing : Type 0 where
     pub was : Sound l s
@@ -102,7 +103,7 @@ module _ (l : Layout) (s input : List ℕ) where
               there = f .0;
               holds = f .1;
               answer = d .0;
-              stays = d .1;
+              copies = subst (Copied l s) (sym (d .1)) (with-copy l s);
             }))
 
     for-sound : sound l s ≡ true → Cases

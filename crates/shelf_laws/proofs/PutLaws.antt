@@ -11,9 +11,10 @@ use Rattle.stages.specs.Stages.{refusalOf}
 use Rattle.answers.specs.Answers.{given, refused}
 use Rattle.shelves.specs.Layout.{Layout, Occupied, occupied, textOf}
 use Rattle.shelves.specs.Answers.{newAt, copyAt}
-use Rattle.shelves.specs.Operations.{lowestFree, slotsOf, put, putShelf}
+use Rattle.shelves.specs.Operations.{lowestFree, slotsOf, put, withCopy, putShelf}
 use Rattle.shelves.proofs.Sound.{Sound, says-sound}
 use Rattle.shelves.proofs.Answered as answered
+use Rattle.shelves.proofs.Copied.{copied-sound, occupied-as, length-as, text-as}
 use Rattle.own_form_laws.proofs.OwnForm.{form-normal}
 use Rattle.shelf_laws.specs.Shelf.{got, Keeps}
 use Rattle.shelves.proofs.Found.{copy-is}
@@ -22,9 +23,9 @@ use Rattle.shelf_laws.proofs.PutCases.{Refusing, Copying, Storing, put-
 use Rattle.shelf_laws.proofs.RemoveCases.{got-text}
 use Rattle.shelf_laws.proofs.Slots.{SaysAlike, alike, one-more}
 
--- a text that is there, under any spelling, is found in its slot, and the shelf does not change
+-- a text that is there, under any spelling, is found in its slot, and only the duplicates figure changes
 pub there : (l : Layout) (s other : List ℕ) (k : ℕ) → Sound l s → Occupied s k → refusalOf other ≡ none → normalForm other ≡ textOf l s k
-    → (put l s other ≡ copyAt k) × (putShelf l s other ≡ s)
+    → (put l s other ≡ copyAt k) × (putShelf l s other ≡ withCopy l s)
 there l s other k was o accepted e =
     answered.put-copy l s other (says-sound l s .1 was) accepted (copy-is l s (normalForm other) was k o (sym e))
 
@@ -36,7 +37,7 @@ module _ (l : Layout) (head : 13 ≤ l .pairs) (s input : List ℕ) where
   pub refused-stays : (r : Refusal) → put l s input ≡ refused r → after ≡ s
   refused-stays r e =
       ⊎-elim (λ (c : Refusing l s input). c .stays)
-      (⊎-elim (λ (c : Copying l s input). c .stays)
+      (⊎-elim (λ (c : Copying l s input). absurd (copy-not-refused (c .slot) r (sym (c .answer) ∙ e)))
       (λ (c : Storing l s input). absurd (new-not-refused (lowestFree l s) r (sym (c .answer) ∙ e))))
       (put-cases l s input head)
 
@@ -49,18 +50,22 @@ module _ (l : Layout) (head : 13 ≤ l .pairs) (s input : List ℕ) where
   pub keeps-sound : Sound l s → Sound l after
   keeps-sound was =
       ⊎-elim (λ (c : Refusing l s input). subst (Sound l) (sym (c .stays)) was)
-      (⊎-elim (λ (c : Copying l s input). subst (Sound l) (sym (c .stays)) was) stored-sound)
+      (⊎-elim (λ (c : Copying l s input). copied-sound l head s after (c .copies) was) stored-sound)
       (put-cases l s input head)
 
   -- every slot but that of a new text says what it said
   pub others-stay : (k : ℕ) → Sound l s → (put l s input ≡ newAt k → ⊥) → SaysAlike l s after k
   others-stay k was other =
-      ⊎-elim (λ (c : Refusing l s input). as-it-was (c .stays))
-      (⊎-elim (λ (c : Copying l s input). as-it-was (c .stays)) stored)
+      ⊎-elim (λ (c : Refusing l s input). subst (λ (t : List ℕ). SaysAlike l s t k) (sym (c .stays)) (refl, refl))
+      (⊎-elim copied stored)
       (put-cases l s input head)
     where
-      as-it-was : after ≡ s → SaysAlike l s after k
-      as-it-was e = subst (λ (t : List ℕ). SaysAlike l s t k) (sym e) (refl, refl)
+      copied : Copying l s input → SaysAlike l s after k
+      copied c =
+          alike l head k s after (says-sound l s .1 was) (says-sound l after .1 (copied-sound l head s after (c .copies) was))
+          (λ h. occupied-as l head s after (c .copies) k)
+          (λ h. length-as l head s after (c .copies) k)
+          (λ o. text-as l head s after (c .copies) was k o)
 
       stored : Storing l s input → SaysAlike l s after k
       stored c =
@@ -80,11 +85,10 @@ module _ (l : Layout) (head : 13 ≤ l .pairs) (s input : List ℕ) where
 
   of-copy : (c : Copying l s input) → Kept (c .slot)
   of-copy c =
-      let e = sym (c .stays) in
       record {
-        is = subst (Sound l) e (c .was);
-        there = subst (λ (t : List ℕ). Occupied t (c .slot)) e (c .there);
-        holds = ap (λ (t : List ℕ). textOf l t (c .slot)) (c .stays) ∙ c .holds;
+        is = copied-sound l head s after (c .copies) (c .was);
+        there = (c .there .0, occupied-as l head s after (c .copies) (c .slot) ∙ c .there .1);
+        holds = text-as l head s after (c .copies) (c .was) (c .slot) (c .there) ∙ c .holds;
       }
 
   of-new : (c : Storing l s input) → Kept (lowestFree l s)
@@ -98,7 +102,7 @@ module _ (l : Layout) (head : 13 ≤ l .pairs) (s input : List ℕ) where
       (λ (c : Storing l s input). (c, new-slot (lowestFree l s) slot (sym (c .answer) ∙ e))))
       (put-cases l s input head)
 
-  copy-case : (slot : ℕ) → put l s input ≡ copyAt slot → (c : Copying l s input) × (c .slot ≡ slot)
+  pub copy-case : (slot : ℕ) → put l s input ≡ copyAt slot → (c : Copying l s input) × (c .slot ≡ slot)
   copy-case slot e =
       ⊎-elim (λ (c : Refusing l s input). absurd (copy-not-refused slot (c .refusal) (sym e ∙ c .answer)))
       (⊎-elim (λ (c : Copying l s input). (c, copy-slot (c .slot) slot (sym (c .answer) ∙ e)))
@@ -118,7 +122,7 @@ module _ (l : Layout) (head : 13 ≤ l .pairs) (s input : List ℕ) where
 
   -- and is there when it is put again, under any spelling
   pub there-again : (other : List ℕ) (slot : ℕ) → Keeps l s input slot → refusalOf other ≡ none → normalForm other ≡ normalForm input
-      → (put l after other ≡ copyAt slot) × (putShelf l after other ≡ after)
+      → (put l after other ≡ copyAt slot) × (putShelf l after other ≡ withCopy l after)
   there-again other slot k accepted e =
       let c = kept-there slot k in there l after other slot (c .is) (c .there) accepted (e ∙ sym (c .holds))
 

@@ -4,13 +4,14 @@ use mathlib.Core.Path.{_≡_, sym, ap, ap₂, subst, _∙_}
 use mathlib.Core.Bool.{true, true≢false}
 use mathlib.Core.List.{List}
 use mathlib.Core.Logic.{inl, inr, ⊎-elim}
+use native.Mathlib.Nat.{mod-eq-of-lt}
 use native.Mathlib.Omega.{arith}
 use lib.Dec.{eqb}
 use lib.ListN.{length, take, drop}
 use lib.Seq.{drop-drop}
 use Rattle.lists.specs.Lists.{all}
 use Rattle.lists.proofs.Tests.{says-eq, decides}
-use Rattle.shelves.specs.Layout.{Layout, isOccupied, Occupied, Free, base, heading, startOf, lengthOf, textOf, endOf}
+use Rattle.shelves.specs.Layout.{Layout, heldFigure, isOccupied, Occupied, Free, base, heading, startOf, lengthOf, textOf, held, endOf}
 use Rattle.shelves.specs.Soundness.{isNormalForm}
 use Rattle.shelves.proofs.Sound.{Apart, Sound}
 use Rattle.shelves.proofs.Zeros.{all-drop}
@@ -106,6 +107,14 @@ module _ (l : Layout) (s form : List ℕ) (slot : ℕ) (after : List ℕ) (free 
       ∙ ap (all (eqb 0)) (a .rest ∙ sym (drop-drop (length form) (endOf l s) s))
       ∙ all-drop (eqb 0) (length form) (drop (endOf l s) s) (was .zero)
 
+  -- the text bytes held: the figure and the sum rise alike
+  sums-after : 21 ≤ l .pairs → heldFigure after ≡ held l after
+  unfolding endOf
+  sums-after sums =
+      a .held sums
+      ∙ mod-eq-of-lt (omega (arith, was .summed sums, was .most))
+      ∙ omega (arith, was .summed sums, a .end)
+
   pub put-keeps : Sound l after
   put-keeps = record {
     least = omega (arith, a .long, was .least);
@@ -121,4 +130,5 @@ module _ (l : Layout) (s form : List ℕ) (slot : ℕ) (after : List ℕ) (free 
     different = different-after;
     blank = blank-after;
     zero = zero-after;
+    summed = sums-after;
   }

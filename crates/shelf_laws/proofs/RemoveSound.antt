@@ -4,13 +4,14 @@ use mathlib.Core.Path.{_≡_, sym, ap, ap₂, subst, _∙_}
 use mathlib.Core.Bool.{true≢false}
 use mathlib.Core.List.{List}
 use mathlib.Core.Logic.{_⊎_, inl, inr, ⊎-elim}
+use native.Mathlib.Nat.{mod-eq-of-lt}
 use native.Mathlib.Omega.{arith}
 use lib.Dec.{eqb}
 use lib.ListN.{length, take, drop, length-drop}
 use lib.Seq.{length-take-le}
 use Rattle.lists.specs.Lists.{begins}
 use Rattle.lists.proofs.Tests.{says-eq, decides}
-use Rattle.shelves.specs.Layout.{Layout, isOccupied, Occupied, Free, base, heading, startOf, lengthOf, textOf, endOf}
+use Rattle.shelves.specs.Layout.{Layout, heldFigure, isOccupied, Occupied, Free, base, heading, startOf, lengthOf, textOf, held, endOf}
 use Rattle.shelves.specs.Soundness.{isNormalForm}
 use Rattle.shelves.proofs.Sound.{Apart, Sound}
 use Rattle.own_form_laws.proofs.OwnForm.{normal-nine}
@@ -115,6 +116,14 @@ module _ (l : Layout) (s : List ℕ) (slot : ℕ) (after : List ℕ) (was : Soun
       (r .startEarlier k (f .0) d (omega (arith, b .0)) ∙ b .0, r .lengthOther k (f .0) d ∙ b .1))
       (decides (eqb k slot) (says-eq k slot))
 
+  -- the text bytes held: the figure and the sum fall alike
+  sums-after : 21 ≤ l .pairs → heldFigure after ≡ held l after
+  unfolding endOf
+  sums-after sums =
+      r .held sums
+      ∙ mod-eq-of-lt (omega (arith, was .summed sums, was .room, was .most))
+      ∙ omega (arith, was .summed sums, r .end)
+
   pub remove-keeps : Sound l after
   remove-keeps = record {
     least = omega (arith, r .long, was .least);
@@ -133,4 +142,5 @@ module _ (l : Layout) (s : List ℕ) (slot : ℕ) (after : List ℕ) (was : Soun
         (sym (text-kept j (occupied-before j p) (other j p)) ∙ e ∙ text-kept k (occupied-before k q) (other k q));
     blank = blank-after;
     zero = r .zero;
+    summed = sums-after;
   }

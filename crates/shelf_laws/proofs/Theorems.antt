@@ -1,33 +1,36 @@
 -- The laws of the shelf, for every layout whose pairs stand behind the map. Assumes nothing.
-use Prim.Native.Nat.{ℕ, _+_, _≤_, _<_}
+use Prim.Native.Nat.{ℕ, _+_, _≤_, _<_, min}
 use mathlib.Core.Path.{_≡_, sym, ap, subst, _∙_}
 use mathlib.Core.Bool.{true, false}
 use mathlib.Core.List.{List, []}
 use mathlib.Core.Logic.{⊎-elim}
 use native.Mathlib.Omega.{arith}
-use lib.ListN.{length}
+use lib.ListN.{length, getD}
 use Rattle.lists.proofs.Texts.{decided}
+use Rattle.lists.proofs.Tests.{says-begins}
+use Rattle.numbers.specs.Numbers.{inBytes}
 use Rattle.refusals.specs.declared.Refusal.{Refusal}
 use Rattle.stages.specs.Contents.{normalForm}
 use Rattle.answers.specs.Answers.{refused}
 use Rattle.contracts.proofs.Told.{given-refused}
-use Rattle.shelves.specs.Layout.{Layout, versionOne, isOccupied, Free, occupied, startOf, held, endOf}
+use Rattle.shelves.specs.Layout.{Layout, versionOne, versionTwo, duplicatesOf, isOccupied, Free, occupied, heading, startOf, held, endOf}
 use Rattle.shelves.specs.Soundness.{isSized}
 use Rattle.shelves.specs.Answers.{newAt}
 use Rattle.shelves.specs.Operations.{start, emptyShelf, startShelf, put, putShelf}
 use Rattle.shelves.proofs.Sound.{says-sized, says-sound}
 use Rattle.shelves.proofs.Sound as clauses
-use Rattle.shelves.proofs.Answered.{start-refused, start-done}
-use Rattle.shelf_laws.specs.Histories.{Operation, afterAll, allPut, allRemoved}
+use Rattle.shelves.proofs.Answered.{start-refused, start-done, sums-given}
+use Rattle.shelves.proofs.Copied.{copy-stays}
+use Rattle.shelf_laws.specs.Histories.{Operation, afterAll, allPut, allRemoved, allCopied}
 use Rattle.shelf_laws.specs.Shelf.{Sound, Shelf}
 use Rattle.shelves.proofs.Held.{held-nothing}
-use Rattle.shelves.proofs.Empty.{started-sound, started-occupied}
+use Rattle.shelves.proofs.Empty.{started-sound, started-occupied, started-duplicates}
 use Rattle.shelf_laws.proofs.InWords.{sound-exactly}
 use Rattle.shelf_laws.proofs.Order as order
-use Rattle.shelf_laws.proofs.Between.{put-between, remove-between}
 use Rattle.shelf_laws.proofs.PutLaws as put-laws
 use Rattle.shelf_laws.proofs.RemoveLaws as remove-laws
 use Rattle.shelf_laws.proofs.Histories.{history}
+use Rattle.shelf_laws.proofs.Figures as figures
 
 module _ (l : Layout) (head : 13 ≤ l .pairs) where
   -- a sound shelf stays sound, by the test
@@ -63,6 +66,19 @@ module _ (l : Layout) (head : 13 ≤ l .pairs) where
   from-empty s os sane empty =
       let h = from-sound s os sane in (h .0, omega (arith, h .1, held-nothing l s empty))
 
+  -- a started shelf has found no duplicates
+  no-duplicates : (buffer : List ℕ) → isSized l buffer ≡ true → duplicatesOf (startShelf l buffer) ≡ 0
+  no-duplicates buffer z =
+      let size = says-sized l buffer .0 z in
+      ap duplicatesOf (empty buffer z) ∙ started-duplicates l head (length buffer) (size .0) (size .1)
+
+  from-start : (buffer : List ℕ) (os : List Operation) → 21 ≤ l .pairs → isSized l buffer ≡ true
+      → duplicatesOf (afterAll l (startShelf l buffer) os) ≡ min (allCopied l (startShelf l buffer) os) 4294967295
+  from-start buffer os sums z =
+      let none = no-duplicates buffer z in
+      figures.figures l sums os (startShelf l buffer) (empty-sound buffer z) (omega arith) .1
+      ∙ ap (λ (n : ℕ). min n 4294967295) (omega arith)
+
   start-stays : (buffer : List ℕ) (r : Refusal) → start l buffer ≡ refused r → startShelf l buffer ≡ buffer
   start-stays buffer r e =
       ⊎-elim (λ (z : isSized l buffer ≡ true). absurd (given-refused [] r (sym (start-done l buffer z .0) ∙ e)))
@@ -90,6 +106,7 @@ module _ (l : Layout) (head : 13 ≤ l .pairs) where
     get-nineteen = order.length-nineteen l;
     remove-nineteen = order.remove-nineteen l;
     slots-nineteen = order.slots-nineteen l;
+    sums-nineteen = order.sums-nineteen l;
     put-judged = order.then-judged l;
     put-there = λ s other k e. put-laws.there l s other k (says-sound l s .0 e);
     put-full = order.then-full l;
@@ -107,8 +124,6 @@ module _ (l : Layout) (head : 13 ≤ l .pairs) where
     put-get = λ s input slot. put-laws.got-back l head s input slot;
     put-others = λ s input k e. put-laws.others-stay l head s input k (says-sound l s .0 e);
     remove-others = λ s slot k e. remove-laws.others-stay l head s slot k (says-sound l s .0 e);
-    put-between = put-between l head;
-    remove-between = remove-between l head;
     put-place = new-place;
     put-slots = λ s input slot. put-laws.slots-say l head s input slot;
     put-again = λ s input other slot. put-laws.there-again l head s input other slot;
@@ -119,8 +134,28 @@ module _ (l : Layout) (head : 13 ≤ l .pairs) where
     remove-put = λ s slot n input. remove-laws.room-again l head s slot n input;
     histories = from-empty;
     histories-on = from-sound;
+    sums-given = λ s sums e. (sums-given l s e, says-sound l s .0 e .summed sums);
+    start-figure = λ buffer sums z. no-duplicates buffer z;
+    put-raises = λ s input slot sums. figures.put-raises l sums s input slot;
+    put-figure = λ s input sums. figures.put-leaves l sums s input;
+    remove-figure = λ s slot sums. figures.remove-leaves l sums s slot;
+    copy-stays = copy-stays l;
+    figures = λ s os sums e. figures.figures l sums os s (says-sound l s .0 e);
+    figures-started = from-start;
   }
 
--- so for version 1
+-- so for version 1 and for version 2
 pub shelf-one : Shelf versionOne
 shelf-one = shelf versionOne (omega arith)
+
+pub shelf-two : Shelf versionTwo
+shelf-two = shelf versionTwo (omega arith)
+
+-- "19 for a version 1 shelf": no shelf is sound in both versions
+pub old-unsound : (s : List ℕ) → Sound versionOne s → Sound versionTwo s → ⊥
+unfolding heading inBytes
+old-unsound s one two =
+    let (old, e) = says-begins (heading versionOne) s .0 (says-sound versionOne s .0 one .headed) in
+    let (new, f) = says-begins (heading versionTwo) s .0 (says-sound versionTwo s .0 two .headed) in
+    let versions : _≡_ {A = ℕ} 1 2 = ap (λ (xs : List ℕ). getD xs 4 0) (sym e ∙ f) in
+    omega arith

@@ -1,5 +1,5 @@
--- Request 2026-04: a list of operations done on a shelf one after the other, and the lengths that were newly put and removed on the way.
--- Assumes nothing.
+-- Requests 2026-04 and 2026-06: a list of operations done on a shelf one after the other, the lengths that were newly put and removed on
+-- the way, and how many puts found their copy. Assumes nothing.
 use Prim.Native.Nat.{ℕ, _+_}
 use mathlib.Core.Bool.{Bool, _&&_}
 use mathlib.Core.List.{List, [], _∷_}
@@ -16,12 +16,15 @@ pub data Operation : Type 0 where
   gets : (slot : ℕ) → Operation
   removes : (slot : ℕ) → Operation
 
--- an answer that refuses nothing, and one that tells of a new text
+-- an answer that refuses nothing, one that tells of a new text, and one that tells of a copy
 unfoldable pub isGiven : Answer → Bool
 isGiven a = eqb (a .number) 0
 
 unfoldable pub isNew : Answer → Bool
 isNew a = isGiven a && eqb (getD (a .values) 1 0) 1
+
+unfoldable pub isCopy : Answer → Bool
+isCopy a = isGiven a && eqb (getD (a .values) 1 0) 0
 
 module _ (l : Layout) where
   -- the shelf after an operation: Get changes nothing
@@ -41,6 +44,12 @@ module _ (l : Layout) where
   taken s (gets slot) = 0
   taken s (removes slot) = if isGiven (remove l s slot) then getD (remove l s slot .values) 0 0 else 0
 
+  -- 1 for a put that finds its copy
+  unfoldable pub copied : List ℕ → Operation → ℕ
+  copied s (puts input) = if isCopy (put l s input) then 1 else 0
+  copied s (gets slot) = 0
+  copied s (removes slot) = 0
+
   -- the same of all of them
   unfoldable pub afterAll : List ℕ → List Operation → List ℕ
   afterAll s [] = s
@@ -53,3 +62,7 @@ module _ (l : Layout) where
   unfoldable pub allRemoved : List ℕ → List Operation → ℕ
   allRemoved s [] = 0
   allRemoved s (o ∷ os) = taken s o + allRemoved (after s o) os
+
+  unfoldable pub allCopied : List ℕ → List Operation → ℕ
+  allCopied s [] = 0
+  allCopied s (o ∷ os) = copied s o + allCopied (after s o) os

@@ -1,13 +1,14 @@
--- Request 2026-04: "It is sound when ..", in the request's words, place by place. Assumes nothing.
+-- Requests 2026-04 and 2026-06: "It is sound when ..", in the requests' words, place by place. Assumes nothing.
 use Prim.Native.Nat.{ℕ, _+_, _≤_, _<_}
 use mathlib.Core.Path.{_≡_}
-use mathlib.Core.List.{List, _++_}
+use mathlib.Core.List.{List, _++_, map}
 use mathlib.Core.Option.{none}
 use mathlib.Core.Logic.{_↔_}
 use lib.ListN.{length, getD}
 use Rattle.stages.specs.Contents.{normalForm}
 use Rattle.stages.specs.Stages.{refusalOf}
-use Rattle.shelves.specs.Layout.{Layout, Occupied, Free, base, heading, startOf, lengthOf, textOf}
+use Rattle.numbers.specs.Numbers.{numberAt}
+use Rattle.shelves.specs.Layout.{Layout, total, Occupied, Free, occupied, base, heading, startOf, lengthOf, textOf}
 
 module _ (l : Layout) (s : List ℕ) where
   -- the place lies in the slot's text
@@ -31,3 +32,5 @@ module _ (l : Layout) (s : List ℕ) where
     -- "and free entries and free bytes are zero"
     pub freeEntries : (k : ℕ) → Free s k → (startOf l s k ≡ 0) × (lengthOf l s k ≡ 0)
     pub freeBytes : (place : ℕ) → end ≤ place → place < length s → getD s place 0 ≡ 0
+    -- "32 bits of text bytes held .. equals the sum of the lengths", in a layout that has them
+    pub sums : 21 ≤ l .pairs → numberAt s 13 4 ≡ total (map (lengthOf l s) (occupied s))

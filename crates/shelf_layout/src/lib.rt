@@ -1,4 +1,4 @@
-// What stands where in a shelf (request 2026-04), read and stored: the map, a slot's start and length, how
+// What stands where in a shelf (requests 2026-04 and 2026-06), read and stored: the map, a slot's start and length, how
 // many bytes the texts have together, and where the free bytes begin. It promises the numbers that
 // `shelves` reads there, in any layout. Whether the shelf is sound is left to `shelf_soundness`.
 ghost use mathlib.Core.Path.{_≡_};
@@ -7,7 +7,7 @@ ghost use Prim.Native.Nat.{_+_, _*_, _≤_, _<_};
 ghost use lib.ListN.{length};
 ghost use lib.Seq.{sets};
 ghost use Rattle.numbers.specs.Numbers.{inBytes};
-ghost use Rattle.shelves.specs.Layout.{versionOne, base as baseOf, mapOf, heading, pairPlace, startOf, lengthOf, held as heldIn, endOf};
+ghost use Rattle.shelves.specs.Layout.{versionOne, versionTwo, base as baseOf, mapOf, heldFigure, duplicatesOf, heading, pairPlace, startOf, lengthOf, held as heldIn, endOf};
 ghost use Rattle.shelves.specs.Operations.{pairOf};
 ghost use Rattle.shelf_layout.specs.Laid.{laid, keptIn};
 use big_endian::get;
@@ -20,12 +20,16 @@ pub struct Layout {
     pub pairs: usize,
 }
 
-// The bytes of all pairs, the most bytes of a shelf, and where the map stands.
+// The bytes of all pairs, the most bytes of a shelf, and where the map and the two sums stand.
 pub const PAIR_BYTES: usize = 512;
 
 pub const MOST_SHELF: usize = 65536;
 
 pub const MAP_PLACE: usize = 5;
+
+pub const HELD_PLACE: usize = 13;
+
+pub const DUPLICATES_PLACE: usize = 17;
 
 // "`EDS`, a 16-bit version (1), a 64-bit map of occupied slots .., 64 pairs of 32-bit start and length"
 pub fn version_one() -> Layout
@@ -34,6 +38,16 @@ pub fn version_one() -> Layout
     Layout {
         version: 1,
         pairs: 13,
+    }
+}
+
+// "Version 2 of the shelf has, after the map, 32 bits of text bytes held and 32 bits of duplicates found"
+pub fn version_two() -> Layout
+    ensures { λ r. ⌜ laid r ≡ versionTwo ⌝ }
+{
+    Layout {
+        version: 2,
+        pairs: 21,
     }
 }
 
@@ -50,6 +64,21 @@ pub fn map_of(s: &[u8]) -> u64
     ensures { λ r. ⌜ r ≡ mapOf (now (s .entry)) ⌝ }
 {
     get(s, MAP_PLACE, 8)
+}
+
+// The text bytes held and the duplicates found, as they stand behind the map.
+pub fn held_figure(s: &[u8]) -> u32
+    requires { ⌜ 17 ≤ length (now s) ⌝ }
+    ensures { λ r. ⌜ r ≡ heldFigure (now (s .entry)) ⌝ }
+{
+    get(s, HELD_PLACE, 4) as u32
+}
+
+pub fn duplicates_of(s: &[u8]) -> u32
+    requires { ⌜ 21 ≤ length (now s) ⌝ }
+    ensures { λ r. ⌜ r ≡ duplicatesOf (now (s .entry)) ⌝ }
+{
+    get(s, DUPLICATES_PLACE, 4) as u32
 }
 
 pub fn start_of(s: &[u8], l: Layout, slot: usize) -> usize
@@ -108,13 +137,6 @@ pub fn put_pair(s: &mut [u8], l: Layout, slot: usize, start: usize, size: usize)
     let at = l.pairs + slot * 8;
     big_endian::put(s, at, 4, start as u64);
     big_endian::put(s, at + 4, 4, size as u64);
-}
-
-pub fn put_map(s: &mut [u8], map: u64)
-    requires { ⌜ 13 ≤ length (now s) ⌝ }
-    ensures { λ _. ⌜ now (s .exit) ≡ sets (now (s .entry)) 5 (inBytes 8 map) ⌝ }
-{
-    big_endian::put(s, MAP_PLACE, 8, map);
 }
 
 // "`EDS`, a 16-bit version"

@@ -11,9 +11,9 @@ use borrow.Author.Tests.{ltb-true, ltb-false, le-leb}
 use Rattle.lists.specs.Lists.{if_then_else_, same, begins, all}
 use Rattle.lists.proofs.Texts.{and-left, and-right, and-both, decided}
 use Rattle.lists.proofs.Tests.{Says, says-as, says-both, says-either, says-not, says-eq, says-le, says-same, fails}
-use Rattle.shelves.specs.Layout.{Layout, mostShelf, slotCount, base, heading, isOccupied, Occupied, startOf, lengthOf, textOf, endOf}
-use Rattle.shelves.specs.Soundness.{isNormalForm, lies, apart, differ, isBlankPair, sound}
-use Rattle.shelves.proofs.Sound.{Apart, Sound, says-sound}
+use Rattle.shelves.specs.Layout.{Layout, mostShelf, slotCount, heldFigure, base, heading, isOccupied, Occupied, startOf, lengthOf, textOf, endOf}
+use Rattle.shelves.specs.Soundness.{isNormalForm, lies, apart, differ, isBlankPair, isSummed, sound}
+use Rattle.shelves.proofs.Sound.{Apart, Sound, says-summed, says-sound}
 use Rattle.shelf_soundness.specs.Clauses.{placed, Placed, parted, Alone, formed, Formed, Ranged, Kept}
 use Rattle.shelf_soundness.proofs.Loops.{chosen, other-chosen, choose}
 
@@ -109,8 +109,8 @@ module _ (l : Layout) (s : List ℕ) where
       unfolding formed
       normal k o = chosen (isOccupied s k) (isNormalForm (textOf l s k)) true (m .2 k (omega arith) (o .0)) (o .1)
 
-      clauses-sound : (base l ≤ length s) × (length s ≤ mostShelf) → begins (heading l) s ≡ true → endOf l s ≤ length s → Sound l s
-      clauses-sound size headed room = record {
+      clauses-sound : (base l ≤ length s) × (length s ≤ mostShelf) → begins (heading l) s ≡ true → endOf l s ≤ length s → isSummed l s ≡ true → Sound l s
+      clauses-sound size headed room sums = record {
         least = size .0;
         most = size .1;
         headed = headed;
@@ -121,7 +121,22 @@ module _ (l : Layout) (s : List ℕ) where
         different = λ j k a b d. any-two j k a b d .1;
         blank = blank;
         zero = m .1;
+        summed = says-summed l s .0 sums;
       }
+
+  -- ---- the text bytes held
+
+  -- a layout without the figure
+  pub summed-free : l .pairs < 21 → true ≡ isSummed l s
+  summed-free h = sym (says-summed l s .1 (λ sums. absurd (omega arith)))
+
+  -- the figure, behind where the texts begin, is where they end
+  pub summed-by : {a n end : ℕ} → 21 ≤ l .pairs → a ≡ base l → n ≡ heldFigure s → end ≡ endOf l s → eqb (a + n) end ≡ isSummed l s
+  unfolding endOf
+  summed-by {a} {n} {end} sums e f g =
+      says-unique (eqb (a + n) end) (isSummed l s)
+      (says-as (says-eq (a + n) end) (λ h room. omega (arith, e, f, g, h)) (λ h. omega (arith, e, f, g, h sums)))
+      (says-summed l s)
 
   -- ---- the answer
 
@@ -131,6 +146,6 @@ module _ (l : Layout) (s : List ℕ) where
 
   -- the last clauses decide
   pub sound-by : Placed l s → (base l ≤ length s) × (length s ≤ mostShelf) → begins (heading l) s ≡ true → endOf l s ≤ length s
-      → {r : Bool} → Says r (Kept l s) → r ≡ sound l s
-  sound-by p size headed room {r} h =
-      says-unique r (sound l s) (says-as h (λ m. clauses-sound p m size headed room) sound-kept) (says-sound l s)
+      → isSummed l s ≡ true → {r : Bool} → Says r (Kept l s) → r ≡ sound l s
+  sound-by p size headed room sums {r} h =
+      says-unique r (sound l s) (says-as h (λ m. clauses-sound p m size headed room sums) sound-kept) (says-sound l s)

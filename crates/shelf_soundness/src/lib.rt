@@ -1,12 +1,12 @@
-// Whether a shelf is sound (request 2026-04), for any bytes. It promises the answer that `shelves` gives. Each
+// Whether a shelf is sound (requests 2026-04 and 2026-06), for any bytes. It promises the answer that `shelves` gives. Each
 // kept text is judged once; the rest takes little beside that.
 ghost use mathlib.Core.Path.{_≡_};
 ghost use Prim.Native.Nat.{_≤_};
 ghost use lib.Dec.{eqb};
 ghost use lib.ListN.{length, drop};
 ghost use Rattle.lists.specs.Lists.{begins, all};
-ghost use Rattle.shelves.specs.Layout.{mapOf, endOf, heading};
-ghost use Rattle.shelves.specs.Soundness.{isSized, sound};
+ghost use Rattle.shelves.specs.Layout.{base, mapOf, endOf, heading};
+ghost use Rattle.shelves.specs.Soundness.{isSized, isSummed, sound};
 ghost use Rattle.shelf_layout.specs.Laid.{laid};
 ghost use Rattle.shelf_soundness.specs.Clauses.{Says, Ranged, Kept};
 use shelf_layout::Layout;
@@ -45,6 +45,17 @@ fn are_zero(s: &[u8], start: usize) -> bool
     found == 0
 }
 
+// "The first equals the sum of the lengths", in a layout that has it.
+fn is_summed(s: &[u8], l: Layout, end: usize) -> bool
+    requires { ⌜ (base (laid l) ≤ length (now s)) × (l .pairs ≤ 65536) × (end ≡ endOf (laid l) (now s)) ⌝ }
+    ensures { λ r. ⌜ r ≡ isSummed (laid l) (now (s .entry)) ⌝ }
+{
+    if l.pairs < 21 {
+        return true;
+    }
+    shelf_layout::base(l) + shelf_layout::held_figure(s) as usize == end
+}
+
 // What is left to ask where every kept text lies in the shelf.
 fn is_kept_well(s: &[u8], l: Layout, map: u64, end: usize) -> bool
     requires { ⌜ Ranged (laid l) (now s) × (map ≡ mapOf (now s)) × (end ≡ endOf (laid l) (now s)) ⌝ }
@@ -72,6 +83,9 @@ pub fn is_sound(s: &[u8], l: Layout) -> bool
     let map = shelf_layout::map_of(s);
     let end = shelf_layout::end_of(s, l);
     if s.len() < end {
+        return false;
+    }
+    if !is_summed(s, l, end) {
         return false;
     }
     if !placing::are_placed(s, l, map, end) {

@@ -1,5 +1,5 @@
 -- A text put behind the last one, into a free slot: what the shelf then says of each slot. Assumes nothing.
-use Prim.Native.Nat.{ℕ, _+_, _^_, _≤_, _<_}
+use Prim.Native.Nat.{ℕ, _+_, _%_, _^_, _≤_, _<_}
 use mathlib.Core.Path.{_≡_, refl, sym, ap, ap₂, _∙_}
 use mathlib.Core.Bool.{true}
 use mathlib.Core.List.{List}
@@ -9,11 +9,13 @@ use native.Mathlib.Omega.{arith}
 use lib.ListN.{length, take, drop}
 use Rattle.numbers.specs.Numbers.{numberAt}
 use Rattle.numbers.proofs.Stores.{rest-stays, part-before, part-stored}
-use Rattle.shelves.specs.Layout.{Layout, mostShelf, slotCount, mapOf, isOccupied, Free, base, pairPlace, startOf, lengthOf, textOf, endOf}
+use Rattle.shelves.specs.declared.Summary.{Summary}
+use Rattle.shelves.specs.Layout.{Layout, mostShelf, slotCount, mapOf, heldFigure, duplicatesOf, isOccupied, Free, base, pairPlace, startOf, lengthOf, textOf, endOf}
 use Rattle.shelves.specs.Operations.{pairOf, lowestFree, withText}
+use Rattle.shelves.specs.Summary.{summaryOf, putNew}
 use Rattle.shelves.proofs.Bits.{bit-set, bit-set-other}
 use Rattle.shelves.proofs.Sound.{in-order}
-use Rattle.shelves.proofs.Stored.{pair-length, pair-start, pair-size, stored, Placed, stored-length, stored-front, stored-occupied, stored-rest, stored-within, stored-outside}
+use Rattle.shelves.proofs.Stored.{pair-length, pair-start, pair-size, stored, Placed, stored-length, stored-front, stored-occupied, stored-held, stored-duplicates, stored-rest, stored-within, stored-outside}
 use Rattle.shelves.proofs.Held.{held-more}
 
 -- What the shelf says once the text is in the slot.
@@ -30,23 +32,25 @@ pub record Added (l : Layout) (s form : List ℕ) (slot : ℕ) (after : List ℕ
   pub before : (n w : ℕ) → base l ≤ n → n + w ≤ endOf l s → take w (drop n after) ≡ take w (drop n s)
   pub rest : drop (endOf l s + length form) after ≡ drop (endOf l s + length form) s
   pub end : endOf l after ≡ endOf l s + length form
+  pub held : 21 ≤ l .pairs → heldFigure after ≡ (heldFigure s + length form) % 2 ^ 32
+  pub duplicates : 21 ≤ l .pairs → duplicatesOf after ≡ duplicatesOf s
 
 module _ (l : Layout) (head : 13 ≤ l .pairs) (s form : List ℕ) (slot : ℕ) (free : Free s slot)
     (room : endOf l s + length form ≤ length s) (most : length s ≤ mostShelf) where
   abbrev pair : List ℕ
   pair = pairOf (endOf l s) (length form)
 
-  abbrev m : ℕ
-  m = mapOf s + 2 ^ slot
+  abbrev u : Summary
+  u = putNew (summaryOf s) slot (length form)
 
   abbrev after : List ℕ
-  after = stored l s form pair (endOf l s) (pairPlace l slot) m
+  after = stored l s form pair (endOf l s) (pairPlace l slot) u
 
   end-from : base l ≤ endOf l s
   unfolding endOf
   end-from = omega arith
 
-  placed : Placed l s form pair (endOf l s) (pairPlace l slot) m
+  placed : Placed l s form pair (endOf l s) (pairPlace l slot) u
   unfolding pairPlace
   placed = record {
     head = head;
@@ -62,21 +66,21 @@ module _ (l : Layout) (head : 13 ≤ l .pairs) (s form : List ℕ) (slot : ℕ) 
   unfolding pairPlace
   beside k n i d h =
       let size = pair-length (endOf l s) (length form) in
-      stored-outside l s form pair (endOf l s) (pairPlace l slot) m placed (pairPlace l k + n) 4 (omega arith) (omega arith)
+      stored-outside l s form pair (endOf l s) (pairPlace l slot) u placed (pairPlace l k + n) 4 (omega arith) (omega arith)
       (⊎-elim (λ (q : k < slot). inl (omega arith)) (λ (q : slot < k). inr (omega arith)) (in-order k slot d))
 
   here : (n : ℕ) → n + 4 ≤ 8 → numberAt after (pairPlace l slot + n) 4 ≡ numberAt pair n 4
   here n h =
-      stored-within l s form pair (endOf l s) (pairPlace l slot) m placed n 4 (omega (arith, pair-length (endOf l s) (length form)))
+      stored-within l s form pair (endOf l s) (pairPlace l slot) u placed n 4 (omega (arith, pair-length (endOf l s) (length form)))
 
   occupied-this : isOccupied after slot ≡ true
-  unfolding isOccupied
-  occupied-this = stored-occupied l s form pair (endOf l s) (pairPlace l slot) m placed slot (free .0) ∙ bit-set slot (mapOf s) (free .1)
+  unfolding isOccupied putNew summaryOf
+  occupied-this = stored-occupied l s form pair (endOf l s) (pairPlace l slot) u placed slot (free .0) ∙ bit-set slot (mapOf s) (free .1)
 
   occupied-other : (k : ℕ) → k < slotCount → (k ≡ slot → ⊥) → isOccupied after k ≡ isOccupied s k
-  unfolding isOccupied
+  unfolding isOccupied putNew summaryOf
   occupied-other k i d =
-      stored-occupied l s form pair (endOf l s) (pairPlace l slot) m placed k i ∙ bit-set-other slot k (mapOf s) (free .1) d
+      stored-occupied l s form pair (endOf l s) (pairPlace l slot) u placed k i ∙ bit-set-other slot k (mapOf s) (free .1) d
 
   start-this : startOf l after slot ≡ endOf l s
   unfolding startOf
@@ -104,16 +108,16 @@ module _ (l : Layout) (head : 13 ≤ l .pairs) (s form : List ℕ) (slot : ℕ) 
   unfolding textOf
   text-this =
       ap₂ (λ (w n : ℕ). take w (drop n after)) length-this start-this
-      ∙ ap (take (length form)) (stored-rest l s form pair (endOf l s) (pairPlace l slot) m placed (endOf l s) end-from)
+      ∙ ap (take (length form)) (stored-rest l s form pair (endOf l s) (pairPlace l slot) u placed (endOf l s) end-from)
       ∙ part-stored form s (endOf l s) (length form) room refl
 
   before-end : (n w : ℕ) → base l ≤ n → n + w ≤ endOf l s → take w (drop n after) ≡ take w (drop n s)
   before-end n w h k =
-      ap (take w) (stored-rest l s form pair (endOf l s) (pairPlace l slot) m placed n h) ∙ part-before form s (endOf l s) n w k
+      ap (take w) (stored-rest l s form pair (endOf l s) (pairPlace l slot) u placed n h) ∙ part-before form s (endOf l s) n w k
 
   rest-same : drop (endOf l s + length form) after ≡ drop (endOf l s + length form) s
   rest-same =
-      stored-rest l s form pair (endOf l s) (pairPlace l slot) m placed (endOf l s + length form) (let h = end-from in omega arith)
+      stored-rest l s form pair (endOf l s) (pairPlace l slot) u placed (endOf l s + length form) (let h = end-from in omega arith)
       ∙ rest-stays form s (endOf l s) (endOf l s + length form) (omega arith)
 
   end-moved : endOf l after ≡ endOf l s + length form
@@ -123,9 +127,10 @@ module _ (l : Layout) (head : 13 ≤ l .pairs) (s form : List ℕ) (slot : ℕ) 
       omega (arith, more, length-this)
 
   pub added-at : Added l s form slot after
+  unfolding putNew summaryOf
   added-at = record {
-    long = stored-length l s form pair (endOf l s) (pairPlace l slot) m;
-    front = stored-front l s form pair (endOf l s) (pairPlace l slot) m placed;
+    long = stored-length l s form pair (endOf l s) (pairPlace l slot) u;
+    front = stored-front l s form pair (endOf l s) (pairPlace l slot) u placed;
     occupiedThis = occupied-this;
     occupiedOther = occupied-other;
     startThis = start-this;
@@ -136,6 +141,8 @@ module _ (l : Layout) (head : 13 ≤ l .pairs) (s form : List ℕ) (slot : ℕ) 
     before = before-end;
     rest = rest-same;
     end = end-moved;
+    held = stored-held l s form pair (endOf l s) (pairPlace l slot) u placed;
+    duplicates = stored-duplicates l s form pair (endOf l s) (pairPlace l slot) u placed;
   }
 
 -- Put does so at the lowest free slot.

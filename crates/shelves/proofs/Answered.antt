@@ -17,10 +17,10 @@ use Rattle.stages.specs.Stages.{stages, refusalOf}
 use Rattle.answers.specs.Answers.{given, refused}
 use Rattle.operations.specs.Judge.{unlessRefused}
 use Rattle.operations.proofs.Answered.{input-answers, last-answers}
-use Rattle.shelves.specs.Layout.{Layout, slotCount, isOccupied, occupied, free, startOf, lengthOf, endOf}
+use Rattle.shelves.specs.Layout.{Layout, slotCount, duplicatesOf, isOccupied, occupied, free, startOf, lengthOf, held, endOf}
 use Rattle.shelves.specs.Soundness.{isSized, sound}
 use Rattle.shelves.specs.Answers.{newAt, copyAt}
-use Rattle.shelves.specs.Operations.{startRefusal, start, emptyShelf, startShelf, unsound, lowestFree, slotsOf, copyOf, noFreeSlot, noRoom, forNew, putRefusal, put, withText, putShelf, slotRefusal, gotOffset, gotLength, lengthAnswer, without, removeShelf}
+use Rattle.shelves.specs.Operations.{startRefusal, start, emptyShelf, startShelf, unsound, lowestFree, slotsOf, sumsOf, copyOf, noFreeSlot, noRoom, forNew, putRefusal, put, withText, withCopy, putShelf, slotRefusal, gotOffset, gotLength, lengthAnswer, without, removeShelf}
 
 -- 19 at 0
 abbrev pub nineteen : Refusal
@@ -64,6 +64,16 @@ module _ (l : Layout) where
     unfolding slotsOf maybe answering
     slots-given e = ap (maybe (given (length (occupied s) ∷ lowestFree l s ∷ [])) refused) (sound-answers [] e)
 
+    -- ---- the two sums
+
+    pub sums-refused : sound l s ≡ false → sumsOf l s ≡ refused nineteen
+    unfolding sumsOf maybe
+    sums-refused e = ap (maybe (given (held l s ∷ duplicatesOf s ∷ [])) refused) (unsound-answers [] e)
+
+    pub sums-given : sound l s ≡ true → sumsOf l s ≡ given (held l s ∷ duplicatesOf s ∷ [])
+    unfolding sumsOf maybe answering
+    sums-given e = ap (maybe (given (held l s ∷ duplicatesOf s ∷ [])) refused) (sound-answers [] e)
+
     -- ---- Put
 
     module _ (input : List ℕ) where
@@ -75,17 +85,17 @@ module _ (l : Layout) where
       unfolding put putShelf maybe unlessRefused
       put-refused e = (
         ap (maybe (maybe (newAt (lowestFree l s)) copyAt (copyOf l s form)) refused) e,
-        ap (λ (o : Option Refusal). unlessRefused o (maybe (withText l s form) (λ k. s) (copyOf l s form)) s) e,
+        ap (λ (o : Option Refusal). unlessRefused o (maybe (withText l s form) (λ k. withCopy l s) (copyOf l s form)) s) e,
       )
 
       -- not refused: the copy's slot, or the lowest free one
       pub put-done : putRefusal l s input ≡ none
           → (put l s input ≡ maybe (newAt (lowestFree l s)) copyAt (copyOf l s form))
-          × (putShelf l s input ≡ maybe (withText l s form) (λ k. s) (copyOf l s form))
+          × (putShelf l s input ≡ maybe (withText l s form) (λ k. withCopy l s) (copyOf l s form))
       unfolding put putShelf maybe unlessRefused
       put-done e = (
         ap (maybe (maybe (newAt (lowestFree l s)) copyAt (copyOf l s form)) refused) e,
-        ap (λ (o : Option Refusal). unlessRefused o (maybe (withText l s form) (λ k. s) (copyOf l s form)) s) e,
+        ap (λ (o : Option Refusal). unlessRefused o (maybe (withText l s form) (λ k. withCopy l s) (copyOf l s form)) s) e,
       )
 
       -- "19 .., then Judge's"
@@ -104,11 +114,11 @@ module _ (l : Layout) where
 
       module _ (sane : sound l s ≡ true) (accepted : refusalOf input ≡ none) where
         -- a copy is there
-        pub put-copy : {k : ℕ} → copyOf l s form ≡ some k → (put l s input ≡ copyAt k) × (putShelf l s input ≡ s)
+        pub put-copy : {k : ℕ} → copyOf l s form ≡ some k → (put l s input ≡ copyAt k) × (putShelf l s input ≡ withCopy l s)
         unfolding forNew maybe answering
         put-copy c =
             let d = put-done (put-later sane accepted ∙ ap (λ (o : Option ℕ). answering (maybe (noFreeSlot l s ∷ noRoom l s form ∷ []) (λ k. []) o)) c) in
-            (d .0 ∙ ap (maybe (newAt (lowestFree l s)) copyAt) c, d .1 ∙ ap (maybe (withText l s form) (λ k. s)) c)
+            (d .0 ∙ ap (maybe (newAt (lowestFree l s)) copyAt) c, d .1 ∙ ap (maybe (withText l s form) (λ k. withCopy l s)) c)
 
         module _ (fresh : copyOf l s form ≡ none) where
           as-new : putRefusal l s input ≡ answering (noFreeSlot l s ∷ noRoom l s form ∷ [])
@@ -143,7 +153,7 @@ module _ (l : Layout) where
           unfolding maybe
           put-new e h =
               let d = put-done (put-unrefused e h) in
-              (d .0 ∙ ap (maybe (newAt (lowestFree l s)) copyAt) fresh, d .1 ∙ ap (maybe (withText l s form) (λ k. s)) fresh)
+              (d .0 ∙ ap (maybe (newAt (lowestFree l s)) copyAt) fresh, d .1 ∙ ap (maybe (withText l s form) (λ k. withCopy l s)) fresh)
 
     -- ---- Get and Remove
 

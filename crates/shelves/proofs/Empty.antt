@@ -12,7 +12,7 @@ use lib.Seq.{drop-at, drop-drop}
 use Rattle.lists.specs.Lists.{begins, all}
 use Rattle.lists.proofs.Tests.{says-begins}
 use Rattle.numbers.specs.Numbers.{numberAt}
-use Rattle.shelves.specs.Layout.{Layout, mostShelf, slotCount, mapPlace, mapOf, bit, isOccupied, occupied, base, heading, pairPlace, startOf, lengthOf, held, endOf}
+use Rattle.shelves.specs.Layout.{Layout, mostShelf, slotCount, mapPlace, heldPlace, duplicatesPlace, mapOf, heldFigure, duplicatesOf, bit, isOccupied, occupied, base, heading, pairPlace, startOf, lengthOf, held, endOf}
 use Rattle.shelves.specs.Operations.{emptyShelf}
 use Rattle.shelves.proofs.Passing.{lowest-passing}
 use Rattle.shelves.proofs.Sound.{Sound}
@@ -47,7 +47,7 @@ module _ (l : Layout) (head : 13 ≤ l .pairs) (s : List ℕ) (zeros : all (eqb 
   nothing-held = held-nothing l s nothing-occupied
 
   pub empty-sound : base l ≤ length s → length s ≤ mostShelf → begins (heading l) s ≡ true → Sound l s
-  unfolding endOf startOf lengthOf pairPlace
+  unfolding endOf startOf lengthOf pairPlace heldFigure
   empty-sound least most headed =
       let free : (k : ℕ) → isOccupied s k ≡ true → ⊥ = λ k e. true≢false (sym e ∙ none-occupied k) in
       record {
@@ -61,6 +61,7 @@ module _ (l : Layout) (head : 13 ≤ l .pairs) (s : List ℕ) (zeros : all (eqb 
         different = λ j k p q d e. free j (p .1);
         blank = λ k f. (number-zero (l .pairs + k * 8) 4 (omega arith), number-zero (l .pairs + k * 8 + 4) 4 (omega arith));
         zero = zero-from (base l + held l s) (omega arith);
+        summed = λ room. number-zero heldPlace 4 (omega arith) ∙ sym nothing-held;
       }
 
 -- ---- the shelf that Start writes
@@ -92,3 +93,7 @@ module _ (l : Layout) (head : 13 ≤ l .pairs) (size : ℕ) (least : base l ≤ 
 
   pub started-occupied : occupied (emptyShelf l size) ≡ []
   started-occupied = nothing-occupied l head (emptyShelf l size) started-zeros
+
+  pub started-duplicates : duplicatesOf (emptyShelf l size) ≡ 0
+  unfolding duplicatesOf
+  started-duplicates = number-zero l head (emptyShelf l size) started-zeros duplicatesPlace 4 (omega arith)

@@ -10,5 +10,7 @@ pub mod Gathered
 pub mod Held
 pub mod Added
 pub mod Removed
+pub mod Copied
+pub mod Summaries
 pub mod Empty
 pub mod Words

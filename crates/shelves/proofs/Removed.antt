@@ -1,5 +1,5 @@
 -- A text taken out of its slot, the later ones moved down: what the shelf then says of each slot. Assumes nothing.
-use Prim.Native.Nat.{ℕ, _+_, _-_, _*_, _^_, _≤_, _<_}
+use Prim.Native.Nat.{ℕ, _+_, _-_, _*_, _%_, _^_, _≤_, _<_}
 use mathlib.Core.Path.{_≡_, refl, sym, ap, _∙_}
 use mathlib.Core.Bool.{Bool, true, false}
 use mathlib.Core.List.{List, _++_, append-assoc}
@@ -13,12 +13,14 @@ use Rattle.lists.specs.Lists.{if_then_else_, all, gather}
 use Rattle.lists.proofs.Texts.{all-append, and-both, decided}
 use Rattle.numbers.specs.Numbers.{numberAt}
 use Rattle.numbers.proofs.Stores.{part-cut, part-before, part-within, from-stored}
-use Rattle.shelves.specs.Layout.{Layout, slotCount, below, mapOf, isOccupied, Occupied, base, pairPlace, startOf, lengthOf, endOf}
+use Rattle.shelves.specs.declared.Summary.{Summary}
+use Rattle.shelves.specs.Layout.{Layout, slotCount, below, mapOf, heldFigure, duplicatesOf, isOccupied, Occupied, base, pairPlace, startOf, lengthOf, endOf}
 use Rattle.shelves.specs.Operations.{pairOf, pairWithout, textsWithout, without}
+use Rattle.shelves.specs.Summary.{summaryOf, removed}
 use Rattle.shelves.proofs.Bits.{bit-clear, bit-clear-other}
 use Rattle.shelves.proofs.Sound.{Sound}
 use Rattle.shelves.proofs.Zeros.{all-zeros}
-use Rattle.shelves.proofs.Stored.{pair-length, pair-start, pair-size, stored, Placed, stored-length, stored-front, stored-occupied, stored-rest, stored-within}
+use Rattle.shelves.proofs.Stored.{pair-length, pair-start, pair-size, stored, Placed, stored-length, stored-front, stored-occupied, stored-held, stored-duplicates, stored-rest, stored-within}
 use Rattle.shelves.proofs.Gathered.{gathered-length, gathered-number}
 use Rattle.shelves.proofs.Held.{held-less}
 
@@ -38,6 +40,8 @@ pub record Removed (l : Layout) (s : List ℕ) (slot : ℕ) (after : List ℕ) :
       → take w (drop (n - lengthOf l s slot) after) ≡ take w (drop n s)
   pub end : endOf l after + lengthOf l s slot ≡ endOf l s
   pub zero : all (eqb 0) (drop (endOf l after) after) ≡ true
+  pub held : 21 ≤ l .pairs → heldFigure after ≡ (heldFigure s - lengthOf l s slot) % 2 ^ 32
+  pub duplicates : 21 ≤ l .pairs → duplicatesOf after ≡ duplicatesOf s
 
 -- a part of a front is a part of the whole
 part-front : (n w m : ℕ) (xs : List ℕ) → n + w ≤ m → take w (drop n (take m xs)) ≡ take w (drop n xs)
@@ -62,11 +66,11 @@ module _ (l : Layout) (head : 13 ≤ l .pairs) (s : List ℕ) (slot : ℕ) (was 
   abbrev pairs : List ℕ
   pairs = gather (pairWithout l s slot) (below slotCount)
 
-  abbrev m : ℕ
-  m = mapOf s - 2 ^ slot
+  abbrev u : Summary
+  u = removed (summaryOf s) slot ln
 
   abbrev after : List ℕ
-  after = stored l s texts pairs st (l .pairs) m
+  after = stored l s texts pairs st (l .pairs) u
 
   lies-from : base l ≤ st
   lies-from = was .lie slot o .0
@@ -104,7 +108,7 @@ module _ (l : Layout) (head : 13 ≤ l .pairs) (s : List ℕ) (slot : ℕ) (was 
   unfolding pairWithout
   pair-earlier k d h = rw (ne-eqb k slot d, le-ltb st (startOf l s k) h)
 
-  placed : Placed l s texts pairs st (l .pairs) m
+  placed : Placed l s texts pairs st (l .pairs) u
   placed = record {
     head = head;
     textsFrom = lies-from;
@@ -116,7 +120,7 @@ module _ (l : Layout) (head : 13 ≤ l .pairs) (s : List ℕ) (slot : ℕ) (was 
   -- each pair is read where it stands
   read : (k i : ℕ) → k < slotCount → i + 4 ≤ 8 → numberAt after (l .pairs + (k * 8 + i)) 4 ≡ numberAt (pairWithout l s slot k) i 4
   read k i h j =
-      stored-within l s texts pairs st (l .pairs) m placed (k * 8 + i) 4
+      stored-within l s texts pairs st (l .pairs) u placed (k * 8 + i) 4
       (omega (arith, gathered-length (pairWithout l s slot) pair-eight slotCount))
       ∙ gathered-number (pairWithout l s slot) pair-eight slotCount k i 4 h j
 
@@ -165,25 +169,25 @@ module _ (l : Layout) (head : 13 ≤ l .pairs) (s : List ℕ) (slot : ℕ) (was 
   -- ---- the map
 
   free-this : isOccupied after slot ≡ false
-  unfolding isOccupied
-  free-this = stored-occupied l s texts pairs st (l .pairs) m placed slot (o .0) ∙ bit-clear slot (mapOf s) (o .1)
+  unfolding isOccupied removed summaryOf
+  free-this = stored-occupied l s texts pairs st (l .pairs) u placed slot (o .0) ∙ bit-clear slot (mapOf s) (o .1)
 
   occupied-other : (k : ℕ) → k < slotCount → (k ≡ slot → ⊥) → isOccupied after k ≡ isOccupied s k
-  unfolding isOccupied
+  unfolding isOccupied removed summaryOf
   occupied-other k h d =
-      stored-occupied l s texts pairs st (l .pairs) m placed k h ∙ bit-clear-other slot k (mapOf s) (o .1) d
+      stored-occupied l s texts pairs st (l .pairs) u placed k h ∙ bit-clear-other slot k (mapOf s) (o .1) d
 
   -- ---- the texts
 
   before-start : (n w : ℕ) → base l ≤ n → n + w ≤ st → take w (drop n after) ≡ take w (drop n s)
-  before-start n w h k = ap (take w) (stored-rest l s texts pairs st (l .pairs) m placed n h) ∙ part-before texts s st n w k
+  before-start n w h k = ap (take w) (stored-rest l s texts pairs st (l .pairs) u placed n h) ∙ part-before texts s st n w k
 
   moved-down : (n w : ℕ) → st + ln ≤ n → n + w ≤ en → take w (drop (n - ln) after) ≡ take w (drop n s)
   moved-down n w h k =
       let i = n - (st + ln) in
       let there : n - ln ≡ st + i = omega arith in
       let back : st + ln + i ≡ n = omega arith in
-      ap (take w) (stored-rest l s texts pairs st (l .pairs) m placed (n - ln) (omega (arith, lies-from)))
+      ap (take w) (stored-rest l s texts pairs st (l .pairs) u placed (n - ln) (omega (arith, lies-from)))
       ∙ ap (λ (x : ℕ). take w (drop x (sets s st texts))) there
       ∙ part-within texts s st i w (placed .textsTo) (omega (arith, texts-length))
       ∙ ap (take w) (drop-append-le i later (replicate ln 0) (omega (arith, later-length)))
@@ -201,7 +205,7 @@ module _ (l : Layout) (head : 13 ≤ l .pairs) (s : List ℕ) (slot : ℕ) (was 
   vacated =
       let there : endOf l after ≡ st + (en - (st + ln)) = omega (arith, end-moved, lies-to) in
       ap (λ (n : ℕ). drop n after) there
-      ∙ stored-rest l s texts pairs st (l .pairs) m placed (st + (en - (st + ln))) (omega (arith, lies-from))
+      ∙ stored-rest l s texts pairs st (l .pairs) u placed (st + (en - (st + ln))) (omega (arith, lies-from))
       ∙ sym (drop-drop (en - (st + ln)) st (sets s st texts))
       ∙ ap (drop (en - (st + ln)))
       (from-stored texts s st (placed .textsTo) ∙ append-assoc later (replicate ln 0) (drop (st + length texts) s))
@@ -215,9 +219,10 @@ module _ (l : Layout) (head : 13 ≤ l .pairs) (s : List ℕ) (slot : ℕ) (was 
       ∙ and-both (all (eqb 0) (replicate ln 0)) (all (eqb 0) (drop en s)) (all-zeros ln) (was .zero)
 
   pub removed-at : Removed l s slot after
+  unfolding removed summaryOf
   removed-at = record {
-    long = stored-length l s texts pairs st (l .pairs) m;
-    front = stored-front l s texts pairs st (l .pairs) m placed;
+    long = stored-length l s texts pairs st (l .pairs) u;
+    front = stored-front l s texts pairs st (l .pairs) u placed;
     freeThis = free-this;
     occupiedOther = occupied-other;
     blankThis = (read-start slot 0 0 (o .0) (omega arith) pair-this, read-length slot 0 0 (o .0) (omega arith) pair-this);
@@ -228,6 +233,8 @@ module _ (l : Layout) (head : 13 ≤ l .pairs) (s : List ℕ) (slot : ℕ) (was 
     moved = moved-down;
     end = end-moved;
     zero = zero-after;
+    held = stored-held l s texts pairs st (l .pairs) u placed;
+    duplicates = stored-duplicates l s texts pairs st (l .pairs) u placed;
   }
 
 -- Remove does so.

@@ -11,13 +11,13 @@ use lib.ListN.{length, drop}
 use borrow.Author.Tests.{not-true, ltb-true, ltb-false}
 use Rattle.lists.specs.Lists.{same, begins, all, maybe}
 use Rattle.lists.proofs.Texts.{decided}
-use Rattle.lists.proofs.Tests.{Says, says-as, says-both, says-either, says-not, says-eq, says-le, says-same}
+use Rattle.lists.proofs.Tests.{Says, says-as, says-both, says-either, says-not, says-eq, says-le, says-same, decides}
 use Rattle.refusals.specs.declared.Refusal.{Refusal}
 use Rattle.stages.specs.Contents.{normalForm}
 use Rattle.stages.specs.Stages.{refusalOf}
 use Rattle.operations.specs.Compare.{isAccepted}
-use Rattle.shelves.specs.Layout.{Layout, mostShelf, slotCount, isOccupied, Occupied, Free, occupied, free, base, heading, startOf, lengthOf, textOf, endOf}
-use Rattle.shelves.specs.Soundness.{isNormalForm, eachTwo, isSized, lies, apart, differ, isBlankPair, sound}
+use Rattle.shelves.specs.Layout.{Layout, mostShelf, slotCount, isOccupied, Occupied, Free, occupied, free, heldFigure, hasSums, base, heading, startOf, lengthOf, textOf, held, endOf}
+use Rattle.shelves.specs.Soundness.{isNormalForm, eachTwo, isSized, lies, apart, differ, isBlankPair, isSummed, sound}
 use Rattle.shelves.proofs.Passing.{says-each, says-two}
 
 -- a test is passed as it stands
@@ -64,6 +64,7 @@ module _ (l : Layout) (s : List ℕ) where
     pub different : (j k : ℕ) → Occupied s j → Occupied s k → (j ≡ k → ⊥) → textOf l s j ≡ textOf l s k → ⊥
     pub blank : (k : ℕ) → Free s k → (startOf l s k ≡ 0) × (lengthOf l s k ≡ 0)
     pub zero : all (eqb 0) (drop (endOf l s) s) ≡ true
+    pub summed : 21 ≤ l .pairs → heldFigure s ≡ held l s
 
   -- ---- each clause
 
@@ -91,6 +92,19 @@ module _ (l : Layout) (s : List ℕ) where
   says-blank : (k : ℕ) → Says (isBlankPair l s k) ((startOf l s k ≡ 0) × (lengthOf l s k ≡ 0))
   unfolding isBlankPair
   says-blank k = says-both (eqb (startOf l s k) 0) (eqb (lengthOf l s k) 0) (says-eq (startOf l s k) 0) (says-eq (lengthOf l s k) 0)
+
+  -- the pairs leave room for the sums
+  pub says-sums : Says (hasSums l) (21 ≤ l .pairs)
+  unfolding hasSums
+  says-sums = says-le 21 (l .pairs)
+
+  pub says-summed : Says (isSummed l s) (21 ≤ l .pairs → heldFigure s ≡ held l s)
+  unfolding isSummed
+  says-summed =
+      says-as
+      (says-either (not (hasSums l)) (eqb (heldFigure s) (held l s)) (says-not (hasSums l) says-sums) (says-eq (heldFigure s) (held l s)))
+      (λ f room. ⊎-elim (λ (n : 21 ≤ l .pairs → ⊥). absurd (n room)) (λ e. e) f)
+      (λ f. ⊎-elim (λ (h : 21 ≤ l .pairs). inr (f h)) (λ (n : 21 ≤ l .pairs → ⊥). inl n) (decides (hasSums l) says-sums))
 
   says-lie : Says (all (lies l s) (occupied s)) ((k : ℕ) → Occupied s k → (base l ≤ startOf l s k) × (startOf l s k + lengthOf l s k ≤ endOf l s))
   unfolding occupied
@@ -156,19 +170,21 @@ module _ (l : Layout) (s : List ℕ) where
       let f = says-both (isSized l s && headed && roomy && lying && parted && normals) differing e says-different in
       let g = says-both (isSized l s && headed && roomy && lying && parted && normals && differing) blanks f says-blanks in
       let h = says-both (isSized l s && headed && roomy && lying && parted && normals && differing && blanks) zeros g (as-it-stands zeros) in
-      says-as h
+      let i = says-both (isSized l s && headed && roomy && lying && parted && normals && differing && blanks && zeros) (isSummed l s) h says-summed in
+      says-as i
       (λ p.
       record {
-        least = p .0 .0 .0 .0 .0 .0 .0 .0 .0;
-        most = p .0 .0 .0 .0 .0 .0 .0 .0 .1;
-        headed = p .0 .0 .0 .0 .0 .0 .0 .1;
-        room = p .0 .0 .0 .0 .0 .0 .1;
-        lie = p .0 .0 .0 .0 .0 .1;
-        disjoint = p .0 .0 .0 .0 .1;
-        normal = p .0 .0 .0 .1;
-        different = p .0 .0 .1;
-        blank = p .0 .1;
-        zero = p .1;
+        least = p .0 .0 .0 .0 .0 .0 .0 .0 .0 .0;
+        most = p .0 .0 .0 .0 .0 .0 .0 .0 .0 .1;
+        headed = p .0 .0 .0 .0 .0 .0 .0 .0 .1;
+        room = p .0 .0 .0 .0 .0 .0 .0 .1;
+        lie = p .0 .0 .0 .0 .0 .0 .1;
+        disjoint = p .0 .0 .0 .0 .0 .1;
+        normal = p .0 .0 .0 .0 .1;
+        different = p .0 .0 .0 .1;
+        blank = p .0 .0 .1;
+        zero = p .0 .1;
+        summed = p .1;
       })
       (λ q.
-      (((((((((q .least, q .most), q .headed), q .room), q .lie), q .disjoint), q .normal), q .different), q .blank), q .zero))
+      ((((((((((q .least, q .most), q .headed), q .room), q .lie), q .disjoint), q .normal), q .different), q .blank), q .zero), q .summed))

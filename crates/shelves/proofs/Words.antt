@@ -1,10 +1,11 @@
--- Request 2026-04 in its own numbers: what stands where in a shelf of version 1, the sizes, the slots, and the places of its refusals.
--- Assumes nothing.
+-- Requests 2026-04 and 2026-06 in their own numbers: what stands where in a shelf of version 1 and of version 2, the sizes, the slots, the
+-- sums, and the places of the refusals. Assumes nothing.
 use Prim.Native.Nat.{ℕ, _+_, _*_, _/_, _%_, _^_, _≤_, _<_}
 use mathlib.Core.Path.{_≡_, refl, ap, subst}
 use mathlib.Core.Bool.{Bool, true, false, not}
-use mathlib.Core.List.{List, [], _∷_, List·Memᴰ, Memᴰ·map, Memᴰ·of-map}
+use mathlib.Core.List.{List, [], _∷_, _++_, map, List·Memᴰ, Memᴰ·map, Memᴰ·of-map}
 use mathlib.Core.Logic.{_↔_}
+use native.Mathlib.Omega.{arith}
 use lib.Dec.{leb}
 use lib.ListN.{length, replicate}
 use borrow.Author.Tests.{lt-ltb, le-ltb}
@@ -18,9 +19,12 @@ use Rattle.refusals.specs.Refusals.{Stage, met, placeIf}
 use Rattle.answers.specs.Answers.{given, refused}
 use Rattle.shelves.specs.declared.Shelved.the-variants as shelved
 use Rattle.shelves.specs.declared.Slots.the-variants as slots
-use Rattle.shelves.specs.Layout.{versionOne, below, mapOf, bit, isOccupied, Occupied, occupied, free, base, heading, pairPlace, startOf, lengthOf, textOf, kept, endOf}
-use Rattle.shelves.specs.Soundness.{isSized, sound}
-use Rattle.shelves.specs.Answers.{newAt, copyAt, toldShelved, toldSlots, toldOutcome}
+use Rattle.shelves.specs.declared.Summary.{Summary}
+use Rattle.shelves.specs.declared.TwoSums.the-variants as sums
+use Rattle.shelves.specs.Layout.{versionOne, versionTwo, below, total, mapOf, heldFigure, duplicatesOf, bit, isOccupied, Occupied, occupied, free, hasSums, base, heading, pairPlace, startOf, lengthOf, textOf, kept, held, endOf}
+use Rattle.shelves.specs.Soundness.{isSized, isSummed, sound}
+use Rattle.shelves.specs.Summary.{putNew, putCopy, removed, mapAndHeld, duplicatesIn}
+use Rattle.shelves.specs.Answers.{newAt, copyAt, toldShelved, toldSlots, toldSums, toldOutcome}
 use Rattle.shelves.specs.Operations.{pairOf, emptyShelf, unsound, lowestFree, noFreeSlot, noRoom, lengthAnswer, remove}
 use Rattle.shelves.proofs.Passing.{passing-has}
 
@@ -57,6 +61,65 @@ pair-spelled = refl
 pub sized-so : (s : List ℕ) → Says (isSized versionOne s) ((525 ≤ length s) × (length s ≤ 65536))
 unfolding isSized
 sized-so s = says-both (leb 525 (length s)) (leb (length s) 65536) (says-le 525 (length s)) (says-le (length s) 65536)
+
+-- ---- "after the map, 32 bits of text bytes held and 32 bits of duplicates found; texts start at byte 533, which is the new least size"
+
+pub headed-two : heading versionTwo ≡ 69 ∷ 68 ∷ 83 ∷ 0 ∷ 2 ∷ []
+unfolding heading inBytes
+headed-two = refl
+
+pub held-stands : (s : List ℕ) → heldFigure s ≡ numberAt s 13 4
+unfolding heldFigure
+held-stands s = refl
+
+pub duplicates-stand : (s : List ℕ) → duplicatesOf s ≡ numberAt s 17 4
+unfolding duplicatesOf
+duplicates-stand s = refl
+
+pub start-stands-two : (s : List ℕ) (k : ℕ) → startOf versionTwo s k ≡ numberAt s (21 + k * 8) 4
+unfolding startOf pairPlace
+start-stands-two s k = refl
+
+pub length-stands-two : (s : List ℕ) (k : ℕ) → lengthOf versionTwo s k ≡ numberAt s (21 + k * 8 + 4) 4
+unfolding lengthOf pairPlace
+length-stands-two s k = refl
+
+pub texts-begin-two : base versionTwo ≡ 533
+texts-begin-two = refl
+
+pub sized-two : (s : List ℕ) → Says (isSized versionTwo s) ((533 ≤ length s) × (length s ≤ 65536))
+unfolding isSized
+sized-two s = says-both (leb 533 (length s)) (leb (length s) 65536) (says-le 533 (length s)) (says-le (length s) 65536)
+
+-- "The first equals the sum of the lengths, as soundness now asks": in version 2, and nothing more in version 1
+pub summed-two : (s : List ℕ) → Says (isSummed versionTwo s) (numberAt s 13 4 ≡ total (map (lengthOf versionTwo s) (occupied s)))
+unfolding isSummed hasSums heldFigure held
+summed-two s = says-eq (heldFigure s) (held versionTwo s)
+
+pub summed-one : (s : List ℕ) → isSummed versionOne s ≡ true
+unfolding isSummed hasSums
+summed-one s = refl
+
+-- what Put and Remove store: the map and the text bytes held, or the duplicates found; in version 1 the map alone, or nothing
+pub bytes-stored : (u : Summary)
+    → (mapAndHeld versionTwo u ≡ inBytes 8 (u .map) ++ inBytes 4 (u .held)) × (duplicatesIn versionTwo u ≡ inBytes 4 (u .duplicates))
+    × (mapAndHeld versionOne u ≡ inBytes 8 (u .map)) × (duplicatesIn versionOne u ≡ [])
+unfolding mapAndHeld duplicatesIn inBytes
+bytes-stored u = (refl, refl, refl, refl)
+
+-- "rises by one at each put that finds its copy, and stays at 4,294,967,295"
+pub copies-rise : (u : Summary)
+    → (u .duplicates < 4294967295 → putCopy u .duplicates ≡ u .duplicates + 1) × (u .duplicates ≡ 4294967295 → putCopy u .duplicates ≡ 4294967295)
+unfolding putCopy
+copies-rise u = (λ h. omega arith, λ e. omega arith)
+
+-- "alters only the fields that its own work concerns"
+pub fields-stay : (u : Summary) (slot size : ℕ)
+    → (putNew u slot size .duplicates ≡ u .duplicates)
+    × ((putCopy u .map ≡ u .map) × (putCopy u .held ≡ u .held))
+    × (removed u slot size .duplicates ≡ u .duplicates)
+unfolding putNew putCopy removed
+fields-stay u slot size = (refl, (refl, refl), refl)
 
 -- "Start writes an empty shelf": the heading, and zeros
 pub empty-so : emptyShelf versionOne 525 ≡ 69 ∷ 68 ∷ 83 ∷ 0 ∷ 1 ∷ replicate 520 0
@@ -103,10 +166,12 @@ pub told-so : (r : Refusal)
     × (toldShelved (shelved.Refused r) ≡ refused r)
     × (toldSlots (slots.Numbers 5 2) ≡ given (5 ∷ 2 ∷ []))
     × (toldSlots (slots.Refused r) ≡ refused r)
+    × (toldSums (sums.Numbers 93 7) ≡ given (93 ∷ 7 ∷ []))
+    × (toldSums (sums.Refused r) ≡ refused r)
     × (toldOutcome Passed ≡ given [])
     × (toldOutcome (Failed r) ≡ refused r)
-unfolding toldShelved toldSlots toldOutcome newAt copyAt
-told-so r = (refl, refl, refl, refl, refl, refl, refl)
+unfolding toldShelved toldSlots toldSums toldOutcome newAt copyAt
+told-so r = (refl, refl, refl, refl, refl, refl, refl, refl, refl)
 
 -- "Remove answers the length": as Get's companion says it, or what refuses it
 pub remove-so : (s : List ℕ) (slot : ℕ) → remove versionOne s slot ≡ lengthAnswer versionOne s slot

@@ -8,6 +8,8 @@ use Rattle.shelves.specs.declared.Shelved.{Shelved}
 use Rattle.shelves.specs.declared.Shelved.the-variants as shelved
 use Rattle.shelves.specs.declared.Slots.{Slots}
 use Rattle.shelves.specs.declared.Slots.the-variants as slots
+use Rattle.shelves.specs.declared.TwoSums.{TwoSums}
+use Rattle.shelves.specs.declared.TwoSums.the-variants as sums
 
 -- the slot, and 1 for a text that is new, 0 for the copy of one that is there
 unfoldable pub newAt : ℕ → Answer
@@ -24,6 +26,10 @@ toldShelved (shelved.Refused r) = refused r
 unfoldable pub toldSlots : Slots → Answer
 toldSlots (slots.Numbers occupied lowestFree) = given (occupied ∷ lowestFree ∷ [])
 toldSlots (slots.Refused r) = refused r
+
+unfoldable pub toldSums : TwoSums → Answer
+toldSums (sums.Numbers held duplicates) = given (held ∷ duplicates ∷ [])
+toldSums (sums.Refused r) = refused r
 
 -- what Start says
 unfoldable pub toldOutcome : Outcome → Answer

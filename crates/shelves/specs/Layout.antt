@@ -1,10 +1,10 @@
--- Request 2026-04: what stands where in a shelf. Assumes nothing.
+-- Requests 2026-04 and 2026-06: what stands where in a shelf. Assumes nothing.
 use Prim.Native.Nat.{ℕ, zero, suc, _+_, _*_, _/_, _%_, _^_, _<_}
 use mathlib.Core.Path.{_≡_}
 use mathlib.Core.Bool.{Bool, true, false, not}
 use mathlib.Core.List.{List, [], _∷_, _++_, map}
 use lib.ListN.{take, drop}
-use lib.Dec.{eqb}
+use lib.Dec.{eqb, leb}
 use Rattle.lists.specs.Lists.{text, those}
 use Rattle.numbers.specs.Numbers.{numberAt, inBytes}
 
@@ -17,16 +17,26 @@ pub record Layout : Type 0 where
 abbrev pub versionOne : Layout
 versionOne = record { version = 1; pairs = 13 }
 
--- "a lent buffer of 525 to 65,536 bytes": 525 is where the texts begin
+-- "Version 2 of the shelf has, after the map, 32 bits of text bytes held and 32 bits of duplicates found"
+abbrev pub versionTwo : Layout
+versionTwo = record { version = 2; pairs = 21 }
+
+-- "a lent buffer of 525 to 65,536 bytes", "texts start at byte 533, which is the new least size": 525 and 533 are where the texts begin
 abbrev pub mostShelf : ℕ
 mostShelf = 65536
 
 abbrev pub slotCount : ℕ
 slotCount = 64
 
--- where the map stands
+-- where the map stands, and the two sums in the layouts that have them
 abbrev pub mapPlace : ℕ
 mapPlace = 5
+
+abbrev pub heldPlace : ℕ
+heldPlace = 13
+
+abbrev pub duplicatesPlace : ℕ
+duplicatesPlace = 17
 
 -- the numbers below n, from 0
 unfoldable pub below : ℕ → List ℕ
@@ -41,6 +51,13 @@ total (n ∷ ns) = n + total ns
 -- the map of occupied slots
 unfoldable pub mapOf : List ℕ → ℕ
 mapOf s = numberAt s mapPlace 8
+
+-- the text bytes held and the duplicates found, as they stand there
+unfoldable pub heldFigure : List ℕ → ℕ
+heldFigure s = numberAt s heldPlace 4
+
+unfoldable pub duplicatesOf : List ℕ → ℕ
+duplicatesOf s = numberAt s duplicatesPlace 4
 
 -- "slot k is the bit worth 2^k"
 unfoldable pub bit : ℕ → ℕ → Bool
@@ -63,6 +80,10 @@ unfoldable pub free : List ℕ → List ℕ
 free s = those (λ k. not (isOccupied s k)) (below slotCount)
 
 module _ (l : Layout) where
+  -- the pairs leave room for the two sums
+  unfoldable pub hasSums : Bool
+  hasSums = leb (duplicatesPlace + 4) (l .pairs)
+
   -- where the texts begin, and the least size of a shelf
   abbrev pub base : ℕ
   base = l .pairs + 512

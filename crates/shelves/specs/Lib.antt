@@ -1,4 +1,5 @@
 pub mod Layout
 pub mod Soundness
 pub mod Answers
+pub mod Summary
 pub mod Operations

@@ -1,5 +1,5 @@
--- Request 2026-04: Start, Put, Get, Remove, and the two numbers read off the map. Assumes nothing.
-use Prim.Native.Nat.{ℕ, _+_, _-_, _^_}
+-- Requests 2026-04 and 2026-06: Start, Put, Get, Remove, the two numbers read off the map, and the two sums. Assumes nothing.
+use Prim.Native.Nat.{ℕ, _+_, _-_}
 use mathlib.Core.Bool.{not, _&&_}
 use mathlib.Core.List.{List, [], _∷_, _++_}
 use mathlib.Core.Option.{Option}
@@ -15,9 +15,10 @@ use Rattle.stages.specs.Contents.{normalForm}
 use Rattle.stages.specs.Stages.{stages}
 use Rattle.answers.specs.Answers.{Answer, given, refused}
 use Rattle.operations.specs.Judge.{unlessRefused}
-use Rattle.shelves.specs.Layout.{Layout, slotCount, mapPlace, below, mapOf, isOccupied, occupied, free, heading, pairPlace, startOf, lengthOf, textOf, endOf}
+use Rattle.shelves.specs.Layout.{Layout, slotCount, mapPlace, duplicatesPlace, below, duplicatesOf, isOccupied, occupied, free, heading, pairPlace, startOf, lengthOf, textOf, held, endOf}
 use Rattle.shelves.specs.Soundness.{isSized, sound}
 use Rattle.shelves.specs.Answers.{newAt, copyAt}
+use Rattle.shelves.specs.Summary.{summaryOf, putNew, putCopy, removed, mapAndHeld, duplicatesIn}
 
 -- a slot's pair
 unfoldable pub pairOf : (start size : ℕ) → List ℕ
@@ -55,6 +56,10 @@ module _ (l : Layout) where
   unfoldable pub slotsOf : List ℕ → Answer
   slotsOf s = maybe (given (length (occupied s) ∷ lowestFree s ∷ [])) refused (answering (unsound s ∷ []))
 
+  -- the text bytes held and the duplicates found
+  unfoldable pub sumsOf : List ℕ → Answer
+  sumsOf s = maybe (given (held l s ∷ duplicatesOf s ∷ [])) refused (answering (unsound s ∷ []))
+
   -- ---- Put
 
   -- the slot of a text that is kept already
@@ -86,13 +91,16 @@ module _ (l : Layout) where
       let slot = lowestFree s in
       let stored = sets s (endOf l s) form in
       let paired = sets stored (pairPlace l slot) (pairOf (endOf l s) (length form)) in
-      sets paired mapPlace (inBytes 8 (mapOf s + 2 ^ slot))
+      sets paired mapPlace (mapAndHeld l (putNew (summaryOf s) slot (length form)))
+
+  -- a copy was found: only the duplicates figure changes, where the layout has one
+  unfoldable pub withCopy : List ℕ → List ℕ
+  withCopy s = sets s duplicatesPlace (duplicatesIn l (putCopy (summaryOf s)))
 
   unfoldable pub putShelf : (s input : List ℕ) → List ℕ
   putShelf s input =
-      unlessRefused (putRefusal s input)
-      (maybe (withText s (normalForm input)) (λ k. s) (copyOf s (normalForm input)))
-      s
+      let kept = maybe (withText s (normalForm input)) (λ k. withCopy s) (copyOf s (normalForm input)) in
+      unlessRefused (putRefusal s input) kept s
 
   -- ---- Get
 
@@ -135,7 +143,7 @@ module _ (l : Layout) where
   without s slot =
       let moved = sets s (startOf l s slot) (textsWithout s slot) in
       let paired = sets moved (l .pairs) (gather (pairWithout s slot) (below slotCount)) in
-      sets paired mapPlace (inBytes 8 (mapOf s - 2 ^ slot))
+      sets paired mapPlace (mapAndHeld l (removed (summaryOf s) slot (lengthOf l s slot)))
 
   unfoldable pub removeShelf : List ℕ → (slot : ℕ) → List ℕ
   removeShelf s slot = unlessRefused (slotRefusal s slot) (without s slot) s

@@ -10,7 +10,7 @@ use Rattle.refusals.specs.Refusals.{number}
 use Rattle.answers.specs.Answers.{refused, refusedInput}
 use Rattle.surface.specs.Verdicts.{value, refusedVerdict, verdictOf}
 use Rattle.surface.specs.Answered.{writtenOf, comparisonOf, locationOf, listingOf}
-use Rattle.surface.specs.OfShelf.{startedOf, shelvingOf, gotOf, slotNumbersOf}
+use Rattle.surface.specs.OfShelf.{startedOf, shelvingOf, gotOf, slotNumbersOf, sumNumbersOf}
 
 -- no refusal has the number 0
 pub refusal-numbered : (f : Fault) → eqb (number f) 0 ≡ false
@@ -87,3 +87,7 @@ module _ (r : Refusal) {n : ℕ} (e : n ≡ number (r .fault)) where
   pub refused-slots : record { number = n; place = r .place; occupied = 0; lowest = 0 } ≡ slotNumbersOf (refused r)
   unfolding slotNumbersOf value refused
   refused-slots = rw (e, refusal-numbered (r .fault))
+
+  pub refused-sums : record { number = n; held = 0; duplicates = 0; place = r .place } ≡ sumNumbersOf (refused r)
+  unfolding sumNumbersOf value refused
+  refused-sums = rw (e, refusal-numbered (r .fault))

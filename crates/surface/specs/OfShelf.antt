@@ -9,6 +9,7 @@ use Rattle.surface.specs.declared.Started.{Started}
 use Rattle.surface.specs.declared.Shelving.{Shelving}
 use Rattle.surface.specs.declared.Got.{Got}
 use Rattle.surface.specs.declared.SlotNumbers.{SlotNumbers}
+use Rattle.surface.specs.declared.SumNumbers.{SumNumbers}
 
 -- what Start's answer is in a struct
 unfoldable pub startedOf : Answer → Started
@@ -32,3 +33,10 @@ slotNumbersOf a =
     if eqb (a .number) 0
     then record { number = 0; place = 0; occupied = value 0 a; lowest = value 1 a }
     else record { number = a .number; place = value 0 a; occupied = 0; lowest = 0 }
+
+-- what the answer with the two sums is in a struct
+unfoldable pub sumNumbersOf : Answer → SumNumbers
+sumNumbersOf a =
+    if eqb (a .number) 0
+    then record { number = 0; held = value 0 a; duplicates = value 1 a; place = 0 }
+    else record { number = a .number; held = 0; duplicates = 0; place = value 0 a }

@@ -2,6 +2,7 @@
 -- verdicts or normal forms sees when they are old. Assumes nothing.
 use Prim.Native.Nat.{ℕ}
 
--- 1: paper 01 alone; 2: with change request 2026-03, section markers; 3: with change request 2026-01, line breaks between segments
+-- 1: paper 01 alone; 2: with change request 2026-03, section markers; 3: with change request 2026-01, line breaks between segments;
+-- 4: with change request 2026-06, version 2 of the shelf
 abbrev pub rules : ℕ
-rules = 3
+rules = 4

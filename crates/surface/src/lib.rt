@@ -1,6 +1,6 @@
-// The surface: all operations of paper 01, "Operations", of the shelf (request 2026-04) and of mailbox files (request 2026-02), for
-// programs in C and Rust. It promises, for
-// any bytes and any numbers, the paper's answers as the definitions in specs/ lay them out in structs,
+// The surface: all operations of paper 01, "Operations", of the shelf (requests 2026-04 and 2026-06) and of mailbox files (request
+// 2026-02), for programs in C and Rust. It promises, for any bytes and any numbers, the paper's answers as the definitions in specs/ lay them
+// out in structs,
 // and every byte and number of each lent buffer at exit. A slice crosses as a pointer and a length;
 // nothing is asked of what it holds. `laying` makes the structs of the answers.
 ghost use mathlib.Core.Path.{_≡_};
@@ -13,11 +13,11 @@ ghost use Rattle.surface.specs.Verdicts.{verdictOf};
 ghost use Rattle.surface.specs.Answered.{writtenOf, comparisonOf, locationOf, listingOf};
 ghost use Rattle.surface.specs.Parts.{keptOf, partOf};
 ghost use Rattle.surface.specs.Rules.{rules};
-ghost use Rattle.surface.specs.OfShelf.{startedOf, shelvingOf, gotOf, slotNumbersOf};
+ghost use Rattle.surface.specs.OfShelf.{startedOf, shelvingOf, gotOf, slotNumbersOf, sumNumbersOf};
 ghost use Rattle.surface.specs.OfMailbox.{morningOf};
 ghost use Rattle.mailbox_files.specs.Report.{report as reportOf};
-ghost use Rattle.shelves.specs.Layout.{versionOne};
-ghost use Rattle.shelves.specs.Operations.{start as startOf, startShelf, put as putOf, putShelf, gotOffset, gotLength, lengthAnswer, remove as removeOf, removeShelf, slotsOf};
+ghost use Rattle.shelves.specs.Layout.{versionTwo};
+ghost use Rattle.shelves.specs.Operations.{start as startOf, startShelf, put as putOf, putShelf, gotOffset, gotLength, lengthAnswer, remove as removeOf, removeShelf, slotsOf, sumsOf};
 use answers::Stored;
 use laying::comparison_of;
 use laying::listing_of;
@@ -30,6 +30,7 @@ use shelf_laying::got_refused;
 use shelf_laying::shelving_of;
 use shelf_laying::slot_numbers_of;
 use shelf_laying::started_of;
+use shelf_laying::sum_numbers_of;
 
 mod laying;
 mod mailbox_laying;
@@ -159,12 +160,22 @@ pub struct MorningFigures {
     pub longest: usize,
 }
 
+// What a shelf's two sums are: 0, the text bytes held and the duplicates found, which stay at 4,294,967,295; or
+// the refusal's number and place.
+#[repr(C)]
+pub struct SumNumbers {
+    pub number: u32,
+    pub held: u32,
+    pub duplicates: u32,
+    pub place: usize,
+}
+
 // Which rules the answers follow: a caller holds it against the number of the header that it was built with.
 #[no_mangle]
 pub extern "C" fn hverolda_rules() -> u32
     ensures { λ r. ⌜ r ≡ rules ⌝ }
 {
-    3
+    4
 }
 
 #[no_mangle]
@@ -257,14 +268,14 @@ pub extern "C" fn hverolda_write(
 
 #[no_mangle]
 pub extern "C" fn hverolda_shelf_start(shelf: &mut [u8]) -> Started
-    ensures { λ r. ⌜ (r ≡ startedOf (startOf versionOne (now (shelf .entry)))) × (now (shelf .exit) ≡ startShelf versionOne (now (shelf .entry))) ⌝ }
+    ensures { λ r. ⌜ (r ≡ startedOf (startOf versionTwo (now (shelf .entry)))) × (now (shelf .exit) ≡ startShelf versionTwo (now (shelf .entry))) ⌝ }
 {
     started_of(shelf::start(shelf))
 }
 
 #[no_mangle]
 pub extern "C" fn hverolda_shelf_put(shelf: &mut [u8], input: &[u8]) -> Shelving
-    ensures { λ r. ⌜ (r ≡ shelvingOf (putOf versionOne (now (shelf .entry)) (now (input .entry)))) × (now (shelf .exit) ≡ putShelf versionOne (now (shelf .entry)) (now (input .entry))) ⌝ }
+    ensures { λ r. ⌜ (r ≡ shelvingOf (putOf versionTwo (now (shelf .entry)) (now (input .entry)))) × (now (shelf .exit) ≡ putShelf versionTwo (now (shelf .entry)) (now (input .entry))) ⌝ }
 {
     shelving_of(shelf::put(shelf, input))
 }
@@ -273,12 +284,12 @@ pub extern "C" fn hverolda_shelf_put(shelf: &mut [u8], input: &[u8]) -> Shelving
 // it was refused by is said with it.
 #[no_mangle]
 pub extern "C" fn hverolda_shelf_get(shelf: &[u8], slot: usize) -> Got
-    ensures { λ r. ⌜ r ≡ gotOf (lengthAnswer versionOne (now (shelf .entry)) slot) (gotOffset versionOne (now (shelf .entry)) slot) (gotLength versionOne (now (shelf .entry)) slot) ⌝ }
+    ensures { λ r. ⌜ r ≡ gotOf (lengthAnswer versionTwo (now (shelf .entry)) slot) (gotOffset versionTwo (now (shelf .entry)) slot) (gotLength versionTwo (now (shelf .entry)) slot) ⌝ }
 {
     match shelf::measure(shelf, slot) {
         Stored::Refused(refusal) => got_refused(refusal),
         Stored::Length(length) => {
-            let l = shelf_layout::version_one();
+            let l = shelf_layout::version_two();
             got_at(shelf_layout::start_of(shelf, l, slot), length)
         }
     }
@@ -286,14 +297,14 @@ pub extern "C" fn hverolda_shelf_get(shelf: &[u8], slot: usize) -> Got
 
 #[no_mangle]
 pub extern "C" fn hverolda_shelf_remove(shelf: &mut [u8], slot: usize) -> Written
-    ensures { λ r. ⌜ (r ≡ writtenOf (removeOf versionOne (now (shelf .entry)) slot)) × (now (shelf .exit) ≡ removeShelf versionOne (now (shelf .entry)) slot) ⌝ }
+    ensures { λ r. ⌜ (r ≡ writtenOf (removeOf versionTwo (now (shelf .entry)) slot)) × (now (shelf .exit) ≡ removeShelf versionTwo (now (shelf .entry)) slot) ⌝ }
 {
     written_of(shelf::remove(shelf, slot))
 }
 
 #[no_mangle]
 pub extern "C" fn hverolda_shelf_slots(shelf: &[u8]) -> SlotNumbers
-    ensures { λ r. ⌜ r ≡ slotNumbersOf (slotsOf versionOne (now (shelf .entry))) ⌝ }
+    ensures { λ r. ⌜ r ≡ slotNumbersOf (slotsOf versionTwo (now (shelf .entry))) ⌝ }
 {
     slot_numbers_of(shelf::slots(shelf))
 }
@@ -303,4 +314,11 @@ pub extern "C" fn hverolda_report(file: &[u8]) -> MorningFigures
     ensures { λ r. ⌜ r ≡ morningOf (reportOf (now (file .entry))) ⌝ }
 {
     morning_of(report::report(file))
+}
+
+#[no_mangle]
+pub extern "C" fn hverolda_shelf_sums(shelf: &[u8]) -> SumNumbers
+    ensures { λ r. ⌜ r ≡ sumNumbersOf (sumsOf versionTwo (now (shelf .entry))) ⌝ }
+{
+    sum_numbers_of(shelf::sums(shelf))
 }

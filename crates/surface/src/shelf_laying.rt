@@ -3,17 +3,19 @@
 ghost use mathlib.Core.Path.{_≡_};
 ghost use mathlib.Core.List.{[], _∷_};
 ghost use Rattle.answers.specs.Answers.{given, refused};
-ghost use Rattle.shelves.specs.Answers.{toldShelved, toldSlots, toldOutcome};
-ghost use Rattle.surface.specs.OfShelf.{startedOf, shelvingOf, gotOf, slotNumbersOf};
+ghost use Rattle.shelves.specs.Answers.{toldShelved, toldSlots, toldSums, toldOutcome};
+ghost use Rattle.surface.specs.OfShelf.{startedOf, shelvingOf, gotOf, slotNumbersOf, sumNumbersOf};
 use crate::Got;
 use crate::Shelving;
 use crate::SlotNumbers;
 use crate::Started;
+use crate::SumNumbers;
 use crate::laying::refusal_number;
 use refusals::Outcome;
 use refusals::Refusal;
 use shelves::Shelved;
 use shelves::Slots;
+use shelves::TwoSums;
 
 pub fn started_of(outcome: Outcome) -> Started
     ensures { λ r. ⌜ r ≡ startedOf (toldOutcome outcome) ⌝ }
@@ -102,6 +104,25 @@ pub fn slot_numbers_of(slots: Slots) -> SlotNumbers
             place: refusal.place,
             occupied: 0,
             lowest: 0,
+        },
+    }
+}
+
+pub fn sum_numbers_of(sums: TwoSums) -> SumNumbers
+    ensures { λ r. ⌜ r ≡ sumNumbersOf (toldSums sums) ⌝ }
+{
+    match sums {
+        TwoSums::Numbers { held, duplicates } => SumNumbers {
+            number: 0,
+            held,
+            duplicates,
+            place: 0,
+        },
+        TwoSums::Refused(refusal) => SumNumbers {
+            number: refusal_number(refusal),
+            held: 0,
+            duplicates: 0,
+            place: refusal.place,
         },
     }
 }

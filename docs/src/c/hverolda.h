@@ -47,7 +47,7 @@
  * written text fits 32,000 bytes, and what Read stores fits 32,000 bytes and 96,000 numbers, since
  * each value in the input is followed by a separator or a terminator. A table that Write is given has
  * at most 96,000 numbers. What is longer may be given, and is refused. A buffer that is written to
- * may have any length, Read's table with it. A shelf has 525 to 65,536 bytes; one of another size may
+ * may have any length, Read's table with it. A shelf has 533 to 65,536 bytes; one of another size may
  * be given, and is refused. A mailbox file has at most 65,536 bytes; a longer one may be given, and is
  * refused.
  *
@@ -73,10 +73,11 @@ extern "C" {
 #define HVEROLDA_LONGEST 32000
 #define HVEROLDA_LONGEST_TABLE 96000
 
-/* The slots of a shelf, and its fewest and most bytes. */
+/* The slots of a shelf, its fewest and most bytes, and the most duplicates that it tells. */
 #define HVEROLDA_SLOTS 64
-#define HVEROLDA_SMALLEST_SHELF 525
+#define HVEROLDA_SMALLEST_SHELF 533
 #define HVEROLDA_LARGEST_SHELF 65536
+#define HVEROLDA_MOST_DUPLICATES 4294967295
 
 /* The most bytes of a mailbox file. One more than the highest number under which Judge refuses, 13. */
 #define HVEROLDA_LONGEST_FILE 65536
@@ -84,11 +85,11 @@ extern "C" {
 
 /*
  * The number of the rules that this header is for. It rises with each change of an answer, so that
- * whoever stores verdicts or normal forms, and this number beside them, sees when they are old.
- * hverolda_rules tells the archive's: where the two differ, the archive is not this header's, and a
- * number that it answers may be one that is not in it.
+ * whoever stores verdicts, normal forms or shelves, and this number beside them, sees when they are
+ * old. hverolda_rules tells the archive's: where the two differ, the archive is not this header's, and
+ * a number that it answers may be one that is not in it.
  */
-#define HVEROLDA_RULES 3
+#define HVEROLDA_RULES 4
 
 /*
  * Refusals by number, and the place that goes with each. 0 is no refusal.
@@ -147,7 +148,8 @@ enum hverolda_refusal {
     /* The shelf has fewer free bytes than the text needs, and it is not there. Place: the bytes that
        it needs. */
     HVEROLDA_NO_ROOM = 18,
-    /* No sound shelf; Start: fewer than 525 or more than 65,536 bytes. Place: 0. */
+    /* No sound shelf, one of version 1 among them; Start: fewer than 533 or more than 65,536 bytes.
+       Place: 0. */
     HVEROLDA_UNSOUND_SHELF = 19,
     /* The slot is free, or above 63. Place: the slot. */
     HVEROLDA_FREE_SLOT = 20
@@ -271,6 +273,17 @@ typedef struct hverolda_slot_numbers {
 } hverolda_slot_numbers;
 
 /*
+ * A shelf's two sums: how many bytes its texts have together, and how many duplicates were found; or
+ * `number` and `place`. All else is 0.
+ */
+typedef struct hverolda_sum_numbers {
+    uint32_t number;
+    uint32_t held;
+    uint32_t duplicates;
+    size_t place;
+} hverolda_sum_numbers;
+
+/*
  * The morning figures of a mailbox file: how many of its interchanges are accepted; how many are
  * refused under each number, which is the index, 1 to 13 (the one at 0 is 0); and of the accepted ones
  * segments, messages, the total length of their normal forms and the longest of these lengths, 0 where
@@ -379,15 +392,29 @@ hverolda_written hverolda_write(const uint8_t *service, size_t service_length,
                                 uint8_t *output, size_t output_length);
 
 /*
- * A shelf is a buffer that keeps up to 64 normal forms, each once and in a slot of its own: `EDS`, a
- * 16-bit version (1), a 64-bit map of occupied slots (slot k is the bit worth 2^k), 64 pairs of 32-bit
- * start and length, and from byte 525 on the texts. Numbers are big-endian, starts count from the
- * buffer's beginning, and no pointer is in it: a shelf may be copied, stored in a file and mapped.
+ * A shelf is a buffer that keeps up to 64 normal forms, each once and in a slot of its own, and two
+ * sums:
+ *
+ *     from byte 0    `EDS`
+ *     from byte 3    the version, 2                      16 bits
+ *     from byte 5    the map of occupied slots           64 bits, slot k is the bit worth 2^k
+ *     from byte 13   the text bytes held                 32 bits
+ *     from byte 17   the duplicates found                32 bits
+ *     from byte 21   64 pairs of start and length        32 bits each
+ *     from byte 533  the texts
+ *
+ * Numbers are big-endian, starts count from the buffer's beginning, and no pointer is in it: a shelf
+ * may be copied, stored in a file and mapped.
  *
  * It is sound when the occupied texts are normal forms by the rules of the archive, all different,
- * disjoint and together fill the room from byte 525 without gaps, and free pairs and free bytes are
- * zero. Every function but Start asks this first, of any bytes: a shelf that comes from a file or a
- * stranger may be lent as it is. What these functions leave is sound, unless they refuse by 19.
+ * disjoint and together fill the room from byte 533 without gaps, free pairs and free bytes are zero,
+ * and the bytes held are the sum of the lengths; the duplicates found may be any number. Every function
+ * but Start asks this first, of any bytes: a shelf that comes from a file or a stranger may be lent as
+ * it is. What these functions leave is sound, unless they refuse by 19. A shelf of version 1, which had
+ * no sums and its texts from byte 525 on, is refused by 19.
+ *
+ * The duplicates found are the puts that found their copy, since Start. They stay at 4,294,967,295, and
+ * nothing else alters them.
  *
  * Whatever is refused, the shelf keeps all of its bytes.
  */
@@ -395,7 +422,7 @@ hverolda_written hverolda_write(const uint8_t *service, size_t service_length,
 /*
  * Start: writes an empty shelf over `shelf`, whatever was there.
  *
- * Refusals: 19 where it has fewer than 525 bytes or more than 65,536.
+ * Refusals: 19 where it has fewer than 533 bytes or more than 65,536.
  * Afterwards `shelf` holds `EDS`, the version and zeros.
  */
 hverolda_started hverolda_shelf_start(uint8_t *shelf, size_t shelf_length);
@@ -405,8 +432,9 @@ hverolda_started hverolda_shelf_start(uint8_t *shelf, size_t shelf_length);
  * came. A new text goes behind the last one, and into the lowest free slot.
  *
  * Refusals: 19, then Judge's; then, where the text is not there, 17, then 18.
- * Afterwards `shelf` holds the text, its pair and its bit in the map, and is otherwise as it was; where
- * the text was there already it keeps all of its bytes.
+ * Afterwards `shelf` holds the text, its pair and its bit in the map, and the bytes held are more by its
+ * length; all else is as it was. Where the text was there already, the duplicates found are one more,
+ * unless they are 4,294,967,295, and all else is as it was.
  */
 hverolda_shelving hverolda_shelf_put(uint8_t *shelf, size_t shelf_length,
                                      const uint8_t *input, size_t input_length);
@@ -424,8 +452,9 @@ hverolda_got hverolda_shelf_get(const uint8_t *shelf, size_t shelf_length, size_
  * down, and keep their slots; the slot and the bytes are free again.
  *
  * Refusals: 19, then 20.
- * Afterwards the texts behind it, and their starts, are lower by its length; its bit in the map, its
- * pair and as many bytes behind the last text are zero; all else is as it was.
+ * Afterwards the texts behind it, and their starts, are lower by its length, and so are the bytes held;
+ * its bit in the map, its pair and as many bytes behind the last text are zero; all else is as it was,
+ * the duplicates found with it.
  */
 hverolda_written hverolda_shelf_remove(uint8_t *shelf, size_t shelf_length, size_t slot);
 
@@ -435,6 +464,13 @@ hverolda_written hverolda_shelf_remove(uint8_t *shelf, size_t shelf_length, size
  * Refusals: 19.
  */
 hverolda_slot_numbers hverolda_shelf_slots(const uint8_t *shelf, size_t shelf_length);
+
+/*
+ * Sums: how many bytes the texts have together, and how many duplicates were found.
+ *
+ * Refusals: 19.
+ */
+hverolda_sum_numbers hverolda_shelf_sums(const uint8_t *shelf, size_t shelf_length);
 
 /*
  * Report: the morning figures of a mailbox file, which has interchanges end to end.
@@ -503,6 +539,10 @@ HVEROLDA_HOLDS(sizeof(hverolda_slot_numbers) == 32)
 HVEROLDA_HOLDS(offsetof(hverolda_slot_numbers, place) == 8)
 HVEROLDA_HOLDS(offsetof(hverolda_slot_numbers, occupied) == 16)
 HVEROLDA_HOLDS(offsetof(hverolda_slot_numbers, lowest) == 24)
+HVEROLDA_HOLDS(sizeof(hverolda_sum_numbers) == 24)
+HVEROLDA_HOLDS(offsetof(hverolda_sum_numbers, held) == 4)
+HVEROLDA_HOLDS(offsetof(hverolda_sum_numbers, duplicates) == 8)
+HVEROLDA_HOLDS(offsetof(hverolda_sum_numbers, place) == 16)
 HVEROLDA_HOLDS(sizeof(hverolda_morning) == 96)
 HVEROLDA_HOLDS(offsetof(hverolda_morning, accepted) == 4)
 HVEROLDA_HOLDS(offsetof(hverolda_morning, refused) == 8)

@@ -4,9 +4,10 @@
  *     mailbox FILE..
  *
  * puts the interchange of each file on a shelf and says whether it is new or the copy of one that is
- * there, perhaps spelled otherwise; then delivers what is kept: prints each text and takes it away. The
- * exit status is 0 where all are new, 1 where one is a copy or refused, and 2 where that cannot be
- * said: no file is named, one cannot be read, or standard output cannot be written.
+ * there, perhaps spelled otherwise; then says how many are kept, in how many bytes, and how many
+ * duplicates were found, and delivers what is kept: prints each text and takes it away. The exit status
+ * is 0 where all are new, 1 where one is a copy or refused, and 2 where that cannot be said: no file is
+ * named, one cannot be read, or standard output cannot be written.
  *
  *     cc -std=c99 -Wall -Wextra -Wpedantic -o mailbox docs/src/c/shelf.c target/staticlib/libsurface.a
  */
@@ -51,12 +52,15 @@ static bool put(const char *name, size_t length)
     return s.number == HVEROLDA_NOT_REFUSED && s.added;
 }
 
-/* Prints each text that is kept and takes it from the shelf. */
+/* Says what is kept and what was found, prints each text and takes it from the shelf. */
 static void deliver(void)
 {
+    hverolda_sum_numbers sums = hverolda_shelf_sums(shelf, sizeof shelf);
     size_t slot;
 
-    printf("%zu kept:\n", hverolda_shelf_slots(shelf, sizeof shelf).occupied);
+    printf("%zu kept in %u bytes; duplicates found: %u\n",
+           hverolda_shelf_slots(shelf, sizeof shelf).occupied,
+           (unsigned)sums.held, (unsigned)sums.duplicates);
     for (slot = 0; slot < HVEROLDA_SLOTS; slot++) {
         hverolda_got g = hverolda_shelf_get(shelf, sizeof shelf, slot);
 

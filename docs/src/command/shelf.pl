@@ -1,7 +1,8 @@
 #!/usr/bin/env perl
 # shelf.pl HVEROLDA KILLS ROUNDS: the command over a shelf in a file. KILLS runs are killed at random moments, and in each of
 # ROUNDS rounds eight run at once on one file while others are killed beside them. Whatever happens, the file is the shelf that
-# undisturbed runs make, or the one before, and no put is lost; what a killed run leaves, a lock or a file, stops nobody.
+# undisturbed runs make, or the one before, no put is lost and every copy is counted once; what a killed run leaves, a lock or
+# a file, stops nobody.
 # It says what it did in one line, and dies of anything else.
 use strict;
 use warnings;
@@ -78,13 +79,15 @@ sub end { my ($process) = @_; kill 'KILL', $process; ended($process) }
 
 my ($tried, $twin) = ("$folder/tried", "$folder/twin");
 expect("started 30000\n", 0, $_, 'start', 30000) for $tried, $twin;
-my ($before_it, $after_it, $left, $starts) = (0, 0, 0, 0);
+my ($before_it, $after_it, $left, $starts, $copied) = (0, 0, 0, 0, 0);
 # when a run changes the file, in seconds from its beginning: every other moment is close to it
 my $time = time;
 expect("new 0\n", 0, $_, 'put', interchange(0)) for $tried, $twin;
 my $moment = (time - $time) / 2;
 for my $number (1 .. $kills) {
-    my @change = $number % 60 < 40 ? ('put', interchange($number)) : ('remove', $number % 60 - 40);
+    # of four puts the last is a copy of the one before
+    my @change = $number % 60 >= 40 ? ('remove', $number % 60 - 40)
+        : ('put', $number % 4 == 3 ? "$folder/" . ($number - 1) . '.edi' : interchange($number));
     my $before = bytes_of($tried);
     my $process = begin_run($tried, @change);
     sleep $moment * ($number % 2 ? rand 2 : 0.7 + rand 0.6);
@@ -93,6 +96,7 @@ for my $number (1 .. $kills) {
     $left++ if -e "$folder/.tried.hverolda-new";
     expect("occupied \\d+\n(?s:.*)", 0, $tried, 'list');
     my ($answer) = hverolda('shelf', $twin, @change);
+    $copied++ if $answer =~ /^copy /;
     if ($after eq $before) {
         my ($again) = hverolda('shelf', $tried, @change);
         die "again: '$again' for '$answer'\n" unless $again eq $answer;
@@ -112,8 +116,9 @@ for my $number (1 .. $kills) {
     end($process);
     $starts++ if -e $started;
     -e $started ? expect("hverolda: .*: File exists.*\n", 2, $started, 'start', 600) : expect("started 600\n", 0, $started, 'start', 600);
-    expect("occupied 0\nheld 0\nfree 75\n", 0, $started, 'list');
+    expect("occupied 0\nheld 0\nfree 67\nduplicates 0\n", 0, $started, 'list');
 }
+expect("occupied \\d+\nheld \\d+\nfree \\d+\nduplicates $copied\n(?s:.*)", 0, $tried, 'list');
 
 # ---- what a killed run leaves
 
@@ -125,7 +130,7 @@ system 'sh', '-c', $limit, 'sh', $hverolda, 'shelf', $half, 'put', "$folder/0.ed
 die "not killed in the middle: $?\n" unless ($? & 127) == SIGXFSZ;
 my $size = -s "$folder/.half.hverolda-new";
 die "no half file\n" unless $size && $size < 65536;
-expect("occupied 0\nheld 0\nfree 65011\n", 0, $half, 'list');
+expect("occupied 0\nheld 0\nfree 65003\nduplicates 0\n", 0, $half, 'list');
 expect("new 0\n", 0, $half, 'put', "$folder/0.edi");
 die "the half file stays\n" if -e "$folder/.half.hverolda-new";
 system 'sh', '-c', $limit, 'sh', $hverolda, 'shelf', "$folder/none", 'start';
@@ -211,9 +216,10 @@ for my $round (1 .. $rounds) {
         die "slot $slot has what nobody put, or twice\n" unless delete $killed{$text};
         expect("removed \\d+\n", 0, $shared, 'remove', $slot);
     }
-    die "not empty\n" unless bytes_of($shared) eq "EDS\0\1" . "\0" x 65531;
+    # an empty shelf, and in it the duplicates found
+    die "not empty, or not $copies duplicates\n" unless bytes_of($shared) eq "EDS\0\2" . "\0" x 12 . pack('N', $copies) . "\0" x 65515;
     my $beside = "$folder/.shared$round.hverolda-new";
     die "left behind: $beside\n" if -e $beside;
 }
-print "$kills killed: $before_it before the change ($left with a file half done), $after_it after it; " . int($kills / 5) . " killed starts: "
-    . "$starts after it; $rounds times eight at once: nothing lost\n";
+print "$kills killed, $copied of them puts of copies: $before_it before the change ($left with a file half done), $after_it after it; "
+    . int($kills / 5) . " killed starts: $starts after it; $rounds times eight at once: nothing lost\n";

@@ -168,7 +168,7 @@ expect 0 'new 0' '' on "$shelf" put "$x"
 expect 1 'copy 0' '' on "$shelf" put "$respelled"
 expect 1 'copy 0' '' on "$shelf" put <"$work/in-lines"
 expect 1 "$x: copy 0"$'\n'"$plain: new 1"$'\n'"$wrong: refused 12 67 $sentence" '' on "$shelf" put "$x" "$plain" "$wrong"
-expect 0 $'occupied 2\nheld 185\nfree 64826\n0 93\n1 92' '' on "$shelf" list
+expect 0 $'occupied 2\nheld 185\nfree 64818\nduplicates 3\n0 93\n1 92' '' on "$shelf" list
 expect 0 "UNA:+.? '$(cat "$x")" '' on "$shelf" get 0
 cmp -s <(printf "UNA:+.? '" && cat "$x") "$work/out" || complain 'a kept text has a byte besides'
 for slot in 2 63 64 18446744073709551615; do
@@ -176,36 +176,55 @@ for slot in 2 63 64 18446744073709551615; do
     expect 1 "refused 20 $slot no text is kept *" '' on "$shelf" remove "$slot"
 done
 expect 0 'removed 93' '' on "$shelf" remove 0
-expect 0 $'occupied 1\nheld 92\nfree 64919\n1 92' '' on "$shelf" list
+expect 0 $'occupied 1\nheld 92\nfree 64911\nduplicates 3\n1 92' '' on "$shelf" list
 expect 0 'new 0' '' on "$shelf" put "$respelled"
 expect 0 'UNA*A+B*' '' on "$shelf" get 1
 
 # sizes, and a shelf that is full
-for size in 0 524 65537 18446744073709551615; do
+for size in 0 525 532 65537 18446744073709551615; do
     expect 1 "$unsound" '' on "$work/other" start "$size"
 done
 [[ ! -e $work/other ]] || complain 'a file of another size'
-expect 0 'started 525' '' on "$work/least" start 525
+expect 0 'started 533' '' on "$work/least" start 533
 expect 1 'refused 18 93 *' '' on "$work/least" put "$x"
+expect 0 $'occupied 0\nheld 0\nfree 0\nduplicates 0' '' on "$work/least" list
 mkdir "$work/many"
 for number in {100..164}; do
     sed "s/R1/R$number/g" "$x" >"$work/many/$number"
 done
 # each text has 97 bytes
-expect 0 'started 6733' '' on "$work/full" start $((525 + 64 * 97))
+expect 0 'started 6741' '' on "$work/full" start $((533 + 64 * 97))
 expect 0 "*/100: new 0"$'\n'"*/163: new 63" '' on "$work/full" put "$work/many/"1[0-5]? "$work/many/"16[0-3]
 lines 64
 expect 1 'refused 17 64 *' '' on "$work/full" put "$work/many/164"
 expect 1 'copy 63' '' on "$work/full" put "$work/many/163"
-expect 0 $'occupied 64\nheld 6208\nfree 0\n0 97\n*63 97' '' on "$work/full" list
+expect 0 $'occupied 64\nheld 6208\nfree 0\nduplicates 1\n0 97\n*63 97' '' on "$work/full" list
 expect 0 'removed 97' '' on "$work/full" remove 31
 expect 0 'new 31' '' on "$work/full" put "$work/many/164"
 
-# a damaged shelf is refused and left as it is, and so is what is no shelf
+# the duplicates found stay at their most; then a copy changes nothing
+# store FILE PLACE BYTES: bytes as printf spells them
+store() { printf "$3" | dd of="$1" bs=1 seek="$2" conv=notrunc status=none; }
+cp "$shelf" "$work/most"
+store "$work/most" 17 '\377\377\377\376'
+expect 1 'copy 0' '' on "$work/most" put "$x"
+expect 0 $'occupied 2\nheld 185\nfree 64818\nduplicates 4294967295\n*' '' on "$work/most" list
+cp "$work/most" "$work/before"
+expect 1 'copy 0' '' on "$work/most" put "$respelled"
+cmp -s "$work/before" "$work/most" || complain 'more duplicates than can be told'
+
+# a damaged shelf is refused and left as it is, and so is what is no shelf, or one of version 1
 cp "$shelf" "$work/damaged"
-printf V | dd of="$work/damaged" bs=1 seek=525 conv=notrunc status=none
+store "$work/damaged" 533 V
+cp "$shelf" "$work/another-sum"
+store "$work/another-sum" 13 '\0\0\0\272'
 : >"$work/empty"
-for other in damaged empty many/100; do
+{
+    printf 'EDS\0\1\0\0\0\0\0\0\0\1\0\0\2\015\0\0\0\135' && head -c 504 /dev/zero
+    printf "UNA:+.? '" && cat "$x" && head -c 100 /dev/zero
+} >"$work/version-1"
+{ printf 'EDS\0\1' && head -c 520 /dev/zero; } >"$work/empty-1"
+for other in damaged another-sum empty version-1 empty-1 many/100; do
     cp "$work/$other" "$work/before"
     expect 1 "$unsound" '' on "$work/$other" put "$x"
     expect 1 "$unsound" '' on "$work/$other" remove 0
@@ -230,6 +249,7 @@ expect 1 'copy 2' '' on "$shelf" put "$work/many/100"
 limited() { (trap '' XFSZ && ulimit -f 16 && "$@"); }
 cp "$shelf" "$work/before"
 expect 2 '' "hverolda: $shelf: File too large*" limited on "$shelf" put "$work/many/101"
+expect 2 '' "hverolda: $shelf: File too large*" limited on "$shelf" put "$x"
 expect 2 '' "hverolda: $work/other: File too large*" limited on "$work/other" start
 cmp -s "$work/before" "$shelf" || complain 'half a shelf'
 compgen -G "$work/.*.hverolda-*" && complain 'a file is left beside a shelf'
@@ -325,9 +345,9 @@ expect 0 '' 'usage: run_locate *' "$programs/run_locate" 2 2 1234567890 "$x"
 expect 0 '' 'usage: run_compare *' "$programs/run_compare"
 expect 0 '' 'usage: run_compare *' "$programs/run_compare" "$x"
 expect 0 'refused text 16 16' '' "$programs/run_respell" '+*.  ~' "$x"
-expect 0 $'started\nunreadable\nunreadable\nnew 0\ncopy 0\nUNA*\nremoved 93\nslots 0 0' "$trouble" \
-    "$programs/run_shelf" 1000 put "$work/none" put "$work" put "$x" put "$respelled" get 0 remove 0 slots -
-expect 0 'refused 19 0' '' "$programs/run_shelf" 524
+expect 0 $'started\nunreadable\nunreadable\nnew 0\ncopy 0\nsums 93 1\nUNA*\nremoved 93\nslots 0 0\nsums 0 1' "$trouble" \
+    "$programs/run_shelf" 1000 put "$work/none" put "$work" put "$x" put "$respelled" sums - get 0 remove 0 slots - sums -
+expect 0 'refused 19 0' '' "$programs/run_shelf" 532
 expect 0 '' 'usage: run_shelf *' "$programs/run_shelf"
 expect 0 '' 'usage: run_shelf *' "$programs/run_shelf" put "$x"
 expect 0 $'started\nnew 0' '' small "$programs/run_shelf" 65536 put "$work/wide"

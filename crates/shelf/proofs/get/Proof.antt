@@ -1,6 +1,6 @@
 -- `shelf::get` meets its contract: the part that `got` names. Assumes nothing.
 use mathlib.Core.Path.{_≡_, refl, sym, ap, ap₂, subst, _∙_}
-use Rattle.shelves.specs.Layout.{versionOne}
+use Rattle.shelves.specs.Layout.{versionTwo}
 use Rattle.shelf.proofs.Spans.{handed}
 use borrow.Author.Needs.{needs}
 use Rattle.shelf.proofs.get.Statement.{statement}
@@ -25,7 +25,7 @@ returns : tie.Need-returns
 returns c =
     let x = c .before .before .before .before .args in
     let p = c .before .before .got in
-    handed versionOne (x .s) (x .slot) _ (p .ensures .0) (p .ensures .1) refl refl
+    handed versionTwo (x .s) (x .slot) _ (p .ensures .0) (p .ensures .1) refl refl
 
 pub get-spec : {M : Type 1} → statement M
 get-spec =

@@ -1,24 +1,60 @@
--- `shelf::put` meets its contract: `put_into` in the layout of version 1. Assumes nothing.
+-- `shelf::put` meets its contract: 19, or the summary is read from the head and lent. Assumes nothing.
 use native.Mathlib.Omega.{arith}
-use Prim.Native.Nat.{ℕ, _+_, _-_, _*_, _^_, _≤_, _<_}
-use mathlib.Core.Path.{_≡_, refl, sym, ap, ap₂, subst, _∙_}
-use Rattle.shelves.specs.Layout.{Layout}
+use mathlib.Core.Path.{_≡_, refl, sym, ap, subst, _∙_}
+use borrow.Author.Tests.{not-true, not-false}
+use Rattle.shelves.specs.Layout.{Layout, versionTwo}
+use Rattle.shelves.proofs.Sound.{Sound, says-sound}
+use Rattle.shelves.specs.declared.Shelved.{Shelved}
 use Rattle.shelf_contracts.specs.Promises.{Puts}
+use Rattle.shelf.proofs.Lent.{as-two}
+use Rattle.shelf.proofs.Puts.{puts-unsound}
 use borrow.Author.Needs.{needs}
 use Rattle.shelf.proofs.put.Statement.{statement}
 use Rattle.shelf.proofs.put.Tie as tie
 
-version-one-requires : tie.Need-version-one-requires
-version-one-requires c κs = search needs
+version-two-requires : tie.Need-version-two-requires
+version-two-requires c κs = search needs
 
-put-into-requires : tie.Need-put-into-requires
-put-into-requires c κs = omega (arith, ap (λ (l : Layout). l .pairs) (c .version-one .ensures))
+is-sound-requires : tie.Need-is-sound-requires
+is-sound-requires c κs = omega (arith, ap (λ (l : Layout). l .pairs) (c .version-two .ensures))
 
 same-length : tie.Need-same-length
 same-length c = search needs
 
 returns : tie.Need-returns
-returns c = let x = c .before .before .before .before .before .before .before .args in subst (λ (l : Layout). Puts l (x .s .now) (x .input .now) (c .before .before .put-into .result) (c .before .before .put-into .last .0)) (c .before .before .before .version-one .ensures) (c .before .before .put-into .ensures)
+returns c =
+    let x = c .before .before .before .before .before .before .args in
+    let s = x .s .now in
+    puts-unsound versionTwo s (x .input .now) refl (as-two s (c .before .before .version-two .ensures) (c .before .is-sound .ensures) (not-true (c .before .is-sound .result) (c .if1 .taken)))
+
+head-of-requires : tie.Need-head-of-requires
+head-of-requires c κs = let s = c .before .before .before .before .before .before .before .args .s .now in omega (arith, says-sound versionTwo s .0 (as-two s (c .before .before .before .version-two .ensures) (c .before .before .is-sound .ensures) (not-false (c .before .before .is-sound .result) (c .before .if1 .left))) .least)
+
+put-on-requires : tie.Need-put-on-requires
+put-on-requires c κs = let s = c .before .before .before .before .before .before .before .before .before .args .s .now in (as-two s (c .before .before .before .before .before .version-two .ensures) (c .before .before .before .before .is-sound .ensures) (not-false (c .before .before .before .before .is-sound .result) (c .before .before .before .if1 .left)), c .before .head-of .ensures)
+
+shelved-of-requires : tie.Need-shelved-of-requires
+shelved-of-requires c κs = search needs
+
+same-length-2 : tie.Need-same-length-2
+same-length-2 c = search needs
+
+returns-2 : tie.Need-returns-2
+returns-2 c =
+    let x = c .before .before .before .before .before .before .before .before .before .before .before .before .before .args in
+    let on = c .before .before .before .put-on in
+    subst (λ (r : Shelved). Puts versionTwo (x .s .now) (x .input .now) r (on .last .0)) (sym (c .shelved-of .ensures)) (on .ensures)
 
 pub put-spec : {M : Type 1} → statement M
-put-spec = tie.close (tie.spec version-one-requires put-into-requires same-length returns)
+put-spec =
+    tie.close
+    (tie.spec
+    version-two-requires
+    is-sound-requires
+    same-length
+    returns
+    head-of-requires
+    put-on-requires
+    shelved-of-requires
+    same-length-2
+    returns-2)

@@ -18,11 +18,11 @@ got-refused-requires c κs = search needs
 enum-known-length : tie.Need-enum-known-length
 enum-known-length c = search needs
 
-version-one-requires : tie.Need-version-one-requires
-version-one-requires c κs = search needs
+version-two-requires : tie.Need-version-two-requires
+version-two-requires c κs = search needs
 
 start-of-requires : tie.Need-start-of-requires
-start-of-requires c κs = let x = c .before .before .before .before .before .before .args in told-range (x .shelf .now) (x .slot) (c .version-one .ensures) (c .before .before .before .before .measure .ensures) (c .before .before .length .given .1)
+start-of-requires c κs = let x = c .before .before .before .before .before .before .args in told-range (x .shelf .now) (x .slot) (c .version-two .ensures) (c .before .before .before .before .measure .ensures) (c .before .before .length .given .1)
 
 got-at-requires : tie.Need-got-at-requires
 got-at-requires c κs = search needs
@@ -31,7 +31,7 @@ returns : tie.Need-returns
 returns c = let x = c .before .before .before .before .before .before .args in c .got-refused .ensures ∙ told-refused (x .shelf .now) (x .slot) (c .before .before .before .before .measure .ensures) (c .before .before .refusal .given .1)
 
 returns-2 : tie.Need-returns-2
-returns-2 c = let x = c .before .before .before .before .before .before .before .before .args in c .got-at .ensures ∙ told-part (x .shelf .now) (x .slot) (c .before .before .version-one .ensures) (c .before .start-of .ensures .0) (c .before .before .before .before .before .before .measure .ensures) (c .before .before .before .before .length .given .1)
+returns-2 c = let x = c .before .before .before .before .before .before .before .before .args in c .got-at .ensures ∙ told-part (x .shelf .now) (x .slot) (c .before .before .version-two .ensures) (c .before .start-of .ensures .0) (c .before .before .before .before .before .before .measure .ensures) (c .before .before .before .before .length .given .1)
 
 pub hverolda-shelf-get-spec : {M : Type 1} → statement M
 hverolda-shelf-get-spec =
@@ -41,7 +41,7 @@ hverolda-shelf-get-spec =
     enum-known-refusal
     got-refused-requires
     enum-known-length
-    version-one-requires
+    version-two-requires
     start-of-requires
     got-at-requires
     returns

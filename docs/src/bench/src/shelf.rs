@@ -1,7 +1,8 @@
 //! The operations of full shelves of 65,536 bytes, against Judge over the same
 //! bytes: the kept texts, and what is put.
 //!
-//! Change request 2026-04, "The shelf".
+//! Change requests 2026-04, "The shelf", and 2026-06, "A shelf that knows its
+//! own sums".
 
 use std::time::Instant;
 
@@ -109,7 +110,7 @@ fn filled(full: &Full) -> Vec<u8> {
     ours
 }
 
-const NAMES: [&str; 9] = [
+const NAMES: [&str; 10] = [
     "judge, the kept texts",
     "judge, the copy",
     "judge, the new text",
@@ -118,11 +119,13 @@ const NAMES: [&str; 9] = [
     "put, a new text",
     "get",
     "remove",
+    "sums",
     "slots",
 ];
 
 /// The shortest time of each.
 fn least(full: &Full, shelf: &mut [u8], rounds: usize) -> [u64; NAMES.len()] {
+    let bytes = full.texts.iter().map(Vec::len).sum();
     let last = full.texts.len() - 1;
     let copy = &full.texts[last];
     let mut other = shelf.to_vec();
@@ -145,6 +148,7 @@ fn least(full: &Full, shelf: &mut [u8], rounds: usize) -> [u64; NAMES.len()] {
             }
             6 => opaque(surface::get(opaque(shelf), last)).is_ok(),
             7 => opaque(surface::remove(&mut other, 0)) == Ok(full.texts[0].len()),
+            8 => opaque(surface::sums(opaque(shelf))).map(|(held, _)| held) == Ok(bytes),
             _ => opaque(surface::slots(opaque(shelf))).is_ok(),
         };
         least[function] = least[function].min(began.elapsed().as_nanos() as u64);

@@ -70,6 +70,14 @@ struct SlotNumbers {
 }
 
 #[repr(C)]
+struct SumNumbers {
+    number: u32,
+    held: u32,
+    duplicates: u32,
+    place: usize,
+}
+
+#[repr(C)]
 struct MorningNumbers {
     number: u32,
     accepted: u32,
@@ -105,6 +113,7 @@ extern "C" {
     fn hverolda_shelf_get(shelf: *const u8, size: usize, slot: usize) -> GetNumbers;
     fn hverolda_shelf_remove(shelf: *mut u8, size: usize, slot: usize) -> NormaliseNumbers;
     fn hverolda_shelf_slots(shelf: *const u8, size: usize) -> SlotNumbers;
+    fn hverolda_shelf_sums(shelf: *const u8, size: usize) -> SumNumbers;
     fn hverolda_report(file: *const u8, length: usize) -> MorningNumbers;
 }
 
@@ -195,6 +204,13 @@ pub fn slots(shelf: &[u8]) -> Answer<(usize, usize)> {
     // SAFETY: as in `judge`.
     let answer = unsafe { hverolda_shelf_slots(shelf.as_ptr(), shelf.len()) };
     told(answer.number, answer.place, (answer.occupied, answer.lowest))
+}
+
+/// How many bytes a shelf holds, and how many duplicates were found.
+pub fn sums(shelf: &[u8]) -> Answer<(usize, u32)> {
+    // SAFETY: as in `judge`.
+    let answer = unsafe { hverolda_shelf_sums(shelf.as_ptr(), shelf.len()) };
+    told(answer.number, answer.place, (answer.held as usize, answer.duplicates))
 }
 
 /// Interchanges accepted and refused, and the total of normal lengths.

@@ -1,7 +1,7 @@
 use std::ffi::{OsStr, OsString};
 use std::io;
 
-use hverolda::{Refusal, Shelf, Shelved, LARGEST_SHELF, SLOTS, SMALLEST_SHELF};
+use hverolda::{Refusal, Shelf, Shelved, Slots, Sums, LARGEST_SHELF, SLOTS, SMALLEST_SHELF};
 
 use crate::input::{try_each, Input, ROOM};
 use crate::locate::number;
@@ -15,19 +15,20 @@ pub const COMMAND: Command = Command {
     help: "\
 Keeps interchanges in a file, SHELF, each once.
 
-start    makes SHELF, a file that is not there yet, an empty shelf of SIZE bytes: 525 to
+start    makes SHELF, a file that is not there yet, an empty shelf of SIZE bytes: 533 to
          65536, which it is where no SIZE is given. Prints started SIZE.
 put      keeps the interchange of each FILE. Prints new SLOT; or copy SLOT where the same
-         interchange is kept already, under whatever spelling; or refused NUMBER PLACE and
-         why. The status is 1 for a copy and for a refusal.
+         interchange is kept already, under whatever spelling, and counts a duplicate; or
+         refused NUMBER PLACE and why. The status is 1 for a copy and for a refusal.
 get      writes the text that a slot keeps, a normal form, with no byte besides.
 remove   takes it away. Prints removed LENGTH.
 list     prints lines of a name and a number: occupied, how many of the 64 slots are;
-         held, the bytes of all texts; free, the bytes that are left; and for each
-         occupied slot its number and the length of its text.
+         held, the bytes of all texts; free, the bytes that are left; duplicates, how many
+         copies were put since start, up to 4294967295; and for each occupied slot its
+         number and the length of its text.
 
 A shelf that is not sound, so that no text of it can be trusted, is refused by 19 and left
-as it is. Slots are 0 to 63.
+as it is; so is one of version 1, which counted no duplicates. Slots are 0 to 63.
 
 SHELF is replaced as a whole: whatever stops a run, it holds the old shelf or the new one.
 What was done is printed when it is on the disk. Runs that change one SHELF wait for each
@@ -100,21 +101,25 @@ fn remove(output: &mut Output, name: &OsStr, slot: usize) -> Result<Status, Trou
 
 fn list(output: &mut Output, name: &OsStr) -> Result<Status, Trouble> {
     let shelf = Shelf::over(shelf_file::read(name).map_err(trouble(name))?);
-    let said = match shelf.slots() {
-        Ok(slots) => {
-            let text = |slot| Some((slot, shelf.get(slot).ok()?.len()));
-            let texts: Vec<(usize, usize)> = (0..SLOTS).filter_map(text).collect();
-            let held: usize = texts.iter().map(|(_, length)| length).sum();
-            let free = shelf.as_bytes().len() - SMALLEST_SHELF - held;
-            let mut lines = format!("occupied {}\nheld {held}\nfree {free}\n", slots.occupied);
-            for (slot, length) in texts {
-                lines += &format!("{slot} {length}\n");
-            }
-            Said::Text(lines.into_bytes())
-        }
+    let said = match figures(&shelf) {
+        Ok(lines) => Said::Text(lines.into_bytes()),
         Err(refusal) => Said::NoText("refused", refusal),
     };
     output.say(&alone(name), said)
+}
+
+/// The lines of a name and a number, and those of the texts.
+fn figures(shelf: &Shelf<Vec<u8>>) -> Result<String, Refusal> {
+    let (Slots { occupied, .. }, Sums { held, duplicates }) = (shelf.slots()?, shelf.sums()?);
+    let free = shelf.as_bytes().len() - SMALLEST_SHELF - held;
+    let mut lines =
+        format!("occupied {occupied}\nheld {held}\nfree {free}\nduplicates {duplicates}\n");
+    for slot in 0..SLOTS {
+        if let Ok(text) = shelf.get(slot) {
+            lines += &format!("{slot} {}\n", text.len());
+        }
+    }
+    Ok(lines)
 }
 
 /// Does something to a shelf's file while no other run does.

@@ -2,9 +2,10 @@
 //!
 //! `cargo run --example shelf FILE..` puts the interchange of each file on a
 //! shelf and says whether it is new or the copy of one that is there, perhaps
-//! spelled otherwise; then delivers what is kept: prints each text and takes it
-//! away. The exit status is 0 where all are new, 1 where one is a copy or
-//! refused, and 2 where that cannot be said: no file is named, one cannot be
+//! spelled otherwise; then says how many are kept, in how many bytes, and how
+//! many duplicates were found, and delivers what is kept: prints each text and
+//! takes it away. The exit status is 0 where all are new, 1 where one is a copy
+//! or refused, and 2 where that cannot be said: no file is named, one cannot be
 //! read, or standard output cannot be written.
 
 use std::env;
@@ -14,7 +15,7 @@ use std::io::{self, Read, Write};
 use std::path::{Path, PathBuf};
 use std::process::ExitCode;
 
-use hverolda::{Refusal, Shelf, Shelved, LARGEST_SHELF, LONGEST, SLOTS};
+use hverolda::{Refusal, Shelf, Shelved, Sums, LARGEST_SHELF, LONGEST, SLOTS};
 
 fn main() -> ExitCode {
     let names: Vec<PathBuf> = env::args_os().skip(1).map(PathBuf::from).collect();
@@ -67,9 +68,11 @@ fn load(name: &Path) -> Result<Vec<u8>, String> {
     }
 }
 
-/// Says each text that is kept and takes it from the shelf.
+/// Says what is kept and what was found, and each text, and takes it from the shelf.
 fn deliver(shelf: &mut Shelf<Vec<u8>>, said: &mut Vec<u8>) -> Result<(), Refusal> {
-    said.extend(format!("{} kept:\n", shelf.slots()?.occupied).bytes());
+    let (occupied, Sums { held, duplicates }) = (shelf.slots()?.occupied, shelf.sums()?);
+    let figures = format!("{occupied} kept in {held} bytes; duplicates found: {duplicates}\n");
+    said.extend(figures.bytes());
     for slot in 0..SLOTS {
         if let Ok(text) = shelf.get(slot) {
             said.extend(text);

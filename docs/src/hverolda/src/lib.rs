@@ -69,7 +69,7 @@ pub use normalising::{normal_form, normalise};
 pub use reading::{read, values, Listing};
 pub use refusal::{Fault, Refusal};
 pub use reporting::{report, Report};
-pub use shelf::{Shelf, Shelved, Slots};
+pub use shelf::{Shelf, Shelved, Slots, Sums};
 pub use value_list::{Kind, UnknownKind, ValueList, Values};
 pub use writing::{text_of, write};
 
@@ -83,10 +83,13 @@ pub const LONGEST_TABLE: usize = 96_000;
 pub const SLOTS: usize = 64;
 
 /// The fewest bytes of a shelf: those of one that can keep no text.
-pub const SMALLEST_SHELF: usize = 525;
+pub const SMALLEST_SHELF: usize = 533;
 
 /// The most bytes of a shelf.
 pub const LARGEST_SHELF: usize = 65_536;
+
+/// The most duplicates that a shelf tells: there the figure stays.
+pub const MOST_DUPLICATES: u32 = 4_294_967_295;
 
 /// The longest mailbox file that [`report()`] takes, in bytes (its refusal 1).
 pub const LONGEST_FILE: usize = 65_536;
@@ -94,7 +97,7 @@ pub const LONGEST_FILE: usize = 65_536;
 /// The number of the rules that this crate was written for. It rises with each
 /// change of an answer: whoever stores verdicts or normal forms stores it beside
 /// them, and sees when they are old. See [`rules()`].
-pub const RULES: u32 = 3;
+pub const RULES: u32 = 4;
 
 /// The number of the rules that the linked archive follows. Where it is above
 /// [`RULES`], a [`Fault`] or a [`Kind`] may be one that this crate does not know.

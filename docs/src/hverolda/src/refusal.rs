@@ -49,7 +49,8 @@ pub enum Fault {
     NoSlot,
     /// 18: the shelf has fewer free bytes than the text needs.
     NoRoom,
-    /// 19: there is no sound shelf, or a buffer is none of a shelf's sizes.
+    /// 19: there is no sound shelf of version 2, or a buffer is none of a shelf's
+    /// sizes.
     Shelf,
     /// 20: the slot is free, or there is none of that number.
     Slot,
@@ -79,7 +80,7 @@ const FAULTS: [(Fault, &str); 20] = [
     (Fault::NoRelease, "a service character stands in a value, with none to release it"),
     (Fault::NoSlot, "all 64 slots of the shelf are occupied"),
     (Fault::NoRoom, "the shelf has too few free bytes"),
-    (Fault::Shelf, "there is no sound shelf of 525 to 65536 bytes"),
+    (Fault::Shelf, "there is no sound shelf of version 2 with 533 to 65536 bytes"),
     (Fault::Slot, "no text is kept in this slot"),
 ];
 
@@ -222,7 +223,10 @@ mod tests {
         assert!(sentence(16, 7).starts_with("refused 16 at record 7: "));
         assert_eq!(sentence(17, 64), "refused 17: all 64 slots of the shelf are occupied");
         assert_eq!(sentence(18, 93), "refused 18: the shelf has too few free bytes: 93 are needed");
-        assert_eq!(sentence(19, 0), "refused 19: there is no sound shelf of 525 to 65536 bytes");
+        assert_eq!(
+            sentence(19, 0),
+            "refused 19: there is no sound shelf of version 2 with 533 to 65536 bytes"
+        );
         assert_eq!(sentence(20, 63), "refused 20 at slot 63: no text is kept in this slot");
     }
 

@@ -8,7 +8,8 @@ use crate::{surface, SLOTS};
 pub enum Shelved {
     /// Its normal form was not there: it is now, in this slot.
     New(usize),
-    /// Its normal form was there already, in this slot; nothing has changed.
+    /// Its normal form was there already, in this slot: one more duplicate was
+    /// found, and nothing else has changed.
     Copy(usize),
 }
 
@@ -32,15 +33,27 @@ pub struct Slots {
     pub lowest_free: Option<usize>,
 }
 
+/// The two sums that a shelf keeps of itself.
+#[derive(Clone, Copy, Debug, PartialEq, Eq, Hash)]
+pub struct Sums {
+    /// How many bytes the kept texts have together.
+    pub held: usize,
+    /// How many puts found their copy since the shelf was started; it stays at
+    /// [`MOST_DUPLICATES`](crate::MOST_DUPLICATES).
+    pub duplicates: u32,
+}
+
 /// A shelf over a buffer that is lent (`&mut [u8]`) or owned (`Vec<u8>`,
-/// `Box<[u8]>`, `[u8; N]`). It keeps up to 64 normal forms, all different.
+/// `Box<[u8]>`, `[u8; N]`). It keeps up to 64 normal forms, all different, and
+/// counts the duplicates that it finds.
 ///
 /// Each call judges the whole shelf first, whatever its bytes are, and refuses
 /// one that is not sound by 19: bytes that come from a file or from somebody
-/// else may be wrapped as they are.
+/// else may be wrapped as they are. A shelf of version 1, which had no sums, is
+/// refused by 19 too.
 ///
 /// ```
-/// use hverolda::{Shelf, Shelved};
+/// use hverolda::{Shelf, Shelved, Sums};
 ///
 /// let first = b"UNB+UNOA:1++++1'UNH+1'UNT+2+1'UNZ+1+1'";
 /// let second = b"UNA;*.! ~UNB*UNOA;1****1~UNH*1~UNT*2*1~UNZ*1*1~";
@@ -48,7 +61,9 @@ pub struct Slots {
 /// assert_eq!(shelf.put(first)?, Shelved::New(0));
 /// assert_eq!(shelf.put(second)?, Shelved::Copy(0));
 /// assert_eq!(shelf.get(0)?, b"UNA:+.? 'UNB+UNOA:1++++1'UNH+1'UNT+2+1'UNZ+1+1'");
+/// assert_eq!(shelf.sums()?, Sums { held: 47, duplicates: 1 });
 /// assert_eq!(shelf.remove(0)?, 47);
+/// assert_eq!(shelf.sums()?, Sums { held: 0, duplicates: 1 });
 /// # Ok::<(), hverolda::Refusal>(())
 /// ```
 #[derive(Clone, Debug, PartialEq, Eq)]
@@ -87,6 +102,17 @@ impl<B: AsRef<[u8]>> Shelf<B> {
         Ok(Slots { occupied: told.occupied, lowest_free })
     }
 
+    /// How many bytes are held, and how many duplicates were found.
+    ///
+    /// # Errors
+    ///
+    /// 19 where the shelf is not sound.
+    pub fn sums(&self) -> Result<Sums, Refusal> {
+        let told = surface::shelf_sums(self.as_bytes());
+        Refusal::told(told.number, told.place)?;
+        Ok(Sums { held: told.held as usize, duplicates: told.duplicates })
+    }
+
     /// The text that is kept in a slot.
     ///
     /// # Errors
@@ -101,11 +127,11 @@ impl<B: AsRef<[u8]>> Shelf<B> {
 }
 
 impl<B: AsRef<[u8]> + AsMut<[u8]>> Shelf<B> {
-    /// Writes an empty shelf over the buffer.
+    /// Writes an empty shelf over the buffer; no duplicates were found.
     ///
     /// # Errors
     ///
-    /// 19 where the buffer has fewer than 525 bytes or more than 65,536; its bytes
+    /// 19 where the buffer has fewer than 533 bytes or more than 65,536; its bytes
     /// are then unchanged.
     pub fn start(mut buffer: B) -> Result<Shelf<B>, Refusal> {
         let told = surface::shelf_start(buffer.as_mut());
@@ -113,7 +139,8 @@ impl<B: AsRef<[u8]> + AsMut<[u8]>> Shelf<B> {
         Ok(Shelf { buffer })
     }
 
-    /// Keeps an interchange, unless its normal form is there already.
+    /// Keeps an interchange, unless its normal form is there already: then the
+    /// duplicates found are one more.
     ///
     /// # Errors
     ///
@@ -131,7 +158,8 @@ impl<B: AsRef<[u8]> + AsMut<[u8]>> Shelf<B> {
     }
 
     /// Takes the text of a slot away and answers how long it was. Its slot and its
-    /// bytes are free again; the other texts keep their slots.
+    /// bytes are free again; the other texts keep their slots, and the duplicates
+    /// found stay.
     ///
     /// # Errors
     ///
@@ -148,7 +176,7 @@ impl<B: AsRef<[u8]> + AsMut<[u8]>> Shelf<B> {
 mod tests {
     use super::*;
     use crate::examples::{NORMAL, RESPELLED, WRONG_COUNT, X};
-    use crate::{LARGEST_SHELF, SMALLEST_SHELF};
+    use crate::{LARGEST_SHELF, MOST_DUPLICATES, SMALLEST_SHELF};
 
     fn refusal<T: std::fmt::Debug>(result: Result<T, Refusal>) -> (u32, usize) {
         let refusal = result.unwrap_err();
@@ -169,6 +197,16 @@ mod tests {
         let mut shelf = Shelf::start(vec![7; 1_000]).unwrap();
         assert_eq!(shelf.put(X), Ok(Shelved::New(0)));
         assert_eq!(shelf.put(&numbered(1).0), Ok(Shelved::New(1)));
+        shelf
+    }
+
+    fn sums(held: usize, duplicates: u32) -> Result<Sums, Refusal> {
+        Ok(Sums { held, duplicates })
+    }
+
+    /// The shelf with this figure of duplicates found.
+    fn with_duplicates(mut shelf: Shelf<Vec<u8>>, figure: u32) -> Shelf<Vec<u8>> {
+        shelf.buffer[17..21].copy_from_slice(&figure.to_be_bytes());
         shelf
     }
 
@@ -194,32 +232,62 @@ mod tests {
     fn start_writes_over_any_bytes() {
         for size in [SMALLEST_SHELF, 1_000, LARGEST_SHELF] {
             let shelf = Shelf::start(vec![0xA5; size]).unwrap();
-            let empty = [&b"EDS\x00\x01"[..], &vec![0; size - 5]].concat();
+            let empty = [&b"EDS\x00\x02"[..], &vec![0; size - 5]].concat();
             assert_eq!(shelf.as_bytes(), empty);
             assert_eq!(shelf.slots(), Ok(Slots { occupied: 0, lowest_free: Some(0) }));
+            assert_eq!(shelf.sums(), sums(0, 0));
         }
     }
 
     #[test]
     fn a_buffer_of_another_size_is_left_alone() {
-        for size in [0, 1, SMALLEST_SHELF - 1, LARGEST_SHELF + 1] {
+        for size in [0, 1, 525, SMALLEST_SHELF - 1, LARGEST_SHELF + 1] {
             let mut buffer = vec![0xA5; size];
             assert_eq!(refusal(Shelf::start(&mut buffer[..])), (19, 0));
             assert_eq!(buffer, vec![0xA5; size]);
             assert_eq!(refusal(Shelf::over(&buffer).slots()), (19, 0));
+            assert_eq!(refusal(Shelf::over(&buffer).sums()), (19, 0));
         }
     }
 
     #[test]
-    fn a_copy_under_another_spelling_changes_nothing() {
+    fn a_copy_under_another_spelling_raises_the_figure_alone() {
         let mut shelf = two_texts();
-        let before = shelf.clone();
-        for spelling in [X, RESPELLED, NORMAL] {
+        assert_eq!(shelf.sums(), sums(93 + 99, 0));
+        for (copies, spelling) in [(1, X), (2, RESPELLED), (3, NORMAL)] {
             assert_eq!(shelf.put(spelling), Ok(Shelved::Copy(0)));
+            assert_eq!(shelf.sums(), sums(93 + 99, copies));
         }
         assert_eq!(shelf.put(&numbered(1).1).map(Shelved::slot), Ok(1));
-        assert_eq!(shelf, before);
+        assert_eq!(shelf, with_duplicates(two_texts(), 4));
         assert_eq!(shelf.slots(), Ok(Slots { occupied: 2, lowest_free: Some(2) }));
+    }
+
+    #[test]
+    fn the_figure_stays_at_its_most() {
+        for before in [0, 255, 65_535, u32::MAX - 2, u32::MAX - 1, u32::MAX] {
+            let mut shelf = with_duplicates(two_texts(), before);
+            assert_eq!(shelf.sums(), sums(93 + 99, before));
+            for copies in 1..=3 {
+                assert_eq!(shelf.put(X), Ok(Shelved::Copy(0)));
+                let figure = (MOST_DUPLICATES - before).min(copies) + before;
+                assert_eq!(shelf.sums(), sums(93 + 99, figure));
+            }
+        }
+        assert_eq!(MOST_DUPLICATES, u32::MAX);
+    }
+
+    #[test]
+    fn what_is_refused_or_new_or_removed_leaves_the_figure() {
+        let mut shelf = with_duplicates(two_texts(), 7);
+        let before = shelf.clone();
+        assert_eq!(refusal(shelf.put(WRONG_COUNT)), (12, 67));
+        assert_eq!(refusal(shelf.remove(2)), (20, 2));
+        assert_eq!(shelf, before);
+        assert_eq!(shelf.put(&numbered(2).0), Ok(Shelved::New(2)));
+        assert_eq!(shelf.sums(), sums(93 + 99 + 99, 7));
+        assert_eq!(shelf.remove(0), Ok(93));
+        assert_eq!(shelf.sums(), sums(99 + 99, 7));
     }
 
     #[test]
@@ -256,9 +324,10 @@ mod tests {
             let before = shelf.clone();
             assert_eq!(shelf.slots(), Ok(Slots { occupied: SLOTS, lowest_free: None }));
             assert_eq!(refusal(shelf.put(X)), (17, 64));
-            assert_eq!(shelf.put(&numbered(63).1), Ok(Shelved::Copy(63)));
             assert_eq!(refusal(shelf.put(WRONG_COUNT)), (12, 67));
             assert_eq!(shelf, before);
+            assert_eq!(shelf.put(&numbered(63).1), Ok(Shelved::Copy(63)));
+            assert_eq!(shelf, with_duplicates(before, 1));
         }
         let mut shelf = Shelf::start(vec![0; SMALLEST_SHELF + 92]).unwrap();
         assert_eq!(refusal(shelf.put(X)), (18, NORMAL.len()));
@@ -279,8 +348,10 @@ mod tests {
     fn a_damaged_shelf_is_refused_before_all_else() {
         let sound = two_texts().into_inner();
         let first = SMALLEST_SHELF;
-        // the beginning, the version, the map, a start, a length, a free entry, a text, a free byte
-        for place in [0, 4, 12, 16, 20, 13 + 8 * 63, first, first + 92, first + 93 + 99, 999] {
+        // the beginning, the version, the map, the bytes held, a start, a length, a free entry, a
+        // text, a free byte
+        let places = [0, 4, 12, 16, 24, 28, 21 + 8 * 63, first, first + 92, first + 93 + 99, 999];
+        for place in places {
             let mut damaged = sound.clone();
             damaged[place] ^= 1;
             let before = damaged.clone();
@@ -289,7 +360,48 @@ mod tests {
             assert_eq!(refusal(shelf.remove(64)), (19, 0));
             assert_eq!(refusal(shelf.get(0)), (19, 0));
             assert_eq!(refusal(shelf.slots()), (19, 0));
+            assert_eq!(refusal(shelf.sums()), (19, 0));
             assert_eq!(damaged, before);
+        }
+    }
+
+    #[test]
+    fn a_held_figure_that_is_wrong_by_one_is_refused() {
+        for held in [93 + 99 - 1, 93 + 99 + 1, 0, 93 + 99 + 65_536, u32::MAX] {
+            let mut shelf = two_texts();
+            shelf.buffer[13..17].copy_from_slice(&held.to_be_bytes());
+            assert_eq!(refusal(shelf.sums()), (19, 0), "{held} held");
+            assert_eq!(refusal(shelf.put(X)), (19, 0));
+        }
+        let mut empty = Shelf::start(vec![0; SMALLEST_SHELF]).unwrap();
+        empty.buffer[16] = 1;
+        assert_eq!(refusal(empty.sums()), (19, 0));
+    }
+
+    /// The shelf as version 1 had it: without the sums, and its texts from byte 525.
+    fn version_1(shelf: Shelf<Vec<u8>>, texts: usize) -> Vec<u8> {
+        let mut old = shelf.into_inner();
+        old[4] = 1;
+        for slot in 0..texts {
+            let start = 21 + 8 * slot;
+            let place = u32::from_be_bytes(old[start..start + 4].try_into().unwrap());
+            old[start..start + 4].copy_from_slice(&(place - 8).to_be_bytes());
+        }
+        old.drain(13..21);
+        old
+    }
+
+    #[test]
+    fn a_shelf_of_version_1_is_refused() {
+        let empty = Shelf::start(vec![0; SMALLEST_SHELF]).unwrap();
+        for old in [version_1(two_texts(), 2), version_1(empty, 0)] {
+            let mut shelf = Shelf::over(old.clone());
+            assert_eq!(refusal(shelf.put(X)), (19, 0));
+            assert_eq!(refusal(shelf.remove(0)), (19, 0));
+            assert_eq!(refusal(shelf.get(0)), (19, 0));
+            assert_eq!(refusal(shelf.slots()), (19, 0));
+            assert_eq!(refusal(shelf.sums()), (19, 0));
+            assert_eq!(shelf.as_bytes(), old);
         }
     }
 
@@ -297,10 +409,11 @@ mod tests {
     fn a_small_stack_is_enough() {
         let asked = || {
             let mut shelf = two_texts();
-            (shelf.put(RESPELLED), shelf.get(1).map(<[u8]>::len), shelf.remove(1))
+            let put = shelf.put(RESPELLED);
+            (put, shelf.sums(), shelf.get(1).map(<[u8]>::len), shelf.remove(1))
         };
         let small = std::thread::Builder::new().stack_size(96 * 1024);
         let answered = small.spawn(asked).unwrap().join().unwrap();
-        assert_eq!(answered, (Ok(Shelved::Copy(0)), Ok(99), Ok(99)));
+        assert_eq!(answered, (Ok(Shelved::Copy(0)), sums(93 + 99, 1), Ok(99), Ok(99)));
     }
 }

@@ -11,7 +11,7 @@ mod layout;
 
 pub use layout::{
     Comparison, Got, Kept, Listing, Location, Morning, Part, Shelving, SlotNumbers, Started,
-    Verdict, Written,
+    SumNumbers, Verdict, Written,
 };
 
 extern "C" {
@@ -104,6 +104,9 @@ extern "C" {
 
     /// Says how many slots are occupied, and which free one is the lowest.
     pub fn hverolda_shelf_slots(shelf: *const u8, size: usize) -> SlotNumbers;
+
+    /// Says how many bytes are held, and how many duplicates were found.
+    pub fn hverolda_shelf_sums(shelf: *const u8, size: usize) -> SumNumbers;
 
     /// Says the morning figures of a mailbox file.
     pub fn hverolda_report(file: *const u8, length: usize) -> Morning;
@@ -216,6 +219,12 @@ pub fn shelf_remove(shelf: &mut [u8], slot: usize) -> Written {
 pub fn shelf_slots(shelf: &[u8]) -> SlotNumbers {
     // SAFETY: as in `judge`.
     unsafe { hverolda_shelf_slots(shelf.as_ptr(), shelf.len()) }
+}
+
+/// Says how many bytes are held, and how many duplicates were found.
+pub fn shelf_sums(shelf: &[u8]) -> SumNumbers {
+    // SAFETY: as in `judge`.
+    unsafe { hverolda_shelf_sums(shelf.as_ptr(), shelf.len()) }
 }
 
 /// Says the morning figures of a mailbox file.

@@ -14,7 +14,8 @@ use second::{
 
 const USAGE: &str = "usage: second judge [FILE] | compare FIRST SECOND .. | \
                      locate SEGMENT ELEMENT COMPONENT FILE.. | respell SERVICE FILE.. | \
-                     report FILE.. | shelf SIZE [put FILE | get SLOT | remove SLOT | slots -].. | \
+                     report FILE.. | \
+                     shelf SIZE [put FILE | get SLOT | remove SLOT | slots - | sums -].. | \
                      answers [FILE] | generate SEED COUNT [KINDS] | cases DIR | selftest";
 
 fn main() -> ExitCode {
@@ -125,6 +126,7 @@ fn shelf(size: &str, history: &[&str]) -> io::Result<ExitCode> {
             ["get", slot] => shelf_lines::got_line(&shelf, number(slot)?),
             ["remove", slot] => shelf_lines::removed_line(&mut shelf, number(slot)?),
             ["slots", _] => shelf_lines::slots_line(&shelf),
+            ["sums", _] => shelf_lines::sums_line(&shelf),
             _ => return Err(fault(USAGE)),
         };
         out.write_all(&line)?;

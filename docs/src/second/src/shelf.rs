@@ -1,10 +1,15 @@
-//! The shelf: normal forms kept in one lent buffer, each once.
+//! The shelf: normal forms kept in one lent buffer, each once, with the sum of
+//! their bytes and the number of duplicates found.
 //!
 //! Change request 2026-04, "The shelf". `EDS`, a 16-bit version, a 64-bit map
 //! of occupied slots (slot k is the bit worth 2^k), 64 pairs of 32-bit start
 //! and length, then the normal forms; numbers are big-endian, starts count from
 //! the buffer's beginning. Every operation asks first whether the shelf is
 //! sound, and a refused one leaves it unchanged.
+//!
+//! Change request 2026-06, "A shelf that knows its own sums": version 2 has,
+//! after the map, 32 bits of text bytes held and 32 bits of duplicates found;
+//! texts start at byte 533, which is the least size.
 
 use std::ops::Range;
 
@@ -13,19 +18,21 @@ use crate::judging::accept;
 use crate::refusal::{refuse, Answer, Refusal, FREE_SLOT, NO_ROOM, NO_SHELF, NO_SLOT};
 
 /// The sizes of a shelf, in bytes.
-pub const SMALLEST: usize = 525;
+pub const SMALLEST: usize = 533;
 pub const LARGEST: usize = 65_536;
 
 pub const SLOTS: usize = 64;
 
 const BEGINNING: &[u8; 3] = b"EDS";
-const VERSION: u64 = 1;
+const VERSION: u64 = 2;
 
 /// Where the numbers and the texts stand.
 const VERSION_BYTES: Range<usize> = 3..5;
 const MAP_BYTES: Range<usize> = 5..13;
-const FIRST_PAIR: usize = 13;
-const FIRST_TEXT: usize = 525;
+const HELD_BYTES: Range<usize> = 13..17;
+const DUPLICATES_BYTES: Range<usize> = 17..21;
+const FIRST_PAIR: usize = 21;
+const FIRST_TEXT: usize = 533;
 
 /// A big-endian number of at most 8 bytes.
 fn number_at(shelf: &[u8], bytes: Range<usize>) -> u64 {
@@ -59,8 +66,34 @@ fn store_entry(shelf: &mut [u8], slot: usize, entry: Part) {
     store_number(shelf, length, u64::from(entry.length));
 }
 
+/// The summary of map and two sums.
+#[derive(Clone, Copy, Debug, PartialEq, Eq)]
+pub struct Summary {
+    /// The occupied slots.
+    pub map: u64,
+    /// Text bytes held.
+    pub held: u32,
+    /// Duplicates found; it stays at 4,294,967,295.
+    pub duplicates: u32,
+}
+
+/// The summary that stands in the shelf's head.
+fn summary_of(shelf: &[u8]) -> Summary {
+    Summary {
+        map: number_at(shelf, MAP_BYTES),
+        held: number_at(shelf, HELD_BYTES) as u32,
+        duplicates: number_at(shelf, DUPLICATES_BYTES) as u32,
+    }
+}
+
+fn store_summary(shelf: &mut [u8], summary: Summary) {
+    store_number(shelf, MAP_BYTES, summary.map);
+    store_number(shelf, HELD_BYTES, u64::from(summary.held));
+    store_number(shelf, DUPLICATES_BYTES, u64::from(summary.duplicates));
+}
+
 fn map_of(shelf: &[u8]) -> u64 {
-    number_at(shelf, MAP_BYTES)
+    summary_of(shelf).map
 }
 
 /// Slot k is the bit worth 2^k; above 63 there is none.
@@ -103,6 +136,7 @@ pub fn is_sound(shelf: &[u8]) -> bool {
         && free_entries_are_zero(shelf)
         && texts_lie_within(shelf)
         && texts_fill_the_room(shelf)
+        && held_is_the_sum(shelf)
         && texts_are_different_normal_forms(shelf)
         && shelf[end_of_texts(shelf)..].iter().all(|&byte| byte == 0)
 }
@@ -119,7 +153,7 @@ fn texts_lie_within(shelf: &[u8]) -> bool {
     occupied_entries(shelf).iter().all(|entry| end(entry) <= shelf.len() as u64)
 }
 
-/// From byte 525 on, disjoint and without gaps, in any order of slots. Asked
+/// From byte 533 on, disjoint and without gaps, in any order of slots. Asked
 /// only where the texts lie within the shelf.
 fn texts_fill_the_room(shelf: &[u8]) -> bool {
     let mut entries = occupied_entries(shelf);
@@ -134,6 +168,12 @@ fn texts_fill_the_room(shelf: &[u8]) -> bool {
     true
 }
 
+/// The bytes held equal the sum of the lengths. The duplicates may be any.
+fn held_is_the_sum(shelf: &[u8]) -> bool {
+    let lengths = occupied_entries(shelf).into_iter().map(|entry| u64::from(entry.length));
+    u64::from(summary_of(shelf).held) == lengths.sum::<u64>()
+}
+
 fn texts_are_different_normal_forms(shelf: &[u8]) -> bool {
     let mut texts: Vec<&[u8]> =
         occupied_entries(shelf).iter().map(|entry| entry.of(shelf)).collect();
@@ -142,7 +182,7 @@ fn texts_are_different_normal_forms(shelf: &[u8]) -> bool {
     different && texts.iter().all(|text| is_normal_form(text))
 }
 
-/// Where the last text ends; byte 525 where there is none.
+/// Where the last text ends; byte 533 where there is none.
 fn end_of_texts(shelf: &[u8]) -> usize {
     let ends = occupied_entries(shelf).into_iter().map(|entry| entry.range().end);
     ends.max().unwrap_or(FIRST_TEXT)
@@ -174,17 +214,19 @@ pub enum Put {
     Found(usize),
 }
 
-/// Puts an interchange: the slot where its normal form is already, or the
-/// lowest free one, where it now is.
+/// Puts an interchange: the slot where its normal form is already, which is a
+/// duplicate found, or the lowest free one, where it now is.
 pub fn put(shelf: &mut [u8], input: &[u8]) -> Answer<Put> {
     check_sound(shelf)?;
     let text = accept(input)?.normal_form();
+    let mut summary = summary_of(shelf);
     let has_text = |slot: &usize| entry(shelf, *slot).of(shelf) == text;
     if let Some(slot) = occupied_slots(shelf).into_iter().find(has_text) {
+        summary.duplicates = summary.duplicates.saturating_add(1);
+        store_summary(shelf, summary);
         return Ok(Put::Found(slot));
     }
-    let map = map_of(shelf);
-    let slot = lowest_free_in(map);
+    let slot = lowest_free_in(summary.map);
     if slot == SLOTS {
         return refuse(NO_SLOT, SLOTS);
     }
@@ -194,7 +236,9 @@ pub fn put(shelf: &mut [u8], input: &[u8]) -> Answer<Put> {
     }
     shelf[end..end + text.len()].copy_from_slice(&text);
     store_entry(shelf, slot, Part { offset: end as u32, length: text.len() as u32 });
-    store_number(shelf, MAP_BYTES, map + 2u64.pow(slot as u32));
+    summary.map += 2u64.pow(slot as u32);
+    summary.held += text.len() as u32;
+    store_summary(shelf, summary);
     Ok(Put::New(slot))
 }
 
@@ -239,8 +283,10 @@ pub fn remove(shelf: &mut [u8], slot: usize) -> Answer<usize> {
         }
     }
     store_entry(shelf, slot, Part { offset: 0, length: 0 });
-    let map = map_of(shelf) - 2u64.pow(slot as u32);
-    store_number(shelf, MAP_BYTES, map);
+    let mut summary = summary_of(shelf);
+    summary.map -= 2u64.pow(slot as u32);
+    summary.held -= removed.length;
+    store_summary(shelf, summary);
     Ok(length)
 }
 
@@ -254,4 +300,20 @@ pub fn occupied(shelf: &[u8]) -> Answer<usize> {
 pub fn lowest_free(shelf: &[u8]) -> Answer<usize> {
     check_sound(shelf)?;
     Ok(lowest_free_in(map_of(shelf)))
+}
+
+/// The summary in the head of a sound shelf.
+pub fn summary(shelf: &[u8]) -> Answer<Summary> {
+    check_sound(shelf)?;
+    Ok(summary_of(shelf))
+}
+
+/// The text bytes held.
+pub fn held(shelf: &[u8]) -> Answer<usize> {
+    Ok(summary(shelf)?.held as usize)
+}
+
+/// The duplicates found.
+pub fn duplicates(shelf: &[u8]) -> Answer<u32> {
+    Ok(summary(shelf)?.duplicates)
 }

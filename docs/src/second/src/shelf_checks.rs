@@ -1,7 +1,8 @@
 //! Shelves: sound ones and others, every refusal with its place, the order of
 //! refusals, and histories beside a list of what should be kept.
 //!
-//! Change request 2026-04, "The shelf".
+//! Change requests 2026-04, "The shelf", and 2026-06, "A shelf that knows its
+//! own sums".
 
 use crate::cases::X;
 use crate::generator::{any_input, any_valid, same_contents, with_breaks, Draft, Random};
@@ -11,8 +12,8 @@ use crate::refusal::{
     Answer, Refusal, BEGINNING, FREE_SLOT, LONGEST, NO_ROOM, NO_SHELF, NO_SLOT, ORDER,
 };
 use crate::shelf::{
-    get, is_sound, lowest_free, lowest_free_in, occupied, occupied_in, put, remove, start, Got,
-    Put, LARGEST, SLOTS, SMALLEST,
+    duplicates, get, held, is_sound, lowest_free, lowest_free_in, occupied, occupied_in, put,
+    remove, start, summary, Got, Put, Summary, LARGEST, SLOTS, SMALLEST,
 };
 
 type Check = Result<(), String>;
@@ -27,6 +28,8 @@ fn ensure(holds: bool, what: &str) -> Check {
 /// The first failure.
 pub fn check_shelf() -> Check {
     check_maps()?;
+    check_head()?;
+    check_duplicates()?;
     check_start()?;
     check_sound_shelves()?;
     check_unsound_shelves()?;
@@ -49,8 +52,68 @@ fn check_maps() -> Check {
     })
 }
 
-/// A buffer of this size with these texts, laid out as the request says: each
-/// with its slot, in the order in which they lie.
+/// The head of the shelf as request 2026-06 lays it out: `EDS` and version 2,
+/// then the map (64 bits), text bytes held, duplicates found, and the pairs of
+/// the slots 0 and 1. Texts start at 533; the normal form of X has 93 bytes, the
+/// small one 47.
+fn check_head() -> Check {
+    let mut shelf = vec![0xA5; 533 + 93 + 47];
+    let heads: [(&str, [u32; 8]); 5] = [
+        ("an empty shelf", [0, 0, 0, 0, 0, 0, 0, 0]),
+        ("X put", [0, 1, 93, 0, 533, 93, 0, 0]),
+        ("X put again", [0, 1, 93, 1, 533, 93, 0, 0]),
+        ("another put", [0, 3, 140, 1, 533, 93, 626, 47]),
+        ("X removed", [0, 2, 47, 1, 0, 0, 533, 47]),
+    ];
+    for (step, (name, head)) in heads.iter().enumerate() {
+        let done = match step {
+            0 => start(&mut shelf).is_ok(),
+            1 => put(&mut shelf, X.as_bytes()) == Ok(Put::New(0)),
+            2 => put(&mut shelf, X.as_bytes()) == Ok(Put::Found(0)),
+            3 => put(&mut shelf, &small(1)) == Ok(Put::New(1)),
+            _ => remove(&mut shelf, 0) == Ok(93),
+        };
+        let mut bytes = b"EDS\x00\x02".to_vec();
+        bytes.extend(head.iter().flat_map(|number| number.to_be_bytes()));
+        ensure(done && shelf[..37] == bytes, name)?;
+    }
+    let texts = [&b"UNA:+.? 'UNB+UNOA:1++++1'UNH+1'UNT+2+1'UNZ+1+1'"[..], &[0; 93]].concat();
+    ensure(shelf[37..533].iter().all(|&byte| byte == 0) && shelf[533..] == texts, "its texts")
+}
+
+/// The figure rises by one at each put that finds its copy, stays at
+/// 4,294,967,295, and is altered by nothing else; it may be any in a sound shelf.
+fn check_duplicates() -> Check {
+    let x = normal_form(X.as_bytes());
+    let told = |shelf: &[u8]| summary(shelf).map(|told| (told.held, told.duplicates));
+    for before in [0, 1, 255, 256, 65_535, u32::MAX - 2, u32::MAX - 1, u32::MAX] {
+        let mut shelf = with_duplicates(laid_out(533 + 93 + 46, &[(5, &x)]), before);
+        ensure(told(&shelf) == Ok((93, before)), "any figure is sound")?;
+        let refused = put(&mut shelf, &small(1)) == Err(refusal(NO_ROOM, 47));
+        ensure(refused && put(&mut shelf, b"").is_err(), "a refused put")?;
+        ensure(remove(&mut shelf, 6).is_err(), "a refused remove")?;
+        ensure(told(&shelf) == Ok((93, before)), "what is refused raises nothing")?;
+        let after = if before == 4_294_967_295 { before } else { before + 1 };
+        ensure(put(&mut shelf, &x) == Ok(Put::Found(5)), "a copy")?;
+        let expected = with_duplicates(laid_out(533 + 93 + 46, &[(5, &x)]), after);
+        ensure(shelf == expected, "one more, and nothing else")?;
+        ensure(remove(&mut shelf, 5) == Ok(93), "the copy removed")?;
+        ensure(told(&shelf) == Ok((0, after)), "Remove leaves the figure")?;
+        ensure(put(&mut shelf, &x) == Ok(Put::New(0)), "the copy put again")?;
+        ensure(told(&shelf) == Ok((93, after)), "a new text leaves the figure")?;
+        ensure(start(&mut shelf).is_ok() && told(&shelf) == Ok((0, 0)), "Start zeroes it")?;
+    }
+    Ok(())
+}
+
+/// The shelf with this number of duplicates found.
+fn with_duplicates(mut shelf: Vec<u8>, figure: u32) -> Vec<u8> {
+    store(&mut shelf, 17, figure);
+    shelf
+}
+
+/// A buffer of this size with these texts, laid out as the requests say: each
+/// with its slot, in the order in which they lie. No duplicates were found.
 fn laid_out(size: usize, texts: &[(usize, &[u8])]) -> Vec<u8> {
     let mut map = 0u64;
     let mut pairs = [[0u32; 2]; SLOTS];
@@ -60,8 +123,10 @@ fn laid_out(size: usize, texts: &[(usize, &[u8])]) -> Vec<u8> {
         pairs[*slot] = [(SMALLEST + bytes.len()) as u32, text.len() as u32];
         bytes.extend(*text);
     }
-    let mut shelf = b"EDS\x00\x01".to_vec();
+    let mut shelf = b"EDS\x00\x02".to_vec();
     shelf.extend(map.to_be_bytes());
+    shelf.extend((bytes.len() as u32).to_be_bytes());
+    shelf.extend([0; 4]);
     shelf.extend(pairs.iter().flatten().flat_map(|number| number.to_be_bytes()));
     shelf.extend(bytes);
     shelf.resize(size, 0);
@@ -99,8 +164,10 @@ fn check_unsound(shelf: &[u8], why: &str) -> Check {
         ensure(get(&same, slot) == nothing, &format!("get: {why}"))?;
         ensure(remove(&mut same, slot) == Err(none), &format!("remove: {why}"))?;
     }
-    let figures = [occupied(&same), lowest_free(&same)];
-    ensure(figures == [Err(none); 2] && same == shelf, &format!("figures: {why}"))
+    let figures = [occupied(&same), lowest_free(&same), held(&same)];
+    ensure(figures == [Err(none); 3] && same == shelf, &format!("figures: {why}"))?;
+    ensure(summary(&same) == Err(none), &format!("summary: {why}"))?;
+    ensure(duplicates(&same) == Err(none), &format!("duplicates: {why}"))
 }
 
 /// Start writes over any bytes of an allowed size, and nothing else.
@@ -111,8 +178,10 @@ fn check_start() -> Check {
         ensure(buffer == laid_out(size, &[]) && is_sound(&buffer), "an empty shelf")?;
         let figures = (occupied(&buffer), lowest_free(&buffer));
         ensure(figures == (Ok(0), Ok(0)), "an empty shelf's figures")?;
+        let sums = Ok(Summary { map: 0, held: 0, duplicates: 0 });
+        ensure(summary(&buffer) == sums, "an empty shelf's sums")?;
     }
-    for size in [0, 1, 3, SMALLEST - 1, LARGEST + 1, 2 * LARGEST] {
+    for size in [0, 1, 3, 524, 525, 528, 532, LARGEST + 1, 2 * LARGEST] {
         let mut buffer = vec![0xA5; size];
         let refused = start(&mut buffer) == Err(refusal(NO_SHELF, 0));
         ensure(refused && buffer == vec![0xA5; size], &format!("start on {size} bytes"))?;
@@ -140,6 +209,7 @@ fn check_sound_shelves() -> Check {
             let shelf = laid_out(size, texts);
             ensure(is_sound(&shelf), &format!("a sound shelf of {size} bytes"))?;
             ensure(occupied(&shelf) == Ok(texts.len()), "occupied slots")?;
+            ensure(held(&shelf) == Ok(needed - SMALLEST), "bytes held")?;
             for (slot, text) in texts {
                 let got = get(&shelf, *slot);
                 let whole = got.refusal.is_none() && got.bytes == *text;
@@ -152,9 +222,33 @@ fn check_sound_shelves() -> Check {
     Ok(())
 }
 
+/// A shelf as request 2026-04 laid it out: without the two sums, texts from byte
+/// 525.
+fn version_1(size: usize, texts: &[(usize, &[u8])]) -> Vec<u8> {
+    let mut shelf = laid_out(size + 8, texts);
+    shelf[4] = 1;
+    shelf.drain(13..21);
+    for (slot, _) in texts {
+        let start = 13 + 8 * slot + 2..13 + 8 * slot + 4;
+        let moved = u16::from_be_bytes([shelf[start.start], shelf[start.start + 1]]) - 8;
+        shelf[start].copy_from_slice(&moved.to_be_bytes());
+    }
+    shelf
+}
+
 /// Stores a number of four bytes.
 fn store(shelf: &mut [u8], place: usize, number: u32) {
     shelf[place..place + 4].copy_from_slice(&number.to_be_bytes());
+}
+
+/// Stores the sum of the lengths of the slots that the map calls occupied, so
+/// that this is not what makes a shelf unsound.
+fn mend_held(shelf: &mut [u8]) {
+    let number =
+        |place: usize| shelf[place..place + 4].iter().fold(0, |n, &b| n * 256 + u64::from(b));
+    let occupied = |slot: &usize| shelf[12 - slot / 8] >> (slot % 8) & 1 == 1;
+    let sum: u64 = (0..SLOTS).filter(occupied).map(|slot| number(25 + 8 * slot)).sum();
+    store(shelf, 13, sum as u32);
 }
 
 /// Shelves that miss one thing.
@@ -163,10 +257,16 @@ fn check_unsound_shelves() -> Check {
     let both: [(usize, &[u8]); 2] = [(3, &x), (0, &one)];
     let sound = laid_out(1_000, &both);
     ensure(is_sound(&sound), "the shelf of two texts")?;
-    let (pair_0, pair_3, behind) = (13, 13 + 24, SMALLEST + x.len() + one.len());
+    let (pair_0, pair_3, behind) = (21, 21 + 24, SMALLEST + x.len() + one.len());
     let changed = |change: &dyn Fn(&mut Vec<u8>)| {
         let mut shelf = sound.clone();
         change(&mut shelf);
+        mend_held(&mut shelf);
+        shelf
+    };
+    let holding = |bytes: u32| {
+        let mut shelf = sound.clone();
+        store(&mut shelf, 13, bytes);
         shelf
     };
     let two_breaks = [&x[..], b"\r\n"].concat();
@@ -174,21 +274,33 @@ fn check_unsound_shelves() -> Check {
     let padded = b"UNA:+.? 'UNB+UNOA:1++++1'UNH+1+'UNT+2+1'UNZ+1+1'";
     let section = b"UNA:+.? 'UNB+UNOA:1++++1'UNH+1'UNS+D'UNS+D'UNT+4+1'UNZ+1+1'";
     let unsound = [
-        ("version 2", changed(&|shelf| shelf[4] = 2)),
-        ("version 257", changed(&|shelf| shelf[3] = 1)),
+        ("a version 1 shelf", version_1(1_000, &both)),
+        ("an empty version 1 shelf", version_1(1_000, &[])),
+        ("version 1", changed(&|shelf| shelf[4] = 1)),
+        ("version 3", changed(&|shelf| shelf[4] = 3)),
+        ("version 258", changed(&|shelf| shelf[3] = 1)),
+        ("a byte held too many", holding(141)),
+        ("a byte held too few", holding(139)),
+        ("no byte held", holding(0)),
+        ("the bytes held and 2^16 more", holding(140 + 65_536)),
+        ("a byte held and no text", {
+            let mut empty = laid_out(1_000, &[]);
+            store(&mut empty, 13, 1);
+            empty
+        }),
         ("EDX", changed(&|shelf| shelf[2] = b'X')),
         ("no size", Vec::new()),
-        ("a head alone", sound[..524].to_vec()),
+        ("a head alone", sound[..532].to_vec()),
         ("65537 bytes", laid_out(LARGEST + 1, &both)),
-        ("a free slot's start", changed(&|shelf| store(shelf, 13 + 8, 525))),
-        ("a free slot's length", changed(&|shelf| store(shelf, 13 + 12, 1))),
+        ("a free slot's start", changed(&|shelf| store(shelf, 21 + 8, 533))),
+        ("a free slot's length", changed(&|shelf| store(shelf, 21 + 12, 1))),
         ("a free byte", changed(&|shelf| shelf[behind] = b'\n')),
         ("the last byte", changed(&|shelf| shelf[999] = 1)),
         ("an occupied slot without an entry", changed(&|shelf| shelf[5] |= 128)),
         ("an occupied slot of length 0", {
             changed(&|shelf| {
                 shelf[12] |= 4;
-                store(shelf, 13 + 16, behind as u32);
+                store(shelf, 21 + 16, behind as u32);
             })
         }),
         ("an entry that is free by the map", changed(&|shelf| shelf[12] &= !1)),
@@ -200,18 +312,18 @@ fn check_unsound_shelves() -> Check {
                 store(shelf, pair_0, first as u32 + 1);
             })
         }),
-        ("a gap at byte 525", {
+        ("a gap at byte 533", {
             changed(&|shelf| {
-                shelf.copy_within(525..behind, 526);
-                shelf[525] = 0;
-                store(shelf, pair_0, 526 + x.len() as u32);
-                store(shelf, pair_3, 526);
+                shelf.copy_within(533..behind, 534);
+                shelf[533] = 0;
+                store(shelf, pair_0, 534 + x.len() as u32);
+                store(shelf, pair_3, 534);
             })
         }),
         ("two slots with one text", {
             changed(&|shelf| {
                 shelf[12] |= 4;
-                shelf.copy_within(pair_3..pair_3 + 8, 13 + 16);
+                shelf.copy_within(pair_3..pair_3 + 8, 21 + 16);
             })
         }),
         ("two copies", laid_out(1_000, &[(3, &x), (0, &one), (1, &x)])),
@@ -223,7 +335,7 @@ fn check_unsound_shelves() -> Check {
                 store(shelf, pair_3 + 4, (x.len() + one.len()) as u32);
             })
         }),
-        ("a start before byte 525", changed(&|shelf| store(shelf, pair_3, 524))),
+        ("a start before byte 533", changed(&|shelf| store(shelf, pair_3, 532))),
         ("a length beyond the shelf", changed(&|shelf| store(shelf, pair_0 + 4, 1_000))),
         ("a sum over 32 bits", {
             changed(&|shelf| {
@@ -246,8 +358,9 @@ fn check_unsound_shelves() -> Check {
     unsound.iter().try_for_each(|(why, shelf)| check_unsound(shelf, why))
 }
 
-/// A change of any bit outside the texts makes a sound shelf unsound; in a text
-/// it does so unless that is another normal form that is not there.
+/// A change of any bit outside the texts makes a sound shelf unsound, but for
+/// the duplicates found; in a text it does so unless that is another normal form
+/// that is not there.
 fn check_every_byte() -> Check {
     let texts = [normal_form(&small(1)), normal_form(X.as_bytes()), normal_form(&small(2))];
     let sound = laid_out(800, &[(9, &texts[0]), (2, &texts[1]), (41, &texts[2])]);
@@ -268,7 +381,8 @@ fn check_every_byte() -> Check {
         for bit in 0..8 {
             let mut shelf = sound.clone();
             shelf[place] ^= 1 << bit;
-            ensure(!is_sound(&shelf), &format!("byte {place}, bit {bit}"))?;
+            let of_duplicates = (17..21).contains(&place);
+            ensure(is_sound(&shelf) == of_duplicates, &format!("byte {place}, bit {bit}"))?;
         }
     }
     Ok(())
@@ -319,10 +433,10 @@ fn check_full_shelf() -> Check {
         ensure(figures == (Ok(64), Ok(64)), "a full shelf's figures")?;
         check_put_refused(&shelf, &small(99), refusal(NO_SLOT, 64), "17")?;
         check_put_refused(&shelf, b"UNA", refusal(2, 0), "Judge's before 17")?;
-        let before = shelf.clone();
         for slot in 0..SLOTS {
+            let one_more = with_duplicates(shelf.clone(), slot as u32 + 1);
             let found = put(&mut shelf, &small(100 + slot)) == Ok(Put::Found(slot));
-            ensure(found && shelf == before, "a copy on a full shelf")?;
+            ensure(found && shelf == one_more, "a copy on a full shelf")?;
         }
         for slot in [0, 1, 31, 62, 63] {
             let mut other = shelf.clone();
@@ -340,6 +454,7 @@ struct Kept {
     texts: Vec<(usize, Vec<u8>)>,
     put: usize,
     removed: usize,
+    duplicates: u32,
 }
 
 impl Kept {
@@ -351,6 +466,7 @@ impl Kept {
         judge(input)?;
         let text = normal_form(input);
         if let Some((slot, _)) = self.texts.iter().find(|(_, kept)| *kept == text) {
+            self.duplicates = (u64::from(self.duplicates) + 1).min(4_294_967_295) as u32;
             return Ok(Put::Found(*slot));
         }
         let free = (0..SLOTS).find(|slot| self.texts.iter().all(|(other, _)| other != slot));
@@ -373,7 +489,7 @@ impl Kept {
     fn shelf(&self) -> Vec<u8> {
         let texts: Vec<(usize, &[u8])> =
             self.texts.iter().map(|(slot, text)| (*slot, &text[..])).collect();
-        laid_out(self.size, &texts)
+        with_duplicates(laid_out(self.size, &texts), self.duplicates)
     }
 }
 
@@ -392,9 +508,11 @@ fn check_history(seed: u64) -> Check {
     let mut random = Random::new(seed);
     let pool: Vec<Draft> = (0..90).map(|_| any_valid(&mut random)).collect();
     let size = random.pick(&[SMALLEST, 700, 1_500, 4_000, 20_000, LARGEST]);
-    let mut kept = Kept { size, texts: Vec::new(), put: 0, removed: 0 };
+    let figure = random.pick(&[0, 0, 255, u32::MAX - 20]);
+    let mut kept = Kept { size, texts: Vec::new(), put: 0, removed: 0, duplicates: figure };
     let mut shelf = random.bytes(size);
     start(&mut shelf).map_err(|_| "a shelf is not started".to_string())?;
+    store(&mut shelf, 17, figure);
     for step in 0..200 {
         let name = |what: &str| format!("{what}, seed {seed}, step {step}");
         let draft = random.pick(&pool);
@@ -414,8 +532,9 @@ fn check_history(seed: u64) -> Check {
             _ => ensure(remove(&mut shelf, slot) == kept.remove(slot), &name("remove"))?,
         }
         ensure(shelf == kept.shelf(), &name("the bytes"))?;
-        let held = kept.bytes_held();
-        ensure(held == kept.put - kept.removed, &name("put less removed"))?;
+        let sums = (held(&shelf), duplicates(&shelf));
+        let known = (Ok(kept.put - kept.removed), Ok(kept.duplicates));
+        ensure(sums == known, &name("put less removed, and duplicates"))?;
         let got = get(&shelf, slot);
         let text = kept.texts.iter().find(|(other, _)| *other == slot);
         match text {

@@ -1,10 +1,11 @@
 //! The lines of the program `shelf`: one for each operation of a history.
 //!
-//! Change request 2026-04, "The shelf".
+//! Change requests 2026-04, "The shelf", and 2026-06, "A shelf that knows its
+//! own sums".
 
 use crate::refusal::{Answer, Refusal};
 use crate::report_lines::refusal_line;
-use crate::shelf::{get, lowest_free, occupied, put, remove, start, Put};
+use crate::shelf::{get, lowest_free, occupied, put, remove, start, summary, Put};
 
 fn line(answer: Answer<String>) -> Vec<u8> {
     answer.unwrap_or_else(|refusal: Refusal| refusal_line(&refusal)).into_bytes()
@@ -34,4 +35,8 @@ pub fn removed_line(shelf: &mut [u8], slot: usize) -> Vec<u8> {
 pub fn slots_line(shelf: &[u8]) -> Vec<u8> {
     let numbers = occupied(shelf).and_then(|number| Ok((number, lowest_free(shelf)?)));
     line(numbers.map(|(number, lowest)| format!("slots {number} {lowest}")))
+}
+
+pub fn sums_line(shelf: &[u8]) -> Vec<u8> {
+    line(summary(shelf).map(|told| format!("sums {} {}", told.held, told.duplicates)))
 }

@@ -26,8 +26,8 @@ pub fn beginning<'a>(random: &mut Random, pool: &'a Pool) -> Beginning<'a> {
     let mut puts = FILLS_AND_EMPTIES;
     let (shelf, texts, most) = match random.below(100) {
         0..=2 => {
-            let size =
-                random.pick(&[0, 1, 3, SMALLEST - 1, SMALLEST - 1, LARGEST + 1, LARGEST + 1]);
+            let sizes = [0, 1, 3, 524, 525, SMALLEST - 1, SMALLEST - 1, LARGEST + 1, LARGEST + 1];
+            let size = random.pick(&sizes);
             (other_size(random, small, size), small, 8)
         }
         3..=6 => {
@@ -59,8 +59,8 @@ pub fn beginning<'a>(random: &mut Random, pool: &'a Pool) -> Beginning<'a> {
     Beginning { shelf, texts, most, puts }
 }
 
-/// A sound shelf with so many texts in the lowest slots or in any, and room for
-/// some more or for none.
+/// A sound shelf with so many texts in the lowest slots or in any, room for some
+/// more or for none, and any number of duplicates found.
 fn made(random: &mut Random, texts: &[Text], count: usize) -> Vec<u8> {
     let mut slots: Vec<usize> = (0..SLOTS).collect();
     let mut numbers: Vec<usize> = (0..texts.len()).collect();
@@ -77,7 +77,9 @@ fn made(random: &mut Random, texts: &[Text], count: usize) -> Vec<u8> {
     let held: usize = kept.iter().map(|(_, text)| text.len()).sum();
     let more = texts[random.below(texts.len())].form.len();
     let free = random.pick(&[0, 1, more - 1, more, more + 1, 200, 500]);
-    laid_out(SMALLEST + held + free, &kept)
+    let any = random.number() as u32;
+    let duplicates = random.pick(&[0, 1, 254, 65_530, any, u32::MAX - 20, u32::MAX]);
+    laid_out(SMALLEST + held + free, &kept, duplicates)
 }
 
 /// Any bytes, or what would be a sound shelf but for its size.
@@ -86,7 +88,7 @@ fn other_size(random: &mut Random, texts: &[Text], size: usize) -> Vec<u8> {
         return random.bytes(size);
     }
     let kept = [(random.below(SLOTS), &texts[random.below(texts.len())].form[..])];
-    let mut shelf = laid_out(LARGEST + 1, &kept[..random.below(2)]);
+    let mut shelf = laid_out(LARGEST + 1, &kept[..random.below(2)], 0);
     shelf.truncate(size);
     shelf
 }

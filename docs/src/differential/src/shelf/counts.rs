@@ -7,7 +7,7 @@ use super::damage::{DAMAGES, OTHER_SIZE};
 use super::texts::{BREAKS, CHARACTERS, EMPTY_ENDS, NORMAL, NO_ADVICE};
 
 /// What must occur before a run says anything.
-const MUST: [(&str, &str); 58] = [
+const MUST: [(&str, &str); 67] = [
     ("start", "an empty shelf"),
     ("start", "over a sound shelf"),
     ("start", "over a damaged shelf"),
@@ -21,6 +21,9 @@ const MUST: [(&str, &str); 58] = [
     ("put", "a copy"),
     ("put", "a copy where 64 slots are occupied"),
     ("put", "a copy where no byte is free"),
+    ("put", "a copy by which the figure carries"),
+    ("put", "a copy that brings the figure to its most"),
+    ("put", "a copy where the figure stays"),
     ("put", "refused by Judge on a full shelf"),
     ("put", "refused by 17"),
     ("put", "refused by 17, with room for the text"),
@@ -60,13 +63,22 @@ const MUST: [(&str, &str); 58] = [
     ("slots", "lowest free: above all others"),
     ("slots", "lowest free: 64"),
     ("slots", "refused by 19"),
+    ("sums", "none held"),
+    ("sums", "some held"),
+    ("sums", "no duplicates"),
+    ("sums", "some duplicates"),
+    ("sums", "4294967295 duplicates"),
+    ("sums", "refused by 19"),
     ("shelf", "sound, as it was left"),
     ("shelf", "sound, after damage"),
     ("shelf", "unsound"),
-    ("size", "525"),
-    ("size", "524 or 65537"),
+    ("size", "533"),
+    ("size", "532 or 65537"),
     ("size", "65536"),
 ];
+
+/// What is done to shelves; each must occur on one of version 1.
+const OPERATIONS: [&str; 6] = ["start", "put", "get", "remove", "slots", "sums"];
 
 /// How a put is refused by each of Judge's numbers.
 pub const BY_JUDGE: [&str; 14] = [
@@ -97,11 +109,19 @@ impl Counts {
         *self.counts.entry((what, how)).or_default() += 1;
     }
 
+    /// An operation on a shelf of version 1, by the first word of its name.
+    pub fn count_old(&mut self, name: &str) {
+        for operation in OPERATIONS.iter().filter(|operation| name.starts_with(**operation)) {
+            self.count("on version 1", operation);
+        }
+    }
+
     /// What must occur and never did.
     pub fn gaps(&self) -> Vec<String> {
         let damages = DAMAGES.iter().map(|(name, _)| ("damage", *name));
         let by_judge = BY_JUDGE[1..].iter().map(|name| ("put", *name));
-        let must = MUST.iter().copied().chain(by_judge).chain(damages);
+        let old = OPERATIONS.iter().map(|name| ("on version 1", *name));
+        let must = MUST.iter().copied().chain(by_judge).chain(damages).chain(old);
         let never = must.chain([("damage", OTHER_SIZE)]).filter(|key| self.of(*key) == 0);
         never.map(|(what, how)| format!("{what}: {how} never occurred")).collect()
     }

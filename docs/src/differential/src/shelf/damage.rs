@@ -4,14 +4,20 @@
 use second::generator::Random;
 use second::shelf::{LARGEST, SLOTS, SMALLEST};
 
-use super::layout::{by_position, free_slots, map, pair, store_map, store_pair, MAP, PAIRS};
+use super::layout::{
+    by_position, free_slots, map, mend_held, number, pair, store_map, store_number, store_pair,
+    DUPLICATES, HELD, MAP, PAIRS,
+};
 
 /// A damage by its name; false where the shelf has nothing to do it to.
 type Damage = (&'static str, fn(&mut Random, &mut [u8]) -> bool);
 
-pub const DAMAGES: [Damage; 20] = [
+pub const DAMAGES: [Damage; 23] = [
     ("the beginning or the version", head),
     ("a bit of the map", map_bit),
+    (BYTES_HELD, held),
+    ("the duplicates found", duplicates),
+    (OLD, version_1),
     ("a start", start),
     ("a length", length),
     ("a sum beyond 32 bits", wide_sum),
@@ -35,7 +41,12 @@ pub const DAMAGES: [Damage; 20] = [
 /// The one that does not leave the shelf its size.
 pub const OTHER_SIZE: &str = "more or fewer bytes";
 
-/// Does one damage that can be done; its name.
+const BYTES_HELD: &str = "the bytes held";
+/// The one that makes it a shelf of version 1.
+pub const OLD: &str = "a shelf of version 1";
+
+/// Does one damage that can be done; its name. More often than not the bytes
+/// held are then the sum of the lengths again, so that they alone do not tell.
 pub fn damage(random: &mut Random, shelf: &mut Vec<u8>) -> &'static str {
     if random.chance(5) {
         size(random, shelf);
@@ -44,6 +55,9 @@ pub fn damage(random: &mut Random, shelf: &mut Vec<u8>) -> &'static str {
     loop {
         let (name, done) = random.pick(&DAMAGES);
         if done(random, shelf) {
+            if ![BYTES_HELD, OLD].contains(&name) && random.chance(60) {
+                mend_held(shelf);
+            }
             return name;
         }
     }
@@ -83,8 +97,37 @@ fn head(random: &mut Random, shelf: &mut [u8]) -> bool {
 }
 
 fn map_bit(random: &mut Random, shelf: &mut [u8]) -> bool {
-    let place = random.between(MAP, PAIRS - 1);
+    let place = random.between(MAP, HELD - 1);
     flip(random, shelf, place);
+    true
+}
+
+fn held(random: &mut Random, shelf: &mut [u8]) -> bool {
+    let held = number(shelf, HELD);
+    let changed = match random.below(3) {
+        0 => held ^ 1 << random.below(32),
+        _ => other(random, held),
+    };
+    store_number(shelf, HELD, changed);
+    true
+}
+
+/// Sound: any number may stand there.
+fn duplicates(random: &mut Random, shelf: &mut [u8]) -> bool {
+    let any = random.number() as u32;
+    store_number(shelf, DUPLICATES, random.pick(&[any, any, u32::MAX - 1, u32::MAX]));
+    true
+}
+
+/// As request 2026-04 laid it out: without the sums, and the texts from byte 525.
+fn version_1(_: &mut Random, shelf: &mut [u8]) -> bool {
+    for (slot, start, end) in places(shelf) {
+        store_pair(shelf, slot, [start as u32 - 8, (end - start) as u32]);
+    }
+    shelf[4] = 1;
+    shelf.copy_within(PAIRS.., HELD);
+    let last = shelf.len() - 8;
+    shelf[last..].fill(0);
     true
 }
 
@@ -93,7 +136,7 @@ fn other(random: &mut Random, number: u32) -> u32 {
     match random.below(4) {
         0 => number.wrapping_add(1),
         1 => number.wrapping_sub(1),
-        2 => random.pick(&[0, 524, 525, 1 << 16, 1 << 31, u32::MAX]),
+        2 => random.pick(&[0, 525, 532, 533, 1 << 16, 1 << 31, u32::MAX]),
         _ => random.below(1 << 16) as u32,
     }
 }

@@ -9,8 +9,8 @@ use second::shelf::{is_sound, LARGEST, SLOTS, SMALLEST};
 
 use super::beginnings::{beginning, Beginning};
 use super::counts::{Counts, BY_JUDGE};
-use super::damage::damage;
-use super::layout::{by_position, bytes_held, free_slots, map, pair};
+use super::damage::{damage, OLD};
+use super::layout::{by_position, bytes_held, free_slots, map, number, pair, DUPLICATES, HELD};
 use super::sides::{Operations, SECOND};
 use super::texts::{Pool, Text, BREAKS, NORMAL};
 use crate::lent::Lender;
@@ -39,11 +39,15 @@ pub struct History<'a> {
     before: Vec<u8>,
     sound: bool,
     was_damaged: bool,
+    /// A shelf of version 1 lies there.
+    old: bool,
     /// The bytes before the damage, and how many operations it stays.
     undamaged: Vec<u8>,
     damage_left: usize,
     /// Bytes newly put less bytes removed, and those that were there before.
     held: usize,
+    /// The copies found, and those before.
+    duplicates: u32,
     removed: Vec<usize>,
     filling: bool,
     puts: [usize; 2],
@@ -61,9 +65,9 @@ impl<'a> History<'a> {
         let mut random = Random::new(seed);
         let Beginning { shelf, texts, most, puts } = beginning(&mut random, pool);
         match shelf.len() {
-            SMALLEST => counts.count("size", "525"),
+            SMALLEST => counts.count("size", "533"),
             LARGEST => counts.count("size", "65536"),
-            524 | 65_537 => counts.count("size", "524 or 65537"),
+            532 | 65_537 => counts.count("size", "532 or 65537"),
             _ => {}
         }
         let mut history = History {
@@ -77,9 +81,11 @@ impl<'a> History<'a> {
             before: Vec::new(),
             sound: false,
             was_damaged: false,
+            old: false,
             undamaged: Vec::new(),
             damage_left: 0,
             held: 0,
+            duplicates: 0,
             removed: Vec::new(),
             filling: true,
             puts,
@@ -118,8 +124,10 @@ impl<'a> History<'a> {
     }
 
     fn look(&mut self) {
+        self.old = false;
         self.sound = is_sound(&self.shelf);
         self.held = if self.sound { bytes_held(&self.shelf) } else { 0 };
+        self.duplicates = if self.sound { number(&self.shelf, DUPLICATES) } else { 0 };
     }
 
     fn damage(&mut self) {
@@ -127,6 +135,7 @@ impl<'a> History<'a> {
         let name = damage(&mut self.random, &mut shelf);
         self.undamaged = std::mem::take(&mut self.shelf);
         self.go_on_with(shelf);
+        self.old = name == OLD;
         self.counts.count("damage", name);
         if self.sound {
             self.counts.count("damage, still sound", name);
@@ -141,7 +150,8 @@ impl<'a> History<'a> {
             return Ok(());
         }
         let startable = (SMALLEST..=LARGEST).contains(&self.shelf.len());
-        if startable && !self.sound && self.random.chance(4) {
+        let chance = if self.old { 25 } else { 4 };
+        if startable && !self.sound && self.random.chance(chance) {
             return self.start("over a damaged shelf");
         }
         let undamaged = std::mem::take(&mut self.undamaged);
@@ -165,6 +175,9 @@ impl<'a> History<'a> {
                 (true, false) => "sound, as it was left",
             },
         );
+        if self.old {
+            self.counts.count_old(name);
+        }
         self.before.clone_from(&self.shelf);
         self.counts.operations += 1;
         let expected = operation(&SECOND, &mut self.shelf, input);
@@ -199,7 +212,8 @@ impl<'a> History<'a> {
             number if number < puts => self.any_put(),
             0..=799 => self.remove(),
             800..=919 => self.get(),
-            920..=998 => self.slots(),
+            920..=959 => self.slots(),
+            960..=998 => self.sums(),
             _ if self.sound => self.start("over a sound shelf"),
             _ => self.start("over a damaged shelf"),
         }
@@ -313,8 +327,21 @@ impl<'a> History<'a> {
         self.is_held("put")
     }
 
+    /// One more duplicate is found, up to the most that can be told.
     fn count_copy(&mut self, full: bool, room: usize, spelling: Option<&'static str>) {
         self.counts.count("put", "a copy");
+        if self.duplicates == u32::MAX {
+            self.counts.count("put", "a copy where the figure stays");
+        } else {
+            self.duplicates += 1;
+            match self.duplicates {
+                u32::MAX => self.counts.count("put", "a copy that brings the figure to its most"),
+                figure if figure % 256 == 0 => {
+                    self.counts.count("put", "a copy by which the figure carries");
+                }
+                _ => {}
+            }
+        }
         if let Some(spelling) = spelling {
             self.counts.count("copy", spelling);
         }
@@ -353,11 +380,16 @@ impl<'a> History<'a> {
         }
     }
 
-    /// The bytes held are those newly put less those removed.
+    /// The bytes held are those newly put less those removed, also by the sum;
+    /// the duplicates are the copies found.
     fn is_held(&self, name: &str) -> Result<(), String> {
-        match bytes_held(&self.shelf) == self.held {
+        let sum = number(&self.shelf, HELD) as usize;
+        if bytes_held(&self.shelf) != self.held || sum != self.held {
+            return Err(format!("not {} bytes are held after {name}", self.held));
+        }
+        match number(&self.shelf, DUPLICATES) == self.duplicates {
             true => Ok(()),
-            false => Err(format!("not {} bytes are held after {name}", self.held)),
+            false => Err(format!("not {} duplicates were found after {name}", self.duplicates)),
         }
     }
 
@@ -446,6 +478,23 @@ impl<'a> History<'a> {
         self.counts.count("slots", occupied);
         self.counts.count("slots", lowest);
         Ok(())
+    }
+
+    fn sums(&mut self) -> Result<(), String> {
+        let told = self.on_all("sums", &[], |side, shelf, _| (side.sums)(shelf))?;
+        if told.number != 0 {
+            self.counts.count("sums", "refused by 19");
+            return Ok(());
+        }
+        let held = if told.held == 0 { "none held" } else { "some held" };
+        let duplicates = match told.duplicates {
+            0 => "no duplicates",
+            4_294_967_295 => "4294967295 duplicates",
+            _ => "some duplicates",
+        };
+        self.counts.count("sums", held);
+        self.counts.count("sums", duplicates);
+        self.is_held("sums")
     }
 }
 

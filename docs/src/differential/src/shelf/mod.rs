@@ -2,7 +2,8 @@
 //! on the same bytes, which are damaged now and then, and must give the same
 //! answers and leave the same bytes, and the guards around them as they were.
 //!
-//! Change request 2026-04, "The shelf".
+//! Change requests 2026-04, "The shelf", and 2026-06, "A shelf that knows its
+//! own sums".
 
 mod beginnings;
 mod counts;
@@ -43,8 +44,9 @@ fn run_with(sides: &[Operations], seed: u64, count: u64, tight: bool) -> Result<
 mod tests {
     use super::sides::SECOND;
     use super::*;
-    use hverolda::surface::{Got, Shelving};
+    use hverolda::surface::{Got, Shelving, SumNumbers};
     use second::refusal::{FREE_SLOT, NO_ROOM};
+    use second::shelf::SMALLEST;
 
     /// Enough for everything that must occur.
     const COUNT: u64 = 60_000;
@@ -98,8 +100,8 @@ mod tests {
         let put = |bytes: &mut [u8], input: &[u8]| match (SECOND.put)(bytes, input) {
             Shelving { number: 0, added: 1, slot: 62, place } if bytes[5] & 128 == 0 => {
                 bytes[5] ^= 128 | 64;
-                bytes.copy_within(13 + 62 * 8..13 + 63 * 8, 13 + 63 * 8);
-                bytes[13 + 62 * 8..13 + 63 * 8].fill(0);
+                bytes.copy_within(21 + 62 * 8..21 + 63 * 8, 21 + 63 * 8);
+                bytes[21 + 62 * 8..21 + 63 * 8].fill(0);
                 Shelving { number: 0, added: 1, slot: 63, place }
             }
             told => told,
@@ -136,6 +138,78 @@ mod tests {
             (SECOND.slots)(&mut other)
         };
         assert!(told(Operations { slots, ..SECOND }).contains("slots"));
+    }
+
+    #[test]
+    fn a_figure_that_does_not_stay_is_seen() {
+        let put = |bytes: &mut [u8], input: &[u8]| {
+            let full = bytes.len() > 20 && bytes[17..21] == [255; 4];
+            let told = (SECOND.put)(bytes, input);
+            if let (0, 0, true) = (told.number, told.added, full) {
+                bytes[17..21].fill(0);
+            }
+            told
+        };
+        assert!(told(Operations { put, ..SECOND }).contains("bytes"));
+    }
+
+    #[test]
+    fn a_figure_of_16_bits_is_seen() {
+        let put = |bytes: &mut [u8], input: &[u8]| {
+            let high = bytes.get(17..19).map(<[u8]>::to_vec);
+            let told = (SECOND.put)(bytes, input);
+            if let Some(high) = high {
+                bytes[17..19].copy_from_slice(&high);
+            }
+            told
+        };
+        assert!(told(Operations { put, ..SECOND }).contains("bytes"));
+    }
+
+    #[test]
+    fn bytes_held_that_nobody_looks_at_are_seen() {
+        // another sum is taken for the sum of the lengths
+        let slots = |bytes: &mut [u8]| {
+            let mut other = bytes.to_vec();
+            if other.len() >= SMALLEST {
+                layout::mend_held(&mut other);
+            }
+            (SECOND.slots)(&mut other)
+        };
+        assert!(told(Operations { slots, ..SECOND }).contains("slots"));
+    }
+
+    #[test]
+    fn a_remove_that_starts_the_figure_anew_is_seen() {
+        let remove = |bytes: &mut [u8], slot: usize| {
+            let told = (SECOND.remove)(bytes, slot);
+            if told.number == 0 {
+                bytes[17..21].fill(0);
+            }
+            told
+        };
+        assert!(told(Operations { remove, ..SECOND }).contains("bytes"));
+    }
+
+    #[test]
+    fn a_refused_put_that_raises_the_figure_is_seen() {
+        let put = |bytes: &mut [u8], input: &[u8]| {
+            let told = (SECOND.put)(bytes, input);
+            if told.number == NO_ROOM {
+                bytes[20] = bytes[20].saturating_add(1);
+            }
+            told
+        };
+        assert!(told(Operations { put, ..SECOND }).contains("bytes"));
+    }
+
+    #[test]
+    fn sums_in_the_place_of_each_other_are_seen() {
+        let sums = |bytes: &mut [u8]| {
+            let told = (SECOND.sums)(bytes);
+            SumNumbers { held: told.duplicates, duplicates: told.held, ..told }
+        };
+        assert!(told(Operations { sums, ..SECOND }).contains("sums"));
     }
 
     #[test]

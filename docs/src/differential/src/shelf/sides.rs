@@ -2,8 +2,8 @@
 //! and the safe wrapper. All answer with the surface's structs, so that a field
 //! that does not apply is looked at too.
 
-use hverolda::surface::{self, Got, Shelving, SlotNumbers, Started, Written};
-use hverolda::{Shelf, Shelved, SLOTS};
+use hverolda::surface::{self, Got, Shelving, SlotNumbers, Started, SumNumbers, Written};
+use hverolda::{Shelf, Shelved, Sums, SLOTS};
 use second::shelf::{self, Put};
 
 /// The operations of a shelf. A slot may be any number.
@@ -15,6 +15,7 @@ pub struct Operations {
     pub get: fn(&mut [u8], usize) -> Got,
     pub remove: fn(&mut [u8], usize) -> Written,
     pub slots: fn(&mut [u8]) -> SlotNumbers,
+    pub sums: fn(&mut [u8]) -> SumNumbers,
 }
 
 pub const SURFACE: Operations = Operations {
@@ -24,6 +25,7 @@ pub const SURFACE: Operations = Operations {
     get: |bytes, slot| surface::shelf_get(bytes, slot),
     remove: surface::shelf_remove,
     slots: |bytes| surface::shelf_slots(bytes),
+    sums: |bytes| surface::shelf_sums(bytes),
 };
 
 pub const SECOND: Operations = Operations {
@@ -53,6 +55,14 @@ pub const SECOND: Operations = Operations {
         (Ok(occupied), Ok(lowest)) => SlotNumbers { occupied, lowest, ..SlotNumbers::default() },
         (Err(refusal), _) | (_, Err(refusal)) => {
             SlotNumbers { number: refusal.number, place: refusal.place, ..SlotNumbers::default() }
+        }
+    },
+    sums: |bytes| match (shelf::held(bytes), shelf::duplicates(bytes)) {
+        (Ok(held), Ok(duplicates)) => {
+            SumNumbers { held: held as u32, duplicates, ..SumNumbers::default() }
+        }
+        (Err(refusal), _) | (_, Err(refusal)) => {
+            SumNumbers { number: refusal.number, place: refusal.place, ..SumNumbers::default() }
         }
     },
 };
@@ -93,6 +103,14 @@ pub const WRAPPER: Operations = Operations {
         }
         Err(refusal) => {
             SlotNumbers { number: refusal.number(), place: refusal.place, ..SlotNumbers::default() }
+        }
+    },
+    sums: |bytes| match Shelf::over(bytes).sums() {
+        Ok(Sums { held, duplicates }) => {
+            SumNumbers { held: held as u32, duplicates, ..SumNumbers::default() }
+        }
+        Err(refusal) => {
+            SumNumbers { number: refusal.number(), place: refusal.place, ..SumNumbers::default() }
         }
     },
 };

@@ -174,6 +174,21 @@ pub struct SlotNumbers {
     pub lowest: usize,
 }
 
+/// What a shelf's two sums are.
+#[repr(C)]
+#[derive(Clone, Copy, Debug, Default, PartialEq, Eq)]
+#[must_use]
+pub struct SumNumbers {
+    /// The refusal's number.
+    pub number: u32,
+    /// How many bytes the kept texts have together.
+    pub held: u32,
+    /// How many puts found their copy.
+    pub duplicates: u32,
+    /// The refusal's place.
+    pub place: usize,
+}
+
 /// The morning figures of a mailbox file.
 #[repr(C)]
 #[derive(Clone, Copy, Debug, Default, PartialEq, Eq)]
