@@ -1,6 +1,7 @@
 -- The record of what is promised of mailbox files, proved. Assumes nothing.
 use Prim.Native.Nat.{ℕ, _+_, _≤_, _<_}
 use mathlib.Core.Path.{_≡_, refl, sym, ap, _∙_}
+use mathlib.Core.Bool.{false}
 use mathlib.Core.Logic.{_⊎_, inl, inr, ⊎-elim}
 use mathlib.Core.List.{List, [], _∷_, _++_, List·Memᴰ}
 use mathlib.Core.Option.{Option, none, some, Option·none-ne-some}
@@ -13,6 +14,7 @@ use Rattle.stages.specs.Stages.{refusalOf}
 use Rattle.stages.proofs.Cases.{length-first}
 use Rattle.answers.specs.Answers.{given, refused}
 use Rattle.operations.specs.Judge.{judge}
+use Rattle.operations.specs.Compare.{isAccepted}
 use Rattle.normal_form_laws.specs.Forms.{endToEnd}
 use Rattle.normal_form_laws.proofs.Theorems.{cut-forms}
 use Rattle.acceptance_laws.specs.Allowed.{Allowed}
@@ -20,8 +22,9 @@ use Rattle.acceptance_laws.proofs.Acceptance.{allowed-exactly}
 use Rattle.mailbox_files.specs.Report.{reportOver, listed, noFigures, withFigures, report}
 use Rattle.mailbox_files.specs.Pieces.{pieces}
 use Rattle.mailbox_files.proofs.Pieces.{no-pieces, pieces-joined}
-use Rattle.mailbox_files.proofs.Numbers.{refused-number, number-accepted, number-refused}
+use Rattle.mailbox_files.proofs.Numbers.{refused-number, number-accepted, number-refused, not-accepted}
 use Rattle.mailbox_files.proofs.Answers.{report-long, report-given}
+use Rattle.mailbox_file_laws.specs.Cutting.{EndsInUnz, Unending}
 use Rattle.mailbox_file_laws.specs.Cutting.{EndsInUnz, Unending}
 use Rattle.mailbox_file_laws.specs.MailboxFiles.{MailboxFiles}
 use Rattle.mailbox_file_laws.proofs.Ends.{unz-ends}
@@ -54,6 +57,18 @@ refused-figures : (file : List ℕ) → 65536 < length file → report file ≡ 
 unfolding withFigures refused listed noFigures
 refused-figures file h = report-long file h
 
+-- a piece that does both
+both : (piece : List ℕ) → EndsInUnz piece → Unending piece → ⊥
+both piece e u = Option·none-ne-some (e .unz) (sym (none-unending piece u) ∙ unz-ends piece e .0)
+
+-- the rest is not accepted: an accepted interchange ends in its UNZ
+rest-refused : (rest : List ℕ) → Unending rest → isAccepted rest ≡ false
+rest-refused rest u = step (refusalOf rest) refl
+  where
+    step : (o : Option Refusal) → refusalOf rest ≡ o → isAccepted rest ≡ false
+    step none e = absurd (both rest (accepted-ends rest e) u)
+    step (some r) e = not-accepted rest r e
+
 pub mailbox-files : MailboxFiles
 unfolding endToEnd reportOver
 mailbox-files =
@@ -62,7 +77,8 @@ mailbox-files =
       cut-exactly = cut-exactly;
       goes-on = piece-first;
       rest-is-one = λ rest n u. rest-alone rest (none-unending rest u) (some-byte rest n);
-      never-both = λ piece e u. Option·none-ne-some (e .unz) (sym (none-unending piece u) ∙ unz-ends piece e .0);
+      rest-refused = rest-refused;
+      never-both = both;
       no-bytes = no-pieces;
       accepted-ends = λ s a. accepted-ends s (stages-of s a);
       accepted-again = λ ss a. accepted-again ss (λ s m. stages-of s (a s m));
@@ -71,6 +87,7 @@ mailbox-files =
       reports = given-figures;
       too-long = refused-figures;
       all-counted = λ file. all-counted (pieces file);
+      refused-listed = λ ps. refl;
       judge-numbers = number-at-most;
       over-counted = λ piece h. number-refused piece (record { fault = TooLong; place = 0 }) (length-first piece h);
       longest-most = λ ps p m a. longest-most ps p m (stages-of p a);

@@ -10,6 +10,7 @@ use Rattle.values.specs.Spelling.{leadsBreak}
 use Rattle.stages.specs.Contents.{normalForm}
 use Rattle.answers.specs.Answers.{given}
 use Rattle.operations.specs.Judge.{judge}
+use Rattle.operations.specs.Compare.{isAccepted}
 use Rattle.normal_form_laws.specs.Forms.{NormalForms, endToEnd, cutForms}
 use Rattle.acceptance_laws.specs.Allowed.{Allowed}
 use Rattle.mailbox_files.specs.Pieces.{pieces}
@@ -28,6 +29,8 @@ pub record MailboxFiles : Type 0 where
   pub goes-on : (piece more : List ℕ) → EndsInUnz piece → leadsBreak more ≡ false → pieces (piece ++ more) ≡ piece ∷ pieces more
   -- "the rest is one .. piece", from its beginning on, "and the report ends there"
   pub rest-is-one : (rest : List ℕ) → (rest ≡ [] → ⊥) → Unending rest → pieces rest ≡ rest ∷ []
+  -- "one refused piece"
+  pub rest-refused : (rest : List ℕ) → Unending rest → isAccepted rest ≡ false
   -- a piece never does both
   pub never-both : (piece : List ℕ) → EndsInUnz piece → Unending piece → ⊥
   -- "A file of no bytes has no pieces."
@@ -51,6 +54,11 @@ pub record MailboxFiles : Type 0 where
   pub all-counted : (file : List ℕ)
       → let ps = pieces file in
       reportOver ps .accepted + sum (map (refusedUnder ps) numbers) ≡ length ps
+  -- "refused under each number": the figure at each place is that of the number; none has the number 0
+  pub refused-listed : (ps : List (List ℕ))
+      → let under = refusedUnder ps in
+      reportOver ps .refused
+      ≡ 0 ∷ under 1 ∷ under 2 ∷ under 3 ∷ under 4 ∷ under 5 ∷ under 6 ∷ under 7 ∷ under 8 ∷ under 9 ∷ under 10 ∷ under 11 ∷ under 12 ∷ under 13 ∷ []
   pub judge-numbers : (piece : List ℕ) → judge piece .number ≤ 13
   -- a piece over 32,000 bytes is counted under 1, be it the rest or not
   pub over-counted : (piece : List ℕ) → 32000 < length piece → judge piece .number ≡ 1
