@@ -1,5 +1,5 @@
 -- What the parts of the shelf's operations leave: a text put where the shelf is sound, a kept text asked for, a pair stored without a text that
--- was removed; and the operations that are lent the summary, which leave the shelf's head alone. Assumes nothing.
+-- was removed; and the operations that are lent the summary, over whose head the caller stores it. Assumes nothing.
 use Prim.Native.Nat.{ℕ, _-_, _≤_, _<_}
 use mathlib.Core.Path.{_≡_}
 use mathlib.Core.Bool.{Bool, true, false}

@@ -115,7 +115,7 @@ pub fn sums(s: &[u8]) -> TwoSums
 
 // ---- Put
 
-// The operation: it is lent the shelf and its summary, and leaves the shelf's head alone.
+// The operation: it is lent the shelf and its summary. What it leaves in the shelf's head is stored over by its caller.
 fn put_lent(s: &mut [u8], u: &mut Summary, input: &[u8]) -> Placed
     requires { ⌜ (sound versionTwo (now s) ≡ true) × Heads (now s) (now u) ⌝ }
     ensures { λ r. ⌜ PutsLent (now (s .entry)) (now (input .entry)) r (now (s .exit)) (now (u .exit)) × PutStays r (now (u .entry)) (now (u .exit)) ⌝ }
@@ -222,7 +222,7 @@ pub fn measure(s: &[u8], slot: usize) -> Stored
 
 // ---- Remove
 
-// The operation: it is lent the shelf and its summary, and leaves the shelf's head alone.
+// The operation: it is lent the shelf and its summary. What it leaves in the shelf's head is stored over by its caller.
 fn remove_lent(s: &mut [u8], u: &mut Summary, slot: usize) -> Stored
     requires { ⌜ (sound versionTwo (now s) ≡ true) × Heads (now s) (now u) ⌝ }
     ensures { λ r. ⌜ RemovesLent (now (s .entry)) slot r (now (s .exit)) (now (u .exit)) × (now (u .exit) .duplicates ≡ now (u .entry) .duplicates) ⌝ }

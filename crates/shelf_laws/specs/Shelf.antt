@@ -106,7 +106,7 @@ pub record Shelf (l : Layout) : Type 0 where
       → endOf l s + length (normalForm input) ≤ length s + n
       → (k : ℕ) × Keeps l (removeShelf l s slot) input k × (put l (removeShelf l s slot) input ≡ newAt k → k ≤ slot)
   -- the two sums of a sound shelf, as its head has them; the second "rises by one at each put that finds its copy, and stays at
-  -- 4,294,967,295", and no other call changes it
+  -- 4,294,967,295", and no other call but Start changes it
   pub sums-given : (s : List ℕ) → WithSums l → Sound l s → (sumsOf l s ≡ given (held l s ∷ duplicatesOf s ∷ [])) × (heldFigure s ≡ held l s)
   pub start-figure : (buffer : List ℕ) → WithSums l → isSized l buffer ≡ true → duplicatesOf (startShelf l buffer) ≡ 0
   pub put-raises : (s input : List ℕ) (slot : ℕ) → WithSums l → put l s input ≡ copyAt slot

@@ -414,7 +414,7 @@ hverolda_written hverolda_write(const uint8_t *service, size_t service_length,
  * no sums and its texts from byte 525 on, is refused by 19.
  *
  * The duplicates found are the puts that found their copy, since Start. They stay at 4,294,967,295, and
- * nothing else alters them.
+ * nothing else but Start alters them.
  *
  * Whatever is refused, the shelf keeps all of its bytes.
  */

@@ -140,7 +140,7 @@ impl<B: AsRef<[u8]> + AsMut<[u8]>> Shelf<B> {
     }
 
     /// Keeps an interchange, unless its normal form is there already: then the
-    /// duplicates found are one more.
+    /// duplicates found are one more, up to [`MOST_DUPLICATES`](crate::MOST_DUPLICATES).
     ///
     /// # Errors
     ///
