@@ -9,7 +9,7 @@
 //! never occurred, unless `--partial` says that the run is a short one.
 //! `--tight` leaves the guards out, for a run under a tool that watches memory.
 //! `--shelf` does so many operations on shelves in place of the cases, `--mailbox`
-//! reports on so many mailbox files.
+//! reports on so many mailbox files, `--orders` puts so many lists in two orders.
 
 mod breaks;
 mod by_second;
@@ -21,6 +21,7 @@ mod inputs;
 mod lent;
 mod limits;
 mod mailbox;
+mod orders;
 mod owned;
 mod pairs;
 mod rules;
@@ -37,7 +38,7 @@ use run::{Checked, Run};
 use tally::Tally;
 
 const USAGE: &str =
-    "usage: differential SEED COUNT [--shelf | --mailbox] [--quiet] [--counts] [--partial] [--tight]";
+    "usage: differential SEED COUNT [--shelf | --mailbox | --orders] [--quiet] [--counts] [--partial] [--tight]";
 
 #[derive(Default)]
 struct Options {
@@ -47,6 +48,7 @@ struct Options {
     tight: bool,
     shelf: bool,
     mailbox: bool,
+    orders: bool,
 }
 
 /// The seed, the count and the options that the words of the command name.
@@ -61,6 +63,7 @@ fn command() -> Option<(u64, u64, Options)> {
             "--tight" => options.tight = true,
             "--shelf" => options.shelf = true,
             "--mailbox" => options.mailbox = true,
+            "--orders" => options.orders = true,
             _ => numbers.push(word.parse().ok()?),
         }
     }
@@ -78,9 +81,10 @@ fn main() -> ExitCode {
             return ExitCode::from(2);
         }
     };
-    let told = match (options.shelf, options.mailbox) {
-        (true, _) => on_shelves(seed, count, &options),
-        (_, true) => on_mailboxes(seed, count, &options),
+    let told = match (options.shelf, options.mailbox, options.orders) {
+        (true, _, _) => on_shelves(seed, count, &options),
+        (_, true, _) => on_mailboxes(seed, count, &options),
+        (_, _, true) => on_orders(seed, count),
         _ => on_cases(seed, count, &options),
     };
     match told {
@@ -132,6 +136,11 @@ fn on_mailboxes(seed: u64, count: u64, options: &Options) -> Told {
         true => Ok((counts.summary(), counts.to_string())),
         false => Err(format!("{count} files: {}", gaps.join("; "))),
     }
+}
+
+fn on_orders(seed: u64, count: u64) -> Told {
+    let counts = orders::run(seed, count)?;
+    Ok((counts.summary(), String::new()))
 }
 
 /// The stated cases, which are case 0, and so many at random.

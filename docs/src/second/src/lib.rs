@@ -13,6 +13,7 @@ pub mod break_checks;
 pub mod cases;
 pub mod contents;
 pub mod control;
+pub mod either_order;
 pub mod generator;
 pub mod judging;
 pub mod level;

@@ -10,7 +10,7 @@ mod counts;
 mod damage;
 mod history;
 mod layout;
-mod sides;
+pub mod sides;
 mod texts;
 
 use second::generator::Random;

@@ -10,6 +10,7 @@ mod draft;
 mod limits;
 mod lists;
 mod mailboxes;
+mod orders;
 mod random;
 mod soups;
 
@@ -29,6 +30,7 @@ use lists::{break_list, fill_table, list_of_draft, random_list, List};
 pub use breaks::{filled_with_breaks, in_lines, with_breaks, Broken};
 pub use draft::Draft;
 pub use mailboxes::any_file;
+pub use orders::{two_orders, TwoOrders};
 pub use random::Random;
 
 /// The letters of all operations.
