@@ -1,4 +1,4 @@
--- What one Put of an accepted interchange does to a sound shelf that has room for it, told by its normal form alone. Assumes nothing.
+-- What one Put of an accepted interchange does to a sound shelf that keeps its normal form or has room for it. Assumes nothing.
 use Prim.Native.Nat.{ℕ, zero, suc, _+_, _≤_, min}
 use mathlib.Core.Path.{_≡_, refl, sym, ap, _∙_}
 use mathlib.Core.Bool.{Bool, true, false, not, true≢false}
@@ -16,8 +16,10 @@ use Rattle.shelves.specs.Layout.{Layout, slotCount, below, isOccupied, Occupied
 use Rattle.shelves.specs.Operations.{lowestFree, copyOf, putShelf}
 use Rattle.shelves.proofs.Sound.{Sound, says-sound}
 use Rattle.shelves.proofs.Answered.{put-copy, put-new}
+use Rattle.shelves.proofs.Found.{copy-none}
 use Rattle.shelves.proofs.Copied.{occupied-as, slots-as, held-as, was-occupied, text-as}
 use Rattle.own_form_laws.proofs.OwnForm.{form-normal}
+use Rattle.shelf_laws.specs.Shelf.{Keeps}
 use Rattle.shelf_laws.proofs.PutCases.{Copying, Storing}
 use Rattle.shelf_laws.proofs.PutSound.{text-other}
 use Rattle.shelf_laws.proofs.PutLaws.{keeps-sound, new-case, copy-case}
@@ -161,14 +163,17 @@ module _ (l : Layout) (sums : 21 ≤ l .pairs) (s input : List ℕ) where
           (λ (k, o, e). (k, (o .0, c .adds .occupiedOther k (o .0) (other k o) ∙ o .1), text-stays k o ∙ e))
           (λ (e : text ≡ form). (slot, (c .lowest .isFree .0, c .adds .occupiedThis), c .adds .textThis ∙ sym e))
 
-  -- there is no third case, where there is room
-  pub one-put : Sound l s → refusalOf input ≡ none → 1 ≤ length (free s) → endOf l s + length form ≤ length s → Stepped l s form after
-  one-put was accepted slots bytes = step (copyOf l s form) refl
+  -- there is no third case, where there is room or where none is needed; and a slot is answered
+  pub one-put : Sound l s → refusalOf input ≡ none
+      → ((Kept l s form → ⊥) → (1 ≤ length (free s)) × (endOf l s + length form ≤ length s))
+      → Stepped l s form after × ((slot : ℕ) × Keeps l s input slot)
+  one-put was accepted room = step (copyOf l s form) refl
     where
-      step : (o : Option ℕ) → copyOf l s form ≡ o → Stepped l s form after
+      step : (o : Option ℕ) → copyOf l s form ≡ o → Stepped l s form after × ((slot : ℕ) × Keeps l s input slot)
       step none e =
+          let (slots, bytes) = room (λ (k, o, h). copy-none l s form e k o h) in
           let d = put-new l s input (says-sound l s .1 was) accepted e (some-left (free s) slots) bytes in
-          stored (new-case l head s input (lowestFree l s) (d .0) .0)
+          (stored (new-case l head s input (lowestFree l s) (d .0) .0), (lowestFree l s, inl (d .0)))
       step (some k) e =
           let d = put-copy l s input (says-sound l s .1 was) accepted e in
-          copied (copy-case l head s input k (d .0) .0)
+          (copied (copy-case l head s input k (d .0) .0), (k, inr (d .0)))

@@ -1,8 +1,8 @@
--- Where there is room for each of two new texts and not for both, the one that is put first is kept and the other is not. Assumes nothing.
-use Prim.Native.Nat.{ℕ, _≤_}
-use mathlib.Core.Path.{_≡_, refl, sym, subst, _∙_}
+-- Where there is room for either of two texts and not for both, the one that is put first is kept and the other is not. Assumes nothing.
+use Prim.Native.Nat.{ℕ, _+_, _≤_}
+use mathlib.Core.Path.{_≡_, refl, sym, ap, subst, _∙_}
 use mathlib.Core.Bool.{true, false, true≢false}
-use mathlib.Core.List.{List, [], _∷_, map}
+use mathlib.Core.List.{List, [], _∷_, map, List·Permᴰ·swap}
 use mathlib.Core.Logic.{inr, ⊎-elim}
 use native.Mathlib.Omega.{arith}
 use lib.Dec.{leb}
@@ -10,68 +10,103 @@ use lib.ListN.{length}
 use Rattle.lists.specs.Lists.{isEmpty}
 use Rattle.lists.proofs.Tests.{says-le, decides}
 use Rattle.stages.specs.Contents.{normalForm}
-use Rattle.shelves.specs.Layout.{Layout, total, free, endOf}
+use Rattle.shelves.specs.Layout.{Layout, total, free, kept, endOf}
 use Rattle.shelves.specs.Operations.{lowestFree, putShelf}
-use Rattle.shelves.proofs.Sound.{says-sound}
+use Rattle.shelves.proofs.Sound.{Sound, says-accepted, says-sound}
 use Rattle.shelves.proofs.Found.{lowest-free, some-free}
 use Rattle.shelf_laws.specs.Shelf.{New}
 use Rattle.shelf_laws.proofs.Order.{then-full, then-roomless}
 use Rattle.shelf_laws.proofs.PutLaws.{refused-stays}
-use Rattle.either_order_laws.specs.EitherOrder.{Kept, freeBytes, Room, PutAll}
-use Rattle.either_order_laws.proofs.OnePut.{AsNew, Stepped, is-new, free-slots, some-left, one-put}
+use Rattle.either_order_laws.specs.EitherOrder.{Kept, freeBytes, newForms, Room, RoomForEither, PutAll}
+use Rattle.either_order_laws.proofs.Reordering.{Texts}
+use Rattle.either_order_laws.proofs.NewTexts.{allBytes, new-none}
+use Rattle.either_order_laws.proofs.OnePut.{Stepped, some-left, one-put}
+use Rattle.either_order_laws.proofs.ManyPuts.{new-kept, new-unkept, Ready, room-first, ready-back, ready-alike}
 
-none-left : (ks : List ℕ) → length ks ≡ 0 → isEmpty ks ≡ true
+none-left : (ks : List ℕ) → (1 ≤ length ks → ⊥) → isEmpty ks ≡ true
 unfolding isEmpty
-none-left [] h = refl
-none-left (k ∷ ks) h = absurd (omega arith)
+none-left [] u = refl
+none-left (k ∷ ks) u = absurd (u (omega arith))
 
-module _ (l : Layout) (sums : 21 ≤ l .pairs) (s a b : List ℕ) (newA : New l s a) (newB : New l s b) (differ : normalForm a ≡ normalForm b → ⊥)
-    (alone : Room l s (a ∷ [])) (both : Room l s (a ∷ b ∷ []) → ⊥) where
+module _ (l : Layout) where
+  -- ---- room, as it is said of interchanges and of normal forms
+
+  pub ready : (s : List ℕ) (inputs : Texts) → Sound l s → Room l s inputs → Ready l s (map normalForm inputs)
+  unfolding freeBytes newForms
+  ready s inputs was room = record { is = was; slots = room .slots; bytes = omega (arith, room .bytes, was .room) }
+
+  pub room-of : (s : List ℕ) (inputs : Texts) → Ready l s (map normalForm inputs) → Room l s inputs
+  unfolding freeBytes newForms
+  room-of s inputs r = record { slots = r .slots; bytes = omega (arith, r .bytes) }
+
+  -- the two may be named in either order
+  pub turned : (s a b : List ℕ) → RoomForEither l s a b → RoomForEither l s b a
+  turned s a b e = record {
+    sane = e .sane;
+    acceptedA = e .acceptedB;
+    acceptedB = e .acceptedA;
+    roomA = e .roomB;
+    roomB = e .roomA;
+    notBoth =
+        λ r.
+        e .notBoth (room-of s (a ∷ b ∷ [])
+        (ready-alike l s (List·Permᴰ·swap refl refl) (ready s (b ∷ a ∷ []) (says-sound l s .0 (e .sane)) r)));
+  }
+
+module _ (l : Layout) (sums : 21 ≤ l .pairs) (s a b : List ℕ) (either : RoomForEither l s a b) where
   abbrev after : List ℕ
   after = putShelf l s a
 
   head : 13 ≤ l .pairs
   head = omega arith
 
-  first-put : Stepped l s (normalForm a) after
-  unfolding freeBytes total
-  first-put =
-      let was = says-sound l s .0 (newA .0) in
-      one-put l sums s a was (newA .1) (omega (arith, alone .slots)) (omega (arith, alone .bytes, was .room))
+  was : Sound l s
+  was = says-sound l s .0 (either .sane)
 
-  as-new : AsNew l s (normalForm a) after
-  as-new = is-new l s (normalForm a) after first-put (λ (k, o, e). newA .2 k o e)
+  first-put : Stepped l s (normalForm a) after
+  first-put =
+      one-put l sums s a was (says-accepted a .0 (either .acceptedA))
+      (room-first l s (normalForm a) [] (ready l s (a ∷ []) was (either .roomA))) .0
+
+  -- then there is no room for the other
+  unready : Ready l after (normalForm b ∷ []) → ⊥
+  unready r = either .notBoth (room-of l s (a ∷ b ∷ []) (ready-back l s (normalForm a) (normalForm b ∷ []) after first-put was r))
 
   not-kept : Kept l after (normalForm b) → ⊥
+  unfolding total
   not-kept k =
-      ⊎-elim (λ (h : Kept l s (normalForm b)). newB .2 (h .0) (h .1) (h .2)) (λ (e : normalForm b ≡ normalForm a). differ (sym e))
-      (first-put .texts (normalForm b) .0 k)
+      let e = new-kept l after (normalForm b) [] k ∙ new-none (kept l after) in
+      unready (record { is = first-put .is; slots = omega (arith, ap length e); bytes = omega (arith, first-put .is .room, ap allBytes e) })
 
   still-new : New l after b
-  still-new = (says-sound l after .1 (first-put .is), newB .1, λ k o e. not-kept (k, o, e))
+  still-new = (says-sound l after .1 (first-put .is), says-accepted b .0 (either .acceptedB), λ k o e. not-kept (k, o, e))
 
   -- no slot is left, or too few bytes are
-  slotless : (2 ≤ length (free s) → ⊥) → putShelf l after b ≡ after
+  slotless : (1 ≤ length (free after) → ⊥) → putShelf l after b ≡ after
   slotless u =
-      let none : length (free after) ≡ 0 = omega (arith, free-slots s, free-slots after, as-new .slots, alone .slots) in
       refused-stays l head after b _
-      (then-full l after b still-new (λ k f. true≢false (sym (none-left (free after) none) ∙ some-free l after k f)))
+      (then-full l after b still-new (λ k f. true≢false (sym (none-left (free after) u) ∙ some-free l after k f)))
 
-  roomless : 2 ≤ length (free s) → putShelf l after b ≡ after
-  unfolding freeBytes total endOf
-  roomless h =
-      ⊎-elim
-      (λ (e : total (map length (map normalForm (a ∷ b ∷ []))) ≤ freeBytes l s). absurd (both (record { slots = h; bytes = e })))
-      (λ (u : total (map length (map normalForm (a ∷ b ∷ []))) ≤ freeBytes l s → ⊥).
-      let some : 1 ≤ length (free after) = omega (arith, free-slots s, free-slots after, as-new .slots) in
+  roomless : 1 ≤ length (free after) → (endOf l after + length (normalForm b) ≤ length after → ⊥) → putShelf l after b ≡ after
+  roomless h u =
       refused-stays l head after b _
-      (then-roomless l after b still-new (lowestFree l after) (lowest-free l after (some-left (free after) some) .isFree)
-      (omega (arith, as-new .bytes, first-put .long))))
-      (decides (leb (total (map length (map normalForm (a ∷ b ∷ [])))) (freeBytes l s))
-      (says-le (total (map length (map normalForm (a ∷ b ∷ [])))) (freeBytes l s)))
+      (then-roomless l after b still-new (lowestFree l after) (lowest-free l after (some-left (free after) h) .isFree) (omega arith))
+
+  both-left : 1 ≤ length (free after) → endOf l after + length (normalForm b) ≤ length after → Ready l after (normalForm b ∷ [])
+  unfolding total
+  both-left h i =
+      let e = new-unkept l after (normalForm b) [] not-kept in
+      let n = new-none (normalForm b ∷ kept l after) in
+      record { is = first-put .is; slots = omega (arith, ap length e, ap length n); bytes = omega (arith, ap allBytes e, ap allBytes n) }
 
   second-stays : putShelf l after b ≡ after
-  second-stays = ⊎-elim roomless slotless (decides (leb 2 (length (free s))) (says-le 2 (length (free s))))
+  second-stays =
+      ⊎-elim
+      (λ (h : 1 ≤ length (free after)).
+      ⊎-elim (λ (i : endOf l after + length (normalForm b) ≤ length after). absurd (unready (both-left h i))) (roomless h)
+      (decides (leb (endOf l after + length (normalForm b)) (length after)) (says-le (endOf l after + length (normalForm b)) (length after))))
+      slotless
+      (decides (leb 1 (length (free after))) (says-le 1 (length (free after))))
 
   pub first-alone : (t : List ℕ) → PutAll l s (a ∷ b ∷ []) t → Kept l t (normalForm a) × (Kept l t (normalForm b) → ⊥)
   unfolding PutAll

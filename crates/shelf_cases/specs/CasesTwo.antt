@@ -1,8 +1,14 @@
--- Request 2026-06: shelves of version 2 written out byte by byte, and what the operations do to the two sums. Assumes nothing.
+-- Requests 2026-06 and 2026-13: shelves of version 2 written out byte by byte, what the operations do to the two sums, and a shelf that has room for
+-- either of two texts and not for both. Assumes nothing.
 use Prim.Native.Nat.{ℕ}
 use mathlib.Core.List.{List, [], _∷_, _++_}
-use lib.ListN.{take, replicate}
-use Rattle.shelves.specs.Layout.{versionTwo}
+use lib.ListN.{length, take, replicate}
+use lib.Dec.{T, eqb}
+use Rattle.lists.specs.Lists.{isEmpty}
+use Rattle.stages.specs.Contents.{normalForm}
+use Rattle.operations.specs.Compare.{isAccepted}
+use Rattle.shelves.specs.Layout.{versionTwo, occupied}
+use Rattle.shelves.specs.Soundness.{sound}
 use Rattle.shelves.specs.Operations.{start, startShelf, slotsOf, sumsOf, put, putShelf, remove, removeShelf}
 use Rattle.starred_cases.specs.Cases.{x}
 use Rattle.shelf_cases.specs.Cases.{long, short, pair, none, summed, one, Row, row}
@@ -55,6 +61,27 @@ removes s slot number values after = row (remove versionTwo s slot) number value
 abbrev sums : List ℕ → ℕ → List ℕ → Row
 sums s number values = row (sumsOf versionTwo s) number values s s
 
+-- request 2026-13: an empty shelf with 93 free bytes, and with the long text or the short one in it
+unfoldable pub narrow : List ℕ
+narrow = empty 93
+
+abbrev narrowLong : List ℕ
+narrowLong = shelfTwo 93 (figure 0 0) 1 (pair 2 21 93) none none long 0
+
+abbrev narrowShort : List ℕ
+narrowShort = shelfTwo 52 (figure 0 0) 1 (pair 2 21 52) none none short 41
+
+-- it is sound, and either text fits it, and not both
+abbrev pub FitsEither : Type 0
+FitsEither =
+    T (sound versionTwo narrow)
+    × T (isEmpty (occupied narrow))
+    × T (eqb (length narrow) 626)
+    × T (isAccepted x)
+    × T (isAccepted short)
+    × T (eqb (length (normalForm x)) 93)
+    × T (eqb (length (normalForm short)) 52)
+
 unfoldable pub rowsTwo : List Row
 rowsTwo =
     row (start versionTwo (replicate 533 7)) 0 [] (startShelf versionTwo (replicate 533 7)) (empty 0)
@@ -71,6 +98,11 @@ rowsTwo =
     ∷ puts (oneTwo (figure 0 0)) (take 83 x) 5 (83 ∷ []) (oneTwo (figure 0 0))
     ∷ puts (empty 92) x 18 (93 ∷ []) (empty 92)
     ∷ puts one x 19 (0 ∷ []) one
+    -- request 2026-13, room for either of two texts and not for both: the one that is put first is kept, and the other is refused by 18
+    ∷ puts narrow x 0 (0 ∷ 1 ∷ []) narrowLong
+    ∷ puts narrowLong short 18 (52 ∷ []) narrowLong
+    ∷ puts narrow short 0 (0 ∷ 1 ∷ []) narrowShort
+    ∷ puts narrowShort x 18 (93 ∷ []) narrowShort
     -- Remove leaves the duplicates figure
     ∷ removes (two (figure 0 4)) 2 0 (93 ∷ []) (shelfTwo 52 (figure 0 4) 1 (pair 2 21 52) none none short 101)
     ∷ removes (two ceiling) 0 0 (52 ∷ []) (shelfTwo 93 ceiling 4 none none (pair 2 21 93) long 60)

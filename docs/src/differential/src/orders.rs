@@ -1,11 +1,11 @@
 //! Two networks, either order: lists of accepted interchanges are put on a shelf in
 //! two random orders, by the surface and by the wrapper, and must leave the same
-//! kept texts, bytes held and duplicates figure, and in each order the bytes that
-//! the second program leaves.
+//! kept texts, bytes held and duplicates figure, and in each order answer what the
+//! second program answers and leave the bytes that it leaves.
 //!
 //! Change request 2026-13, "Two networks, either order".
 
-use second::either_order::{after_puts, check_orders, PutOperation};
+use second::either_order::{check_orders, After, PutOperation, Sorts};
 use second::generator::{two_orders, Random};
 use second::refusal::{Answer, Refusal};
 use second::shelf::Put;
@@ -18,24 +18,33 @@ pub struct Counts {
     lists: u64,
     puts: u64,
     copies: u64,
+    sorts: Sorts,
 }
 
 impl Counts {
     pub fn summary(&self) -> String {
-        let Counts { lists, puts, copies } = self;
+        let Counts { lists, puts, copies, .. } = self;
         format!(
             "{lists} lists in two orders, {puts} puts, {copies} of them of copies: \
              the same texts, bytes held and duplicates"
         )
     }
+
+    /// What the second program answered to a list.
+    fn add(&mut self, told: &After) {
+        self.puts += told.answers.len() as u64;
+        let is_copy = |answer: &&Put| matches!(answer, Put::Found(_));
+        self.copies += told.answers.iter().filter(is_copy).count() as u64;
+    }
 }
 
-/// Puts by one of the sides, with the second program's type for the answer.
+/// Puts by one of the sides, with the second program's type for the answer. What is
+/// neither new nor a copy is no answer of a slot, and so a refusal, of whatever number.
 fn put(side: &Operations, shelf: &mut [u8], input: &[u8]) -> Answer<Put> {
     let told = (side.put)(shelf, input);
     match (told.number, told.added) {
         (0, 1) => Ok(Put::New(told.slot)),
-        (0, _) => Ok(Put::Found(told.slot)),
+        (0, 0) => Ok(Put::Found(told.slot)),
         (number, _) => Err(Refusal { place: told.place, number }),
     }
 }
@@ -44,6 +53,10 @@ const SIDES: [(&str, PutOperation); 2] = [
     ("the surface", |shelf, input| put(&SURFACE, shelf, input)),
     ("the wrapper", |shelf, input| put(&WRAPPER, shelf, input)),
 ];
+
+fn second_put(shelf: &mut [u8], input: &[u8]) -> Answer<Put> {
+    put(&SECOND, shelf, input)
+}
 
 /// So many lists; what occurred, or the first that is not as it should be.
 pub fn run(seed: u64, count: u64) -> Result<Counts, String> {
@@ -55,45 +68,54 @@ fn run_with(sides: &[(&str, PutOperation)], seed: u64, count: u64) -> Result<Cou
     let mut counts = Counts::default();
     for number in 1..=count {
         let orders = two_orders(&mut random);
+        let place = |name: &str, what: String| format!("list {number}, {name}: {what}");
+        let second =
+            check_orders(second_put, &orders).map_err(|what| place("the second program", what))?;
         for (name, put) in sides {
-            let place = |what: String| format!("list {number}, {name}: {what}");
-            check_orders(*put, &orders).map_err(place)?;
-            for list in [&orders.one, &orders.other] {
-                let left = after_puts(*put, &orders.shelf, list).map_err(place)?;
-                let other = after_puts(second_put, &orders.shelf, list).map_err(place)?;
-                if left != other {
-                    return Err(place("the second program leaves other bytes".to_string()));
-                }
+            let told = check_orders(*put, &orders).map_err(|what| place(name, what))?;
+            let both = told.iter().zip(&second);
+            for (told, second) in both {
+                same(told, second).map_err(|what| place(name, what))?;
             }
         }
         counts.lists += 1;
-        counts.puts += 2 * orders.one.len() as u64;
-        counts.copies += copies(&orders.shelf, &orders.one) + copies(&orders.shelf, &orders.other);
+        second.iter().for_each(|told| counts.add(told));
+        counts.sorts.count(&orders, &second)?;
     }
     Ok(counts)
 }
 
-fn second_put(shelf: &mut [u8], input: &[u8]) -> Answer<Put> {
-    put(&SECOND, shelf, input)
-}
-
-/// How many of these are on the shelf when they are put.
-fn copies(shelf: &[u8], list: &[Vec<u8>]) -> u64 {
-    let mut after = shelf.to_vec();
-    let found = |input: &Vec<u8>| matches!(second_put(&mut after, input), Ok(Put::Found(_)));
-    list.iter().map(found).filter(|&found| found).count() as u64
+/// The same answers, and the same bytes.
+fn same(told: &After, second: &After) -> Result<(), String> {
+    if told.answers != second.answers {
+        return Err(format!("{:?}, the second program {:?}", told.answers, second.answers));
+    }
+    match told.shelf == second.shelf {
+        true => Ok(()),
+        false => Err("the second program leaves other bytes".to_string()),
+    }
 }
 
 #[cfg(test)]
 mod tests {
     use super::*;
+    use second::either_order::DIFFERENT;
 
     const COUNT: u64 = 300;
 
     #[test]
-    fn the_second_program_agrees_with_itself_and_copies_occur() {
+    fn the_second_program_agrees_with_itself_and_every_sort_occurs() {
         let counts = run_with(&[("it", second_put)], 1, COUNT).expect("one side is the other");
         assert!(counts.copies > 0 && counts.copies < counts.puts);
+        assert!(counts.sorts.have(2), "{:?}", counts.sorts);
+    }
+
+    /// Whether the comparison of the two orders, and nothing else, says of one of
+    /// the lists that they leave different things.
+    fn orders_differ(put: PutOperation) -> bool {
+        let mut random = Random::new(1);
+        let mut told = (0..COUNT).map(|_| check_orders(put, &two_orders(&mut random)));
+        told.any(|told| told == Err(DIFFERENT.to_string()))
     }
 
     #[test]
@@ -107,6 +129,7 @@ mod tests {
             }
             told
         };
+        assert!(orders_differ(put));
         assert!(run_with(&[("it", put)], 1, COUNT).is_err());
     }
 
@@ -120,6 +143,18 @@ mod tests {
             }
             told
         };
+        assert!(orders_differ(put));
         assert!(run_with(&[("it", put)], 1, COUNT).is_err());
+    }
+
+    #[test]
+    fn an_answer_that_is_not_the_second_programs_is_seen() {
+        // the shelf is left as it should be, and a copy is called new
+        let put: PutOperation = |shelf, input| match second_put(shelf, input) {
+            Ok(Put::Found(slot)) => Ok(Put::New(slot)),
+            told => told,
+        };
+        let told = run_with(&[("it", put)], 1, COUNT).map(|counts| counts.summary());
+        assert!(told.unwrap_err().contains("the second program ["));
     }
 }

@@ -1,11 +1,15 @@
 //! Lists of accepted interchanges in two random orders, and a shelf with room
 //! for all of them.
 //!
-//! Change request 2026-13, "Two networks, either order".
+//! Change request 2026-13, "Two networks, either order". A copy needs neither a
+//! slot nor bytes (2026-04), so that some of the shelves have room only for the
+//! different texts that are new.
+
+use std::collections::BTreeSet;
 
 use super::random::Random;
 use super::{any_valid, same_contents, spelled, Draft};
-use crate::operations::judge;
+use crate::judging::accept;
 use crate::shelf::{put, remove, start, SLOTS, SMALLEST};
 
 /// A sound shelf, and the same interchanges in two orders.
@@ -16,9 +20,9 @@ pub struct TwoOrders {
     pub other: Vec<Vec<u8>>,
 }
 
-/// The length of a valid draft's normal form.
-fn normal_length(draft: &Draft) -> usize {
-    judge(&draft.spelled()).map_or(0, |verdict| verdict.normal_length)
+/// A valid draft's normal form.
+fn form(draft: &Draft) -> Vec<u8> {
+    accept(&draft.spelled()).map_or(Vec::new(), |accepted| accepted.normal_form())
 }
 
 /// The draft in some spelling.
@@ -57,22 +61,36 @@ fn shelf_with(random: &mut Random, size: usize, drafts: &[Draft]) -> Vec<u8> {
 
 /// Two interchanges or more: new ones, spellings of one another, and spellings
 /// of what the shelf keeps. There are free slots and free bytes for the normal
-/// forms of all, often no more.
+/// forms of all, or for those that are new, often no more. The two orders differ.
 pub fn two_orders(random: &mut Random) -> TwoOrders {
-    let count = random.pick(&[2, 2, 2, 2, 3, 4, 6, 10]);
-    let there = random.pick(&[0, 1, 2, 5, SLOTS - count, SLOTS - count]);
-    let kept: Vec<Draft> = (0..there).map(|_| any_valid(random)).collect();
-    let mut drafts: Vec<Draft> = Vec::new();
-    for _ in 0..count {
-        let draft = match random.below(10) {
-            0..=2 if !kept.is_empty() => random.pick(&kept),
-            3..=5 if !drafts.is_empty() => random.pick(&drafts),
-            _ => any_valid(random),
-        };
-        drafts.push(draft);
+    loop {
+        let orders = any_two(random);
+        if orders.one != orders.other {
+            return orders;
+        }
     }
-    let needed: usize = kept.iter().chain(&drafts).map(normal_length).sum();
-    let size = SMALLEST + needed + random.pick(&[0, 0, 1, 100]);
+}
+
+/// The same, but the two orders may be the same.
+fn any_two(random: &mut Random) -> TwoOrders {
+    let count = random.pick(&[2, 2, 2, 2, 3, 4, 6, 10]);
+    let new = random.between(0, count);
+    let fresh: Vec<Draft> = (0..new).map(|_| any_valid(random)).collect();
+    let slots = random.pick(&[count, new]);
+    let there = random.pick(&[0, 1, 2, 5, SLOTS - slots, SLOTS - slots]);
+    let there = if new == 0 { there.max(1) } else { there };
+    let kept: Vec<Draft> = (0..there).map(|_| any_valid(random)).collect();
+    let mut drafts = fresh.clone();
+    while drafts.len() < count {
+        let of_kept = fresh.is_empty() || !kept.is_empty() && random.chance(50);
+        let from = if of_kept { &kept } else { &fresh };
+        drafts.push(random.pick(from));
+    }
+    let forms: Vec<Vec<u8>> = kept.iter().chain(&drafts).map(form).collect();
+    let different: BTreeSet<&Vec<u8>> = forms.iter().collect();
+    let all_bytes: usize = forms.iter().map(Vec::len).sum();
+    let different_bytes: usize = different.iter().map(|form| form.len()).sum();
+    let size = SMALLEST + random.pick(&[all_bytes, different_bytes]) + random.pick(&[0, 0, 1, 100]);
     let shelf = shelf_with(random, size, &kept);
     let inputs: Vec<Vec<u8>> = drafts.iter().map(|draft| any_spelling(random, draft)).collect();
     let one = shuffled(random, &inputs);
