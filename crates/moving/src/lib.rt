@@ -1,5 +1,6 @@
-// A text moved down inside one buffer (request 2026-04: Remove "moves later texts down and zeroes what was
-// vacated"). The old place and the new one may overlap. It promises every byte of the buffer at exit.
+// A text moved inside one buffer: down (request 2026-04: Remove "moves later texts down and zeroes what was
+// vacated"; request 2026-07, on the way back) or up (request 2026-07). The old place and the new one may overlap.
+// It promises every byte of the buffer at exit.
 ghost use mathlib.Core.Path.{_≡_};
 ghost use mathlib.Core.List.{_++_};
 ghost use Prim.Native.Nat.{_+_, _-_, _≤_};
@@ -26,4 +27,17 @@ pub fn move_down(s: &mut [u8], to: usize, from: usize, end: usize)
 {
     copy_down(s, to, from, end);
     storing::fill(s, to + (end - from), from - to, 0);
+}
+
+// Copies what stands from `from` up to `end` to a higher place, from the end on, so that no byte is
+// overwritten before it is copied.
+pub fn move_up(s: &mut [u8], to: usize, from: usize, end: usize)
+    requires { ⌜ (from ≤ to) × (from ≤ end) × (to + (end - from) ≤ length (now s)) ⌝ }
+    ensures { λ _. ⌜ now (s .exit) ≡ sets (now (s .entry)) to (take (end - from) (drop from (now (s .entry)))) ⌝ }
+{
+    let mut left = end - from;
+    while 0 < left {
+        left -= 1;
+        s[to + left] = s[from + left];
+    }
 }

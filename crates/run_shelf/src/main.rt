@@ -1,8 +1,8 @@
-// Plays a history of a shelf: `run_shelf SIZE [put FILE | get SLOT | remove SLOT | slots - | sums -] ..` starts an
-// empty shelf of SIZE bytes and does what the arguments say, in order. It prints a line for each: `started`;
-// `new SLOT` or `copy SLOT`; the kept text; `removed LENGTH`; `slots OCCUPIED LOWEST-FREE`; `sums HELD DUPLICATES`;
-// or `refused NUMBER PLACE`. The line of a file that cannot be read is `unreadable`, and standard error says why.
-// A program in Rattle ends with status 0 whatever it says.
+// Plays a history of a shelf: `run_shelf SIZE [put FILE | get SLOT | remove SLOT | slots - | sums - | carry - |
+// back -] ..` starts an empty shelf of SIZE bytes and does what the arguments say, in order. It prints a line for
+// each: `started`; `new SLOT` or `copy SLOT`; the kept text; `removed LENGTH`; `slots OCCUPIED LOWEST-FREE`; `sums
+// HELD DUPLICATES`; `carried` or `carried back`; or `refused NUMBER PLACE`. The line of a file that cannot be read
+// is `unreadable`, and standard error says why. A program in Rattle ends with status 0 whatever it says.
 use answers::Stored;
 use inputs::Number;
 use inputs::ROOM;
@@ -91,6 +91,13 @@ fn number_at(argument: usize) -> usize {
     }
 }
 
+fn print_done(outcome: Outcome, done: &[u8]) -> bool {
+    match outcome {
+        Outcome::Passed => print_line(done),
+        Outcome::Failed(refusal) => print_refused(b"refused", refusal),
+    }
+}
+
 // What a word asks for, by its first two letters, of the file or the slot that the next argument names.
 fn do_operation(s: &mut [u8], word: usize, argument: usize) -> bool {
     let mut letters = [0u8; 16];
@@ -104,6 +111,12 @@ fn do_operation(s: &mut [u8], word: usize, argument: usize) -> bool {
     }
     if letter == b'r' {
         return print_removed(shelf::remove(s, number_at(argument)));
+    }
+    if letter == b'c' {
+        return print_done(shelf_carrying::carry(s), b"carried");
+    }
+    if letter == b'b' {
+        return print_done(shelf_carrying::carry_back(s), b"carried back");
     }
     if letters[1] == b'u' {
         return print_sums(shelf::sums(s));
@@ -123,15 +136,8 @@ fn do_arguments(s: &mut [u8], count: usize) {
     }
 }
 
-fn print_started(outcome: Outcome) -> bool {
-    match outcome {
-        Outcome::Passed => print_line(b"started"),
-        Outcome::Failed(refusal) => print_refused(b"refused", refusal),
-    }
-}
-
 fn play(s: &mut [u8]) {
-    printing::report(print_started(shelf::start(s)));
+    printing::report(print_done(shelf::start(s), b"started"));
     do_arguments(s, os::arg_count());
 }
 
@@ -141,7 +147,7 @@ fn main() {
     if 65537 < size {
         io::write_all(
             STDERR_FILENO,
-            b"usage: run_shelf SIZE [put FILE | get SLOT | remove SLOT | slots - | sums -] ..\n",
+            b"usage: run_shelf SIZE [put FILE | get SLOT | remove SLOT | slots - | sums - | carry - | back -] ..\n",
         );
         return;
     }

@@ -30,32 +30,38 @@ SaysAlike l s t k = (lengthAnswer l t k ≡ lengthAnswer l s k) × (got l t k �
 says-occupied : (s : List ℕ) (k : ℕ) → Says (ltb k slotCount && isOccupied s k) (Occupied s k)
 says-occupied s k = says-both (ltb k slotCount) (isOccupied s k) (says-lt k slotCount) (λ h. h, λ h. h)
 
-module _ (l : Layout) (head : 13 ≤ l .pairs) (k : ℕ) where
+module _ (k : ℕ) where
   -- an occupied slot of a sound shelf
-  measured : (s : List ℕ) → Sound l s → Occupied s k → lengthAnswer l s k ≡ given (lengthOf l s k ∷ [])
-  measured s sane o = slot-given l s k (slot-there l s k sane (says-occupied s k .1 o)) .0
+  measured : (l : Layout) (s : List ℕ) → Sound l s → Occupied s k → lengthAnswer l s k ≡ given (lengthOf l s k ∷ [])
+  measured l s sane o = slot-given l s k (slot-there l s k sane (says-occupied s k .1 o)) .0
 
   -- of any other, zero bytes
-  nothing : (s : List ℕ) → Sound l s → (Occupied s k → ⊥) → got l s k ≡ []
-  nothing s sane u =
+  nothing : (l : Layout) (s : List ℕ) → Sound l s → (Occupied s k → ⊥) → got l s k ≡ []
+  nothing l s sane u =
       let d = slot-refused l s k (free-refused l s k sane u) in
       ap₂ (λ (w n : ℕ). take w (drop n s)) (d .2) (d .1)
 
-  pub alike : (s t : List ℕ) → Sound l s → Sound l t → (k < slotCount → isOccupied t k ≡ isOccupied s k)
-      → (k < slotCount → lengthOf l t k ≡ lengthOf l s k) → (Occupied s k → textOf l t k ≡ textOf l s k) → SaysAlike l s t k
-  alike s t was is same long text =
+  -- the shelves may have different layouts
+  pub alike-in : (l m : Layout) → 13 ≤ l .pairs → 13 ≤ m .pairs → (s t : List ℕ) → Sound l s → Sound m t
+      → (k < slotCount → isOccupied t k ≡ isOccupied s k) → (k < slotCount → lengthOf m t k ≡ lengthOf l s k)
+      → (Occupied s k → textOf m t k ≡ textOf l s k) → (lengthAnswer m t k ≡ lengthAnswer l s k) × (got m t k ≡ got l s k)
+  alike-in l m head heads s t was is same long text =
       ⊎-elim
       (λ (o : Occupied s k).
       let q : Occupied t k = (o .0, same (o .0) ∙ o .1) in (
-        measured t is q ∙ ap (λ (n : ℕ). given (n ∷ [])) (long (o .0)) ∙ sym (measured s was o),
-        got-text l t k head (says-sound l t .0 is) q ∙ text o ∙ sym (got-text l s k head (says-sound l s .0 was) o),
+        measured m t is q ∙ ap (λ (n : ℕ). given (n ∷ [])) (long (o .0)) ∙ sym (measured l s was o),
+        got-text m t k heads (says-sound m t .0 is) q ∙ text o ∙ sym (got-text l s k head (says-sound l s .0 was) o),
       ))
       (λ (u : Occupied s k → ⊥).
       let v : Occupied t k → ⊥ = λ q. u (q .0, sym (same (q .0)) ∙ q .1) in (
-        slot-refused l t k (free-refused l t k is v) .0 ∙ sym (slot-refused l s k (free-refused l s k was u) .0),
-        nothing t is v ∙ sym (nothing s was u),
+        slot-refused m t k (free-refused m t k is v) .0 ∙ sym (slot-refused l s k (free-refused l s k was u) .0),
+        nothing m t is v ∙ sym (nothing l s was u),
       ))
       (decides (ltb k slotCount && isOccupied s k) (says-occupied s k))
+
+pub alike : (l : Layout) → 13 ≤ l .pairs → (k : ℕ) (s t : List ℕ) → Sound l s → Sound l t → (k < slotCount → isOccupied t k ≡ isOccupied s k)
+    → (k < slotCount → lengthOf l t k ≡ lengthOf l s k) → (Occupied s k → textOf l t k ≡ textOf l s k) → SaysAlike l s t k
+alike l head k = alike-in k l l head head
 
 -- ---- how many are occupied
 

@@ -1,7 +1,6 @@
-// The surface: all operations of paper 01, "Operations", of the shelf (requests 2026-04 and 2026-06) and of mailbox files (request
+// The surface: all operations of paper 01, "Operations", of the shelf (requests 2026-04, 2026-06 and 2026-07) and of mailbox files (request
 // 2026-02), for programs in C and Rust. It promises, for any bytes and any numbers, the paper's answers as the definitions in specs/ lay them
-// out in structs,
-// and every byte and number of each lent buffer at exit. A slice crosses as a pointer and a length;
+// out in structs, and every byte and number of each lent buffer at exit. A slice crosses as a pointer and a length;
 // nothing is asked of what it holds. `laying` makes the structs of the answers.
 ghost use mathlib.Core.Path.{_≡_};
 ghost use Rattle.operations.specs.Judge.{judge as judgeOf, normalise as normaliseOf, normaliseBuffer};
@@ -16,6 +15,7 @@ ghost use Rattle.surface.specs.Rules.{rules};
 ghost use Rattle.surface.specs.OfShelf.{startedOf, shelvingOf, gotOf, slotNumbersOf, sumNumbersOf};
 ghost use Rattle.surface.specs.OfMailbox.{morningOf};
 ghost use Rattle.mailbox_files.specs.Report.{report as reportOf};
+ghost use Rattle.carrying.specs.Carrying.{carry as carryOf, carryShelf, carryBack as carryBackOf, carryBackShelf};
 ghost use Rattle.shelves.specs.Layout.{versionTwo};
 ghost use Rattle.shelves.specs.Operations.{start as startOf, startShelf, put as putOf, putShelf, gotOffset, gotLength, lengthAnswer, remove as removeOf, removeShelf, slotsOf, sumsOf};
 use answers::Stored;
@@ -108,7 +108,7 @@ pub struct Listing {
     pub numbers: usize,
 }
 
-// What a shelf's Start says: 0, or the refusal's number and place.
+// What a shelf's Start says, and Carry and Carry back: 0, or the refusal's number and place.
 #[repr(C)]
 pub struct Started {
     pub number: u32,
@@ -321,4 +321,18 @@ pub extern "C" fn hverolda_shelf_sums(shelf: &[u8]) -> SumNumbers
     ensures { λ r. ⌜ r ≡ sumNumbersOf (sumsOf versionTwo (now (shelf .entry))) ⌝ }
 {
     sum_numbers_of(shelf::sums(shelf))
+}
+
+#[no_mangle]
+pub extern "C" fn hverolda_shelf_carry(shelf: &mut [u8]) -> Started
+    ensures { λ r. ⌜ (r ≡ startedOf (carryOf (now (shelf .entry)))) × (now (shelf .exit) ≡ carryShelf (now (shelf .entry))) ⌝ }
+{
+    started_of(shelf_carrying::carry(shelf))
+}
+
+#[no_mangle]
+pub extern "C" fn hverolda_shelf_carry_back(shelf: &mut [u8]) -> Started
+    ensures { λ r. ⌜ (r ≡ startedOf (carryBackOf (now (shelf .entry)))) × (now (shelf .exit) ≡ carryBackShelf (now (shelf .entry))) ⌝ }
+{
+    started_of(shelf_carrying::carry_back(shelf))
 }

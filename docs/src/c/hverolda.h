@@ -146,10 +146,10 @@ enum hverolda_refusal {
     /* No slot of the shelf is free, and the text is not there. Place: 64. */
     HVEROLDA_NO_FREE_SLOT = 17,
     /* The shelf has fewer free bytes than the text needs, and it is not there. Place: the bytes that
-       it needs. */
+       it needs. Carry: fewer than the 8 bytes of the two sums. Place: 8. */
     HVEROLDA_NO_ROOM = 18,
-    /* No sound shelf, one of version 1 among them; Start: fewer than 533 or more than 65,536 bytes.
-       Place: 0. */
+    /* No sound shelf of version 2; Carry: none of version 1; Start: fewer than 533 or more than 65,536
+       bytes. Place: 0. */
     HVEROLDA_UNSOUND_SHELF = 19,
     /* The slot is free, or above 63. Place: the slot. */
     HVEROLDA_FREE_SLOT = 20
@@ -233,7 +233,7 @@ typedef struct hverolda_listing {
     size_t numbers;
 } hverolda_listing;
 
-/* What a shelf's Start says: all is 0; or `number` and `place`. */
+/* What a shelf's Start says, and Carry and Carry back: all is 0; or `number` and `place`. */
 typedef struct hverolda_started {
     uint32_t number;
     size_t place;
@@ -409,12 +409,16 @@ hverolda_written hverolda_write(const uint8_t *service, size_t service_length,
  * It is sound when the occupied texts are normal forms by the rules of the archive, all different,
  * disjoint and together fill the room from byte 533 without gaps, free pairs and free bytes are zero,
  * and the bytes held are the sum of the lengths; the duplicates found may be any number. Every function
- * but Start asks this first, of any bytes: a shelf that comes from a file or a stranger may be lent as
- * it is. What these functions leave is sound, unless they refuse by 19. A shelf of version 1, which had
- * no sums and its texts from byte 525 on, is refused by 19.
+ * but Start and Carry asks this first, of any bytes: a shelf that comes from a file or a stranger may be
+ * lent as it is. What they leave is sound, unless they refuse by 19; Carry back leaves a sound shelf of
+ * version 1.
  *
- * The duplicates found are the puts that found their copy, since Start. They stay at 4,294,967,295, and
- * nothing else but Start alters them.
+ * A shelf of version 1 had no sums, its pairs from byte 13 on and its texts from byte 525 on, and at
+ * least 525 bytes. Carry asks first whether it is sound so, and makes it one of version 2. Start writes
+ * over it, as over any bytes, and all other functions refuse it by 19. The byte at place 4 is the version.
+ *
+ * The duplicates found are the puts that found their copy, since Start or Carry. They stay at
+ * 4,294,967,295, and nothing else but Start and Carry alters them.
  *
  * Whatever is refused, the shelf keeps all of its bytes.
  */
@@ -441,7 +445,7 @@ hverolda_shelving hverolda_shelf_put(uint8_t *shelf, size_t shelf_length,
 
 /*
  * Get: the part of the shelf that a slot keeps. A part that was handed back may move with the next
- * Remove.
+ * Remove or Carry back.
  *
  * Refusals: 19, then 20.
  */
@@ -471,6 +475,27 @@ hverolda_slot_numbers hverolda_shelf_slots(const uint8_t *shelf, size_t shelf_le
  * Refusals: 19.
  */
 hverolda_sum_numbers hverolda_shelf_sums(const uint8_t *shelf, size_t shelf_length);
+
+/*
+ * Carry: turns a shelf of version 1 into one of version 2, in its own buffer. Slots and texts stay.
+ *
+ * Refusals: 19 where it is no sound shelf of version 1, then 18 where fewer than 8 bytes are free: it is
+ * then sound still, in version 1, and so it is with eight zero bytes more behind it, up to 65,536.
+ * Afterwards `shelf` holds the same map, the bytes held and 0 duplicates found behind it, and the pairs
+ * and the texts eight bytes higher, so that each start is more by 8; eight bytes fewer are free.
+ */
+hverolda_started hverolda_shelf_carry(uint8_t *shelf, size_t shelf_length);
+
+/*
+ * Carry back: turns a shelf of version 2 into one of version 1, in its own buffer. Slots and texts stay,
+ * and the duplicates found are lost. There and back gives the same bytes, but for that figure. A part
+ * that was handed back moves.
+ *
+ * Refusals: 19 where it is no sound shelf of version 2.
+ * Afterwards `shelf` holds the same map, and the pairs and the texts eight bytes lower, so that each
+ * start is less by 8; eight bytes more are free, and zero.
+ */
+hverolda_started hverolda_shelf_carry_back(uint8_t *shelf, size_t shelf_length);
 
 /*
  * Report: the morning figures of a mailbox file, which has interchanges end to end.

@@ -2,7 +2,8 @@
 # shelf.pl HVEROLDA KILLS ROUNDS: the command over a shelf in a file. KILLS runs are killed at random moments, and in each of
 # ROUNDS rounds eight run at once on one file while others are killed beside them. Whatever happens, the file is the shelf that
 # undisturbed runs make, or the one before, no put is lost and every copy is counted once; what a killed run leaves, a lock or
-# a file, stops nobody.
+# a file, stops nobody. Among the killed runs are some that carry the shelf into its other version, and back; and while eight
+# take their texts away, another carries the shelf back and over.
 # It says what it did in one line, and dies of anything else.
 use strict;
 use warnings;
@@ -57,7 +58,7 @@ sub begin {
         $begun{$process} = 1;
         return $process;
     }
-    $does->();
+    eval { $does->(); 1 } or do { warn $@; _exit(1) };
     _exit(0);
 }
 sub ended { my ($process) = @_; waitpid $process, 0; delete $begun{$process}; return $? }
@@ -75,15 +76,39 @@ sub begin_run {
 
 sub end { my ($process) = @_; kill 'KILL', $process; ended($process) }
 
+sub store { my ($name, $bytes) = @_; open my $file, '>:raw', $name or die "$name: $!"; print $file $bytes; close $file or die $! }
+
 # ---- killed at random moments: an undisturbed shelf beside it says what must be there
 
 my ($tried, $twin) = ("$folder/tried", "$folder/twin");
 expect("started 30000\n", 0, $_, 'start', 30000) for $tried, $twin;
-my ($before_it, $after_it, $left, $starts, $copied) = (0, 0, 0, 0, 0);
+my ($before_it, $after_it, $left, $starts, $copied, $carried) = (0, 0, 0, 0, 0, 0);
 # when a run changes the file, in seconds from its beginning: every other moment is close to it
 my $time = time;
 expect("new 0\n", 0, $_, 'put', interchange(0)) for $tried, $twin;
 my $moment = (time - $time) / 2;
+
+# a copy of the shelf carried back, and over again, each by a run that is killed: it is of the one version or of the other, whole
+sub carry_killed {
+    my ($bytes) = @_;
+    my ($mine, $other) = ("$folder/carried", "$folder/carried-twin");
+    store($_, $bytes) for $mine, $other;
+    for my $way (['carry-back', "carried back\n"], ['carry', "carried\n"]) {
+        my ($verb, $said) = @$way;
+        my $before = bytes_of($mine);
+        my $process = begin_run($mine, $verb);
+        sleep $moment * rand 2;
+        end($process);
+        expect($said, 0, $other, $verb);
+        bytes_of($mine) eq $before ? expect($said, 0, $mine, $verb) : $carried++;
+        die "neither of the one version nor of the other\n" unless bytes_of($mine) eq bytes_of($other);
+        die "a file is left beside what was carried\n" if -e "$folder/.carried.hverolda-new";
+    }
+    # the duplicates figure is lost
+    substr $bytes, 17, 4, "\0" x 4;
+    die "there and back gives other bytes\n" unless bytes_of($mine) eq $bytes;
+}
+
 for my $number (1 .. $kills) {
     # of four puts the last is a copy of the one before
     my @change = $number % 60 >= 40 ? ('remove', $number % 60 - 40)
@@ -109,6 +134,7 @@ for my $number (1 .. $kills) {
     die "neither the old shelf nor the new one\n" unless bytes_of($tried) eq bytes_of($twin);
 
     next if $number % 5;
+    carry_killed(bytes_of($tried));
     # a start: no file at all, or a whole one
     my $started = "$folder/started$number";
     $process = begin_run($started, 'start', 600);
@@ -206,8 +232,15 @@ for my $round (1 .. $rounds) {
         my ($text) = hverolda('shelf', $shared, 'get', $slot);
         die "slot $slot has another text\n" unless $text eq (hverolda('normalise', $name))[0];
     }
+    expect("occupied \\d+\nheld \\d+\nfree \\d+\nduplicates $copies\n(?s:.*)", 0, $shared, 'list');
+    # another carries the shelf back and over meanwhile: whoever finds version 1 asks again
+    my $carrier = begin(sub {
+        for (1 .. 3) { expect("carried back\n", 0, $shared, 'carry-back'); sleep $moment; expect("carried\n", 0, $shared, 'carry') }
+    });
+    my $remove = sub { my ($slot, $told) = @_; do { ($told) = hverolda('shelf', $shared, 'remove', $slot) } while $told =~ /^refused 19 /; return $told };
     # what is left is what the killed runs put, each once
-    my @removed = eight(sub { my ($run) = @_; return map { (hverolda('shelf', $shared, 'remove', $_))[0] } @{$of_run[$run]} });
+    my @removed = eight(sub { my ($run) = @_; return map { $remove->($_) } @{$of_run[$run]} });
+    die "it was not carried\n" if ended($carrier);
     die "removed: @$_" for grep { grep { !/^removed \d+$/ } @$_ } @removed;
     my @slots = (hverolda('shelf', $shared, 'list'))[0] =~ /^(\d+) \d+$/mg;
     my %killed = map { (hverolda('normalise', $_))[0] => 1 } @others;
@@ -216,10 +249,10 @@ for my $round (1 .. $rounds) {
         die "slot $slot has what nobody put, or twice\n" unless delete $killed{$text};
         expect("removed \\d+\n", 0, $shared, 'remove', $slot);
     }
-    # an empty shelf, and in it the duplicates found
-    die "not empty, or not $copies duplicates\n" unless bytes_of($shared) eq "EDS\0\2" . "\0" x 12 . pack('N', $copies) . "\0" x 65515;
+    # an empty shelf; the duplicates found were lost on the way back
+    die "not empty, or with duplicates\n" unless bytes_of($shared) eq "EDS\0\2" . "\0" x 65531;
     my $beside = "$folder/.shared$round.hverolda-new";
     die "left behind: $beside\n" if -e $beside;
 }
 print "$kills killed, $copied of them puts of copies: $before_it before the change ($left with a file half done), $after_it after it; "
-    . int($kills / 5) . " killed starts: $starts after it; $rounds times eight at once: nothing lost\n";
+    . int($kills / 5) . " killed starts: $starts after it; " . 2 * int($kills / 5) . " killed carryings: $carried after it; $rounds times eight at once, and one that carries: nothing lost\n";

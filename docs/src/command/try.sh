@@ -232,10 +232,38 @@ for other in damaged another-sum empty version-1 empty-1 many/100; do
     expect 1 '' "hverolda: $work/$other: $unsound" on "$work/$other" list
     cmp -s "$work/before" "$work/$other" || complain "$other is changed"
 done
+
+# an old shelf is carried over, and back: slots and texts stay, and there and back gives the same bytes
+cp "$work/version-1" "$work/old"
+expect 0 'carried' '' on "$work/old" carry
+expect 0 $'occupied 1\nheld 93\nfree 92\nduplicates 0\n0 93' '' on "$work/old" list
+expect 0 "UNA:+.? '$(cat "$x")" '' on "$work/old" get 0
+expect 1 'copy 0' '' on "$work/old" put "$respelled"
+expect 1 "$unsound" '' on "$work/old" carry
+expect 0 'carried back' '' on "$work/old" carry-back
+cmp -s "$work/version-1" "$work/old" || complain 'there and back gives other bytes'
+expect 1 "$unsound" '' on "$work/old" carry-back
+expect 1 "$unsound" '' on "$work/old" put "$x"
+# the sums need eight free bytes; what is sound in no version is refused both ways
+for free in 0 7; do
+    { cat "$work/empty-1" && head -c $free /dev/zero; } >"$work/old"
+    expect 1 'refused 18 8 the shelf has too few free bytes*' '' on "$work/old" carry
+done
+{ cat "$work/empty-1" && head -c 8 /dev/zero; } >"$work/old"
+expect 0 'carried' '' on "$work/old" carry
+expect 0 $'occupied 0\nheld 0\nfree 0\nduplicates 0' '' on "$work/old" list
+for other in damaged another-sum empty many/100; do
+    cp "$work/$other" "$work/before"
+    expect 1 "$unsound" '' on "$work/$other" carry
+    expect 1 "$unsound" '' on "$work/$other" carry-back
+    cmp -s "$work/before" "$work/$other" || complain "$other is changed"
+done
+
 mkfifo "$work/pipe"
 for other in "$work" "$work/pipe" /dev/zero; do
     expect 2 '' "hverolda: $other: it is no regular file" on "$other" list
     expect 2 '' "hverolda: $other: it is no regular file" on "$other" put "$x"
+    expect 2 '' "hverolda: $other: it is no regular file" on "$other" carry
 done
 
 # the file that takes its place has its permissions, and takes the place of what a link names
@@ -250,6 +278,7 @@ limited() { (trap '' XFSZ && ulimit -f 16 && "$@"); }
 cp "$shelf" "$work/before"
 expect 2 '' "hverolda: $shelf: File too large*" limited on "$shelf" put "$work/many/101"
 expect 2 '' "hverolda: $shelf: File too large*" limited on "$shelf" put "$x"
+expect 2 '' "hverolda: $shelf: File too large*" limited on "$shelf" carry-back
 expect 2 '' "hverolda: $work/other: File too large*" limited on "$work/other" start
 cmp -s "$work/before" "$shelf" || complain 'half a shelf'
 compgen -G "$work/.*.hverolda-*" && complain 'a file is left beside a shelf'
@@ -267,6 +296,8 @@ expect 2 '' "hverolda: a shelf's file and what to do *" on "$shelf"
 expect 2 '' "hverolda: '$x' is nothing that is done *" on "$shelf" "$x"
 expect 2 '' "hverolda: get has other operands*" on "$shelf" get
 expect 2 '' "hverolda: list has other operands*" on "$shelf" list 0
+expect 2 '' "hverolda: carry has other operands*" on "$shelf" carry 2
+expect 2 '' "hverolda: carry-back has other operands*" on "$shelf" carry-back 1
 expect 2 '' "hverolda: '-1' is no option*" on "$shelf" get -1
 expect 2 '' "hverolda: 'x' is no number*" on "$shelf" remove x
 
@@ -347,6 +378,8 @@ expect 0 '' 'usage: run_compare *' "$programs/run_compare" "$x"
 expect 0 'refused text 16 16' '' "$programs/run_respell" '+*.  ~' "$x"
 expect 0 $'started\nunreadable\nunreadable\nnew 0\ncopy 0\nsums 93 1\nUNA*\nremoved 93\nslots 0 0\nsums 0 1' "$trouble" \
     "$programs/run_shelf" 1000 put "$work/none" put "$work" put "$x" put "$respelled" sums - get 0 remove 0 slots - sums -
+expect 0 $'started\nnew 0\ncarried back\nrefused 19 0\nrefused 19 0\ncarried\nrefused 19 0\nsums 93 0\ncopy 0' '' \
+    "$programs/run_shelf" 1000 put "$x" back - back - get 0 carry - carry - sums - put "$respelled"
 expect 0 'refused 19 0' '' "$programs/run_shelf" 532
 expect 0 '' 'usage: run_shelf *' "$programs/run_shelf"
 expect 0 '' 'usage: run_shelf *' "$programs/run_shelf" put "$x"

@@ -4,7 +4,7 @@ use Prim.Native.Nat.{ℕ, _+_, _-_, _≤_}
 use mathlib.Core.Path.{_≡_, refl, sym, ap, _∙_}
 use lib.ListN.{length, take, drop, getD, length-set}
 use lib.Seq.{sets}
-use Rattle.moving.proofs.Steps.{one-copied}
+use Rattle.moving.proofs.Steps.{one-behind}
 use Rattle.moving.proofs.copy_down.Statement.{statement}
 use Rattle.moving.proofs.copy_down.Tie as tie
 
@@ -44,7 +44,7 @@ loop-again c =
     let state = c .before .before .loop in (
       omega arith,
       length-set (state .s) (x .to + state .i) (getD (state .s) (x .from + state .i) 0) ∙ state .inv .1,
-      one-copied (x .s .now) (state .s) (x .to) (x .from) (state .i) (c .before .before .before .pre .0) (omega arith) (state .inv .2),
+      one-behind (x .s .now) (state .s) (x .to) (x .from) (state .i) (omega arith) (state .inv .2) (c .before .before .before .pre .0) (omega arith),
     )
 
 same-length : tie.Need-same-length Inv-loop μ-loop

@@ -11,7 +11,7 @@ use crate::{usage, Command, Status, Trouble};
 
 pub const COMMAND: Command = Command {
     name: "shelf",
-    operands: "SHELF (start [SIZE] | put [FILE].. | get SLOT | remove SLOT | list)",
+    operands: "SHELF (start [SIZE] | put [FILE].. | get SLOT | remove SLOT | list | carry | carry-back)",
     help: "\
 Keeps interchanges in a file, SHELF, each once.
 
@@ -24,11 +24,19 @@ get      writes the text that a slot keeps, a normal form, with no byte besides.
 remove   takes it away. Prints removed LENGTH.
 list     prints lines of a name and a number: occupied, how many of the 64 slots are;
          held, the bytes of all texts; free, the bytes that are left; duplicates, how many
-         copies were put since start, up to 4294967295; and for each occupied slot its
-         number and the length of its text.
+         copies were put since start or carry, up to 4294967295; and for each occupied
+         slot its number and the length of its text.
+carry    turns SHELF from version 1, which counted no duplicates, into version 2. Slots
+         and texts stay, and duplicates begin at 0. Prints carried; or refused 18 8 where
+         fewer than 8 bytes are free: remove a text with the program of version 1, or
+         append 8 zero bytes where SHELF then has at most 65536.
+carry-back
+         turns SHELF into version 1 again, for a site that has no version 2 yet. Slots
+         and texts stay, and duplicates are lost. Prints carried back.
 
 A shelf that is not sound, so that no text of it can be trusted, is refused by 19 and left
-as it is; so is one of version 1, which counted no duplicates. Slots are 0 to 63.
+as it is; so is one of the other version: carry asks for version 1, put, get, remove, list
+and carry-back for version 2. Slots are 0 to 63.
 
 SHELF is replaced as a whole: whatever stops a run, it holds the old shelf or the new one.
 What was done is printed when it is on the disk. Runs that change one SHELF wait for each
@@ -50,7 +58,9 @@ fn run(output: &mut Output, operands: &[OsString]) -> Result<Status, Trouble> {
         (Some("get"), [slot]) => get(output, name, number(slot)?),
         (Some("remove"), [slot]) => remove(output, name, number(slot)?),
         (Some("list"), []) => list(output, name),
-        (Some("start" | "get" | "remove" | "list"), _) => {
+        (Some("carry"), []) => carry(output, name, Shelf::carry, "carried"),
+        (Some("carry-back"), []) => carry(output, name, Shelf::carry_back, "carried back"),
+        (Some("start" | "get" | "remove" | "list" | "carry" | "carry-back"), _) => {
             usage(&format!("{} has other operands", shown(verb)))
         }
         _ => usage(&format!("'{}' is nothing that is done with a shelf", shown(verb))),
@@ -94,6 +104,20 @@ fn get(output: &mut Output, name: &OsStr, slot: usize) -> Result<Status, Trouble
 fn remove(output: &mut Output, name: &OsStr, slot: usize) -> Result<Status, Trouble> {
     let said = match change(name, |shelf| shelf.remove(slot))? {
         Ok(length) => Said::Line(Status::Yes, format!("removed {length}")),
+        Err(refusal) => Said::Refused("refused", refusal),
+    };
+    output.say(&alone(name), said)
+}
+
+/// Into the other version, in either direction.
+fn carry(
+    output: &mut Output,
+    name: &OsStr,
+    carry: fn(&mut Shelf<Vec<u8>>) -> Result<(), Refusal>,
+    done: &str,
+) -> Result<Status, Trouble> {
+    let said = match change(name, carry)? {
+        Ok(()) => Said::Line(Status::Yes, done.to_string()),
         Err(refusal) => Said::Refused("refused", refusal),
     };
     output.say(&alone(name), said)

@@ -9,7 +9,8 @@
 //! never occurred, unless `--partial` says that the run is a short one.
 //! `--tight` leaves the guards out, for a run under a tool that watches memory.
 //! `--shelf` does so many operations on shelves in place of the cases, `--mailbox`
-//! reports on so many mailbox files, `--orders` puts so many lists in two orders.
+//! reports on so many mailbox files, `--orders` puts so many lists in two orders,
+//! `--carry` carries so many shelves into their other version and back.
 
 mod breaks;
 mod by_second;
@@ -38,7 +39,7 @@ use run::{Checked, Run};
 use tally::Tally;
 
 const USAGE: &str =
-    "usage: differential SEED COUNT [--shelf | --mailbox | --orders] [--quiet] [--counts] [--partial] [--tight]";
+    "usage: differential SEED COUNT [--shelf | --mailbox | --orders | --carry] [--quiet] [--counts] [--partial] [--tight]";
 
 #[derive(Default)]
 struct Options {
@@ -49,6 +50,7 @@ struct Options {
     shelf: bool,
     mailbox: bool,
     orders: bool,
+    carry: bool,
 }
 
 /// The seed, the count and the options that the words of the command name.
@@ -64,6 +66,7 @@ fn command() -> Option<(u64, u64, Options)> {
             "--shelf" => options.shelf = true,
             "--mailbox" => options.mailbox = true,
             "--orders" => options.orders = true,
+            "--carry" => options.carry = true,
             _ => numbers.push(word.parse().ok()?),
         }
     }
@@ -81,10 +84,11 @@ fn main() -> ExitCode {
             return ExitCode::from(2);
         }
     };
-    let told = match (options.shelf, options.mailbox, options.orders) {
-        (true, _, _) => on_shelves(seed, count, &options),
-        (_, true, _) => on_mailboxes(seed, count, &options),
-        (_, _, true) => on_orders(seed, count),
+    let told = match (options.shelf, options.mailbox, options.orders, options.carry) {
+        (true, _, _, _) => on_shelves(seed, count, &options),
+        (_, true, _, _) => on_mailboxes(seed, count, &options),
+        (_, _, true, _) => on_orders(seed, count),
+        (_, _, _, true) => on_carrying(seed, count, &options),
         _ => on_cases(seed, count, &options),
     };
     match told {
@@ -141,6 +145,15 @@ fn on_mailboxes(seed: u64, count: u64, options: &Options) -> Told {
 fn on_orders(seed: u64, count: u64) -> Told {
     let counts = orders::run(seed, count)?;
     Ok((counts.summary(), String::new()))
+}
+
+fn on_carrying(seed: u64, count: u64, options: &Options) -> Told {
+    let counts = shelf::carrying::run(seed, count)?;
+    let gaps = if options.partial { Vec::new() } else { shelf::carrying::gaps(&counts) };
+    match gaps.is_empty() {
+        true => Ok((shelf::carrying::summary(&counts), counts.to_string())),
+        false => Err(format!("{count} shelves: {}", gaps.join("; "))),
+    }
 }
 
 /// The stated cases, which are case 0, and so many at random.

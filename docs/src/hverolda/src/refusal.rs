@@ -47,10 +47,11 @@ pub enum Fault {
     NoRelease,
     /// 17: no slot of the shelf is free.
     NoSlot,
-    /// 18: the shelf has fewer free bytes than the text needs.
+    /// 18: the shelf has fewer free bytes than the text needs, or than the sums need
+    /// to carry it over.
     NoRoom,
-    /// 19: there is no sound shelf of version 2, or a buffer is none of a shelf's
-    /// sizes.
+    /// 19: there is no sound shelf of version 2, or of version 1 where one is carried
+    /// over; or a buffer that is to be started has none of a shelf's sizes.
     Shelf,
     /// 20: the slot is free, or there is none of that number.
     Slot,
@@ -80,7 +81,7 @@ const FAULTS: [(Fault, &str); 20] = [
     (Fault::NoRelease, "a service character stands in a value, with none to release it"),
     (Fault::NoSlot, "all 64 slots of the shelf are occupied"),
     (Fault::NoRoom, "the shelf has too few free bytes"),
-    (Fault::Shelf, "there is no sound shelf of version 2 with 533 to 65536 bytes"),
+    (Fault::Shelf, "there is no sound shelf of the version asked for: 2 with 533 to 65536 bytes, or 1 with 525 to 65536 to carry over"),
     (Fault::Slot, "no text is kept in this slot"),
 ];
 
@@ -225,7 +226,8 @@ mod tests {
         assert_eq!(sentence(18, 93), "refused 18: the shelf has too few free bytes: 93 are needed");
         assert_eq!(
             sentence(19, 0),
-            "refused 19: there is no sound shelf of version 2 with 533 to 65536 bytes"
+            "refused 19: there is no sound shelf of the version asked for: 2 with 533 to 65536 \
+             bytes, or 1 with 525 to 65536 to carry over"
         );
         assert_eq!(sentence(20, 63), "refused 20 at slot 63: no text is kept in this slot");
     }

@@ -38,8 +38,8 @@ pub struct Slots {
 pub struct Sums {
     /// How many bytes the kept texts have together.
     pub held: usize,
-    /// How many puts found their copy since the shelf was started; it stays at
-    /// [`MOST_DUPLICATES`](crate::MOST_DUPLICATES).
+    /// How many puts found their copy since the shelf was started, or carried over
+    /// from version 1; it stays at [`MOST_DUPLICATES`](crate::MOST_DUPLICATES).
     pub duplicates: u32,
 }
 
@@ -50,7 +50,7 @@ pub struct Sums {
 /// Each call judges the whole shelf first, whatever its bytes are, and refuses
 /// one that is not sound by 19: bytes that come from a file or from somebody
 /// else may be wrapped as they are. A shelf of version 1, which had no sums, is
-/// refused by 19 too.
+/// refused by 19 too: [`Shelf::carry`] makes it one of version 2.
 ///
 /// ```
 /// use hverolda::{Shelf, Shelved, Sums};
@@ -137,6 +137,42 @@ impl<B: AsRef<[u8]> + AsMut<[u8]>> Shelf<B> {
         let told = surface::shelf_start(buffer.as_mut());
         Refusal::told(told.number, told.place)?;
         Ok(Shelf { buffer })
+    }
+
+    /// Turns a shelf of version 1 into one of version 2, in its own buffer. Slots and
+    /// texts stay; no duplicates were found.
+    ///
+    /// ```
+    /// use hverolda::{Shelf, Sums};
+    ///
+    /// let mut shelf = Shelf::start(vec![0; 600])?;
+    /// shelf.put(b"UNB+UNOA:1++++1'UNH+1'UNT+2+1'UNZ+1+1'")?;
+    /// shelf.carry_back()?;
+    /// assert_eq!(shelf.sums().unwrap_err().number(), 19);
+    /// shelf.carry()?;
+    /// assert_eq!(shelf.sums()?, Sums { held: 47, duplicates: 0 });
+    /// # Ok::<(), hverolda::Refusal>(())
+    /// ```
+    ///
+    /// # Errors
+    ///
+    /// 19 where the buffer holds no sound shelf of version 1; then 18, with the 8
+    /// bytes that the sums need, where fewer are free. Its bytes are then unchanged.
+    pub fn carry(&mut self) -> Result<(), Refusal> {
+        let told = surface::shelf_carry(self.buffer.as_mut());
+        Refusal::told(told.number, told.place)
+    }
+
+    /// Turns the shelf into one of version 1, in its own buffer. Slots and texts stay;
+    /// how many duplicates were found is lost. All calls but [`carry`](Shelf::carry)
+    /// then refuse it by 19: it is for a site that has no version 2 yet.
+    ///
+    /// # Errors
+    ///
+    /// 19 where the shelf is not sound. Its bytes are then unchanged.
+    pub fn carry_back(&mut self) -> Result<(), Refusal> {
+        let told = surface::shelf_carry_back(self.buffer.as_mut());
+        Refusal::told(told.number, told.place)
     }
 
     /// Keeps an interchange, unless its normal form is there already: then the
@@ -378,7 +414,8 @@ mod tests {
         assert_eq!(refusal(empty.sums()), (19, 0));
     }
 
-    /// The shelf as version 1 had it: without the sums, and its texts from byte 525.
+    /// The shelf as version 1 had it: without the sums, its texts from byte 525, and
+    /// eight free bytes more.
     fn version_1(shelf: Shelf<Vec<u8>>, texts: usize) -> Vec<u8> {
         let mut old = shelf.into_inner();
         old[4] = 1;
@@ -388,6 +425,7 @@ mod tests {
             old[start..start + 4].copy_from_slice(&(place - 8).to_be_bytes());
         }
         old.drain(13..21);
+        old.extend([0; 8]);
         old
     }
 
@@ -403,6 +441,63 @@ mod tests {
             assert_eq!(refusal(shelf.sums()), (19, 0));
             assert_eq!(shelf.as_bytes(), old);
         }
+    }
+
+    #[test]
+    fn there_and_back_gives_the_same_bytes() {
+        let old = version_1(two_texts(), 2);
+        assert_eq!(old.len(), 1_000);
+        let mut shelf = with_duplicates(two_texts(), 7);
+        assert_eq!(shelf.carry_back(), Ok(()));
+        assert_eq!(shelf.as_bytes(), old);
+        assert_eq!(shelf.carry(), Ok(()));
+        assert_eq!(shelf, two_texts());
+        assert_eq!(shelf.get(0), Ok(NORMAL));
+        assert_eq!(shelf.get(1), Ok(&numbered(1).1[..]));
+        assert_eq!(shelf.sums(), sums(93 + 99, 0));
+        assert_eq!(shelf.carry_back(), Ok(()));
+        assert_eq!(shelf.into_inner(), old);
+    }
+
+    #[test]
+    fn each_direction_asks_for_its_own_version_and_what_is_refused_is_not_lost() {
+        let new = two_texts().into_inner();
+        let old = version_1(two_texts(), 2);
+        let mut shelf = Shelf::over(new.clone());
+        assert_eq!(refusal(shelf.carry()), (19, 0));
+        assert_eq!(shelf.into_inner(), new);
+        let mut shelf = Shelf::over(old.clone());
+        assert_eq!(refusal(shelf.carry_back()), (19, 0));
+        assert_eq!(shelf.into_inner(), old);
+        for buffer in [vec![0; 700], Vec::new()] {
+            let mut shelf = Shelf::over(buffer.clone());
+            assert_eq!(refusal(shelf.carry()), (19, 0));
+            assert_eq!(refusal(shelf.carry_back()), (19, 0));
+            assert_eq!(shelf.into_inner(), buffer);
+        }
+    }
+
+    #[test]
+    fn the_sums_need_eight_free_bytes() {
+        let old = version_1(two_texts(), 2);
+        let full = 525 + 93 + 99;
+        for free in 0..=9 {
+            let mut shelf = Shelf::over(old[..full + free].to_vec());
+            let carried = shelf.carry();
+            match free {
+                0..=7 => {
+                    assert_eq!(refusal(carried), (18, 8), "{free} free bytes");
+                    assert_eq!(shelf.as_bytes(), &old[..full + free]);
+                    // eight zero bytes more leave it a sound shelf of version 1
+                    let longer = [shelf.as_bytes(), &[0; 8]].concat();
+                    assert_eq!(Shelf::over(longer).carry(), Ok(()));
+                }
+                _ => assert_eq!(shelf.as_bytes(), &two_texts().as_bytes()[..full + free]),
+            }
+        }
+        let mut unsound = old[..full].to_vec();
+        unsound[full - 1] = b'A';
+        assert_eq!(refusal(Shelf::over(unsound).carry()), (19, 0));
     }
 
     #[test]

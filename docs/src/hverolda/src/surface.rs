@@ -108,6 +108,12 @@ extern "C" {
     /// Says how many bytes are held, and how many duplicates were found.
     pub fn hverolda_shelf_sums(shelf: *const u8, size: usize) -> SumNumbers;
 
+    /// Turns a shelf of version 1 into one of version 2.
+    pub fn hverolda_shelf_carry(shelf: *mut u8, size: usize) -> Started;
+
+    /// Turns a shelf of version 2 into one of version 1.
+    pub fn hverolda_shelf_carry_back(shelf: *mut u8, size: usize) -> Started;
+
     /// Says the morning figures of a mailbox file.
     pub fn hverolda_report(file: *const u8, length: usize) -> Morning;
 }
@@ -225,6 +231,18 @@ pub fn shelf_slots(shelf: &[u8]) -> SlotNumbers {
 pub fn shelf_sums(shelf: &[u8]) -> SumNumbers {
     // SAFETY: as in `judge`.
     unsafe { hverolda_shelf_sums(shelf.as_ptr(), shelf.len()) }
+}
+
+/// Turns a shelf of version 1 into one of version 2.
+pub fn shelf_carry(shelf: &mut [u8]) -> Started {
+    // SAFETY: as in `normalise`.
+    unsafe { hverolda_shelf_carry(shelf.as_mut_ptr(), shelf.len()) }
+}
+
+/// Turns a shelf of version 2 into one of version 1.
+pub fn shelf_carry_back(shelf: &mut [u8]) -> Started {
+    // SAFETY: as in `normalise`.
+    unsafe { hverolda_shelf_carry_back(shelf.as_mut_ptr(), shelf.len()) }
 }
 
 /// Says the morning figures of a mailbox file.

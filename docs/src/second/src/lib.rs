@@ -6,10 +6,13 @@
 //!
 //! One module for one idea; the first comment of each module names the clause
 //! of the paper, or the request, that it follows. The operations stand in
-//! `operations`, those of the shelf in `shelf`, the report in `mailbox`.
+//! `operations`, those of the shelf in `shelf` and `carrying_over`, the report in
+//! `mailbox`.
 
 pub mod break_cases;
 pub mod break_checks;
+pub mod carrying_checks;
+pub mod carrying_over;
 pub mod cases;
 pub mod contents;
 pub mod control;
@@ -36,6 +39,7 @@ pub mod selftest;
 pub mod service_characters;
 pub mod shelf;
 pub mod shelf_checks;
+pub mod shelf_layout;
 pub mod shelf_lines;
 pub mod standard_examples;
 pub mod trimming;

@@ -15,7 +15,8 @@ use second::{
 const USAGE: &str = "usage: second judge [FILE] | compare FIRST SECOND .. | \
                      locate SEGMENT ELEMENT COMPONENT FILE.. | respell SERVICE FILE.. | \
                      report FILE.. | \
-                     shelf SIZE [put FILE | get SLOT | remove SLOT | slots - | sums -].. | \
+                     shelf SIZE [put FILE | get SLOT | remove SLOT | slots - | sums - | \
+                     carry - | back -].. | \
                      answers [FILE] | generate SEED COUNT [KINDS] | cases DIR | selftest";
 
 fn main() -> ExitCode {
@@ -127,6 +128,8 @@ fn shelf(size: &str, history: &[&str]) -> io::Result<ExitCode> {
             ["remove", slot] => shelf_lines::removed_line(&mut shelf, number(slot)?),
             ["slots", _] => shelf_lines::slots_line(&shelf),
             ["sums", _] => shelf_lines::sums_line(&shelf),
+            ["carry", _] => shelf_lines::carried_line(&mut shelf),
+            ["back", _] => shelf_lines::carried_back_line(&mut shelf),
             _ => return Err(fault(USAGE)),
         };
         out.write_all(&line)?;

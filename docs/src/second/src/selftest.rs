@@ -5,6 +5,7 @@
 //! a module of its own.
 
 use crate::break_checks::check_breaks;
+use crate::carrying_checks::check_carrying;
 use crate::either_order::check_either_order;
 use crate::generator::{any_input, any_valid, request, same_contents, Random};
 use crate::level::{holds, Level};
@@ -43,6 +44,7 @@ pub fn run() -> Result<usize, String> {
     check_sections()?;
     check_breaks()?;
     check_shelf()?;
+    check_carrying()?;
     check_mailbox()?;
     check_either_order()?;
     if let Some(line) = crate::cases::check_cases().pop() {

@@ -1,8 +1,9 @@
 //! The lines of the program `shelf`: one for each operation of a history.
 //!
-//! Change requests 2026-04, "The shelf", and 2026-06, "A shelf that knows its
-//! own sums".
+//! Change requests 2026-04, "The shelf", 2026-06, "A shelf that knows its own
+//! sums", and 2026-07, "Old shelves carried over, and back".
 
+use crate::carrying_over::{carry_back, carry_over};
 use crate::refusal::{Answer, Refusal};
 use crate::report_lines::refusal_line;
 use crate::shelf::{get, lowest_free, occupied, put, remove, start, summary, Put};
@@ -39,4 +40,12 @@ pub fn slots_line(shelf: &[u8]) -> Vec<u8> {
 
 pub fn sums_line(shelf: &[u8]) -> Vec<u8> {
     line(summary(shelf).map(|told| format!("sums {} {}", told.held, told.duplicates)))
+}
+
+pub fn carried_line(shelf: &mut [u8]) -> Vec<u8> {
+    line(carry_over(shelf).map(|()| "carried".to_string()))
+}
+
+pub fn carried_back_line(shelf: &mut [u8]) -> Vec<u8> {
+    line(carry_back(shelf).map(|()| "carried back".to_string()))
 }

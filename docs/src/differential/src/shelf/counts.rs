@@ -122,11 +122,16 @@ impl Counts {
         let by_judge = BY_JUDGE[1..].iter().map(|name| ("put", *name));
         let old = OPERATIONS.iter().map(|name| ("on version 1", *name));
         let must = MUST.iter().copied().chain(by_judge).chain(damages).chain(old);
-        let never = must.chain([("damage", OTHER_SIZE)]).filter(|key| self.of(*key) == 0);
+        self.missing(must.chain([("damage", OTHER_SIZE)]))
+    }
+
+    /// Which of these never occurred.
+    pub fn missing(&self, must: impl Iterator<Item = (&'static str, &'static str)>) -> Vec<String> {
+        let never = must.filter(|key| self.of(*key) == 0);
         never.map(|(what, how)| format!("{what}: {how} never occurred")).collect()
     }
 
-    fn of(&self, key: (&'static str, &'static str)) -> u64 {
+    pub fn of(&self, key: (&'static str, &'static str)) -> u64 {
         self.counts.get(&key).copied().unwrap_or(0)
     }
 

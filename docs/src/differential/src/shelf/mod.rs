@@ -2,10 +2,11 @@
 //! on the same bytes, which are damaged now and then, and must give the same
 //! answers and leave the same bytes, and the guards around them as they were.
 //!
-//! Change requests 2026-04, "The shelf", and 2026-06, "A shelf that knows its
-//! own sums".
+//! Change requests 2026-04, "The shelf", and 2026-06, "A shelf that knows its own
+//! sums"; 2026-07, "Old shelves carried over, and back", stands in [`carrying`].
 
 mod beginnings;
+pub mod carrying;
 mod counts;
 mod damage;
 mod history;

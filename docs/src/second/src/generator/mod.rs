@@ -12,6 +12,7 @@ mod lists;
 mod mailboxes;
 mod orders;
 mod random;
+mod shelves;
 mod soups;
 
 use std::io;
@@ -32,6 +33,7 @@ pub use draft::Draft;
 pub use mailboxes::any_file;
 pub use orders::{two_orders, TwoOrders};
 pub use random::Random;
+pub use shelves::{any_shelf, first_text, laid_out, sound_shelf, text_of};
 
 /// The letters of all operations.
 pub const ALL_KINDS: &str = "JNCKLPRW";

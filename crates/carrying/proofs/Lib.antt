@@ -1,0 +1,5 @@
+pub mod Tight
+pub mod Answered
+pub mod Parts
+pub mod Carried
+pub mod Ways

@@ -1,0 +1,3 @@
+pub mod Carrying
+pub mod Promises
+pub mod Tight

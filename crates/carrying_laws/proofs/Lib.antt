@@ -1,0 +1,3 @@
+pub mod Opened
+pub mod Restored
+pub mod Theorems
