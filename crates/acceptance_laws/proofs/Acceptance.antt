@@ -47,7 +47,7 @@ module _ (s : List ℕ) where
         order = order;
         level = l;
         named = named;
-        inside = ap (all (all (all (all (holds l))))) (list-is u d) ∙ inside-clear s l c .0 (a .bytes);
+        inside = ap (all (all (all (all (all (holds l)))))) (list-is u d) ∙ inside-clear s l c .0 (a .bytes);
         normal-size = within (normalForm s) (length (normalForm s)) .0 (a .normal);
       }
 
@@ -77,7 +77,7 @@ module _ (s : List ℕ) where
         ending = ended .1;
         tags = tags-clear s passes .1 (λ segment m. a .tags segment (subst (List·Memᴰ segment) (sym (list-read a)) m));
         level = levels .0;
-        bytes = inside-clear s (a .level) (levels .1) .1 (ap (all (all (all (all (holds (a .level)))))) (sym (list-read a)) ∙ a .inside);
+        bytes = inside-clear s (a .level) (levels .1) .1 (ap (all (all (all (all (all (holds (a .level))))))) (sym (list-read a)) ∙ a .inside);
         order = orders .0;
         controls = orders .1;
         references = orders .2;

@@ -1,6 +1,6 @@
 -- "Contents and normal form hold no breaks": no byte of an accepted input's contents is one, and no byte of its normal form. Assumes
 -- nothing.
-use Prim.Native.Nat.{ℕ, _≤_}
+use Prim.Native.Nat.{ℕ, zero, suc, _≤_}
 use mathlib.Core.Path.{_≡_, refl, sym, ap, _∙_}
 use mathlib.Core.Bool.{Bool, true, false, not, _&&_}
 use mathlib.Core.List.{List, [], _∷_, _++_, map}
@@ -9,12 +9,14 @@ use native.Mathlib.Omega.{arith}
 use Rattle.lists.specs.Lists.{if_then_else_, member, all, gather, eachLedBy, joined}
 use Rattle.lists.proofs.Texts.{and-left, and-right, and-both, all-append, all-map}
 use Rattle.lists.proofs.Tests.{fails}
+use Rattle.nesting.specs.Nesting.{Nest, every, spelled}
 use Rattle.characters.specs.declared.Characters.{Characters}
 use Rattle.characters.specs.Characters.{isService, isBreak, sixBytes, adviceOf, spelledOut, charactersOf}
 use Rattle.characters.proofs.Words.{usable-says, break-says}
-use Rattle.values.specs.Spelling.{Bytes, SegmentList, spellByte, spellValue, spellElement, spellSegment, spell}
+use Rattle.values.specs.Spelling.{Bytes, SegmentList, separatorOf, spellByte, spellValue, spellRepeat, spellElement, spellSegment, spell}
+use Rattle.levels.specs.Levels.{hasVersion4}
 use Rattle.levels.proofs.Words.{LevelA, level-a-says, level-b-says}
-use Rattle.stages.specs.Contents.{contents, normalCharacters, interchange, normalForm}
+use Rattle.stages.specs.Contents.{contents, normalCharacters, normalRepetition, interchange, normalForm}
 use Rattle.normal_form_laws.specs.Forms.{markOf, listRead}
 use Rattle.normal_form_laws.proofs.Trimmed.{contents-read, trim-bytes}
 use Rattle.normal_form_laws.proofs.Normal.{accepted-usable}
@@ -57,8 +59,7 @@ module _ {A : Type 0} (p : A → Bool) where
       ∙ and-both (all p (f x)) (all p (gather f xs)) (h x (and-left (q x) (all q xs) k)) (all-gather q f h xs (and-right (q x) (all q xs) k))
 
 -- a list whose bytes pass is spelled with bytes that pass, where the service characters do
-module _ (p : ℕ → Bool) (c : Characters) (component : p (c .component) ≡ true) (element : p (c .element) ≡ true)
-    (terminator : p (c .terminator) ≡ true) (release : p (c .release) ≡ true) where
+module _ (p : ℕ → Bool) (c : Characters) (marks : (depth : ℕ) → p (separatorOf c depth) ≡ true) (release : p (c .release) ≡ true) where
   byte-spelled : (b : ℕ) → p b ≡ true → all p (spellByte c b) ≡ true
   unfolding spellByte all
   byte-spelled b h = step (isService c b)
@@ -67,24 +68,23 @@ module _ (p : ℕ → Bool) (c : Characters) (component : p (c .component) ≡ t
       step true = and-both (p (c .release)) (p b && true) release (and-both (p b) true h refl)
       step false = and-both (p b) true h refl
 
-  element-spelled : (e : List Bytes) → all (all p) e ≡ true → all p (spellElement c e) ≡ true
-  unfolding spellElement spellValue
-  element-spelled e h =
-      all-joined p (c .component) component (map (spellValue c) e)
-      (all-map (spellValue c) (all p) (all p) (all-gather p p (spellByte c) byte-spelled) e h)
+  part-spelled : (n : ℕ) (x : Nest Bytes n) → every (all p) n x ≡ true → all p (spelled (separatorOf c) (spellValue c) n x) ≡ true
+  unfolding spellValue
+  part-spelled zero v h = all-gather p p (spellByte c) byte-spelled v h
+  part-spelled (suc n) xs h =
+      all-joined p (separatorOf c n) (marks n) (map (spelled (separatorOf c) (spellValue c) n) xs)
+      (all-map (spelled (separatorOf c) (spellValue c) n) (every (all p) n) (all p) (part-spelled n) xs h)
 
-  segment-spelled : (g : List (List Bytes)) → all (all (all p)) g ≡ true → all p (spellSegment c g) ≡ true
-  unfolding spellSegment all
+  segment-spelled : (g : List (List (List Bytes))) → all (all (all (all p))) g ≡ true → all p (spellSegment c g) ≡ true
+  unfolding spellSegment spellElement spellRepeat all
   segment-spelled g h =
-      let inner : Bytes = joined (c .element) (map (spellElement c) g) in
+      let inner : Bytes = spelled (separatorOf c) (spellValue c) 3 g in
       all-append p inner (c .terminator ∷ [])
-      ∙ and-both (all p inner) (p (c .terminator) && true)
-      (all-joined p (c .element) element (map (spellElement c) g) (all-map (spellElement c) (all (all p)) (all p) element-spelled g h))
-      (and-both (p (c .terminator)) true terminator refl)
+      ∙ and-both (all p inner) (p (c .terminator) && true) (part-spelled 3 g h) (and-both (p (c .terminator)) true (marks 3) refl)
 
-  list-spelled : (list : SegmentList) → all (all (all (all p))) list ≡ true → all p (spell c list) ≡ true
+  list-spelled : (list : SegmentList) → all (all (all (all (all p)))) list ≡ true → all p (spell c list) ≡ true
   unfolding spell
-  list-spelled list h = all-gather p (all (all (all p))) (spellSegment c) segment-spelled list h
+  list-spelled list h = all-gather p (all (all (all (all p)))) (spellSegment c) segment-spelled list h
 
 -- ---- of an accepted input
 
@@ -108,21 +108,37 @@ all-implies p q h [] k = refl
 all-implies p q h (x ∷ xs) k = and-both (q x) (all q xs) (h x (and-left (p x) (all p xs) k)) (all-implies p q h xs (and-right (p x) (all p xs) k))
 
 module _ (s : List ℕ) (a : Allowed s) where
-  pub contents-solid : all (all (all (all solid))) (contents s) ≡ true
+  pub contents-solid : all (all (all (all (all solid)))) (contents s) ≡ true
   contents-solid =
       let level : Level = a .level in
       rw (contents-read s)
       (trim-bytes solid (listRead s)
+      (all-implies (all (all (all (all (holds level))))) (all (all (all (all solid))))
       (all-implies (all (all (all (holds level)))) (all (all (all solid)))
       (all-implies (all (all (holds level))) (all (all solid))
-      (all-implies (all (holds level)) (all solid) (all-implies (holds level) solid (level-solid level))))
+      (all-implies (all (holds level)) (all solid) (all-implies (holds level) solid (level-solid level)))))
       (listRead s)
-      (ap (all (all (all (all (holds level))))) (sym (list-read s a)) ∙ a .inside)))
+      (ap (all (all (all (all (all (holds level)))))) (sym (list-read s a)) ∙ a .inside)))
+
+  -- the normal form's fifth byte is a space or `*`
+  fifth-solid : (list : SegmentList) → solid (normalRepetition list) ≡ true
+  unfolding normalRepetition isBreak member
+  fifth-solid list = step (hasVersion4 list)
+    where
+      step : (v : Bool) → solid (if v then 42 else 32) ≡ true
+      step true = refl
+      step false = refl
 
   pub normal-solid : all solid (normalForm s) ≡ true
   unfolding normalForm interchange adviceOf spelledOut normalCharacters sixBytes all isBreak member
   normal-solid =
       let mark : ℕ = markOf s in
-      let c : Characters = normalCharacters mark in
-      let marked : solid mark ≡ true = ⊎-elim (ap solid) (ap solid) (usable-says (charactersOf s) .0 (accepted-usable s (allowed-exactly s .1 a)) .1) in
-      rw marked (list-spelled solid c refl refl refl refl (contents s) contents-solid)
+      let c : Characters = normalCharacters mark (normalRepetition (contents s)) in
+      let marked : solid mark ≡ true = ⊎-elim (ap solid) (ap solid) (usable-says (charactersOf s) .0 (accepted-usable s (allowed-exactly s .1 a)) .0) in
+      rw (marked, fifth-solid (contents s)) (list-spelled solid c marks refl (contents s) contents-solid)
+    where
+      marks : (depth : ℕ) → solid (separatorOf (normalCharacters (markOf s) (normalRepetition (contents s))) depth) ≡ true
+      marks zero = refl
+      marks (suc zero) = fifth-solid (contents s)
+      marks (suc (suc zero)) = refl
+      marks (suc (suc (suc depth))) = refl

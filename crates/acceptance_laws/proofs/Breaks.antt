@@ -8,12 +8,13 @@ use lib.ListN.{length}
 use Rattle.characters.specs.declared.Characters.{Characters}
 use Rattle.characters.specs.Characters.{usable, charactersOf, bodyStart, body}
 use Rattle.values.specs.Spelling.{SegmentList}
-use Rattle.stages.specs.Contents.{contents, normalCharacters, interchange, normalForm}
+use Rattle.stages.specs.Contents.{contents, normalCharacters, normalRepetition, interchange, normalForm}
 use Rattle.stages.specs.Places.{tooLong, normalTooLong}
 use Rattle.stages.proofs.Over.{within}
 use Rattle.operations.specs.ValueList.{trimList}
 use Rattle.spelling_laws.proofs.Laws.{passes-exactly, list-read}
-use Rattle.normal_form_laws.specs.Forms.{markOf, BodyPasses, listRead}
+use Rattle.normal_form_laws.specs.Forms.{markOf, BodyPasses, listRead, Suits}
+use Rattle.normal_form_laws.proofs.Versions.{own-suits}
 use Rattle.normal_form_laws.proofs.Trimmed.{contents-read}
 use Rattle.normal_form_laws.proofs.Accepted.{accepted-exactly, usable-accepted}
 use Rattle.normal_form_laws.proofs.SameList.{same-nowhere}
@@ -55,7 +56,7 @@ module _ (s t : List ℕ) (h : ButForBreaks s t) where
 
   pub breaks-form : normalForm s ≡ normalForm t
   unfolding normalForm
-  breaks-form = ap₂ (λ (mark : ℕ) (list : SegmentList). interchange (normalCharacters mark) list) breaks-mark breaks-contents
+  breaks-form = ap₂ (λ (mark : ℕ) (list : SegmentList). interchange (normalCharacters mark (normalRepetition list)) list) breaks-mark breaks-contents
 
   passes-first : BodyPasses s
   passes-first = passes-exactly (charactersOf s) (opened-usable s (h .first)) (bodyStart s) (body s) .1 (h .first-spelled) .0
@@ -69,8 +70,9 @@ module _ (s t : List ℕ) (h : ButForBreaks s t) where
   breaks-same a short =
       let opened = opening-clear t .1 (h .second) in
       let size : length (normalForm t) ≤ mostBytes = subst (λ (form : List ℕ). length form ≤ mostBytes) breaks-form (a .normal-size) in
+      let own = accepted-exactly s .0 (allowed-exactly s .1 a) in
       let clear =
-      same-nowhere s t (accepted-exactly s .0 (allowed-exactly s .1 a)) passes-first passes-second read-alike
+      same-nowhere s t own passes-first passes-second read-alike (subst (λ (c : Characters). Suits c (contents s)) (h .characters) (own-suits s own))
       (within t 0 .1 short)
       (opened .0)
       (opened .1)

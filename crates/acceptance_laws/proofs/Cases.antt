@@ -5,10 +5,10 @@ use mathlib.Core.Bool.{true}
 use mathlib.Core.List.{List, [], _∷_, _++_}
 use lib.ListN.{length, replicate}
 use Rattle.lists.specs.Lists.{text, begins, member, isEmpty, all, lastOr, onto, cut, eachLedBy, joined, gather}
-use Rattle.characters.specs.Characters.{hasRelease, serviceCharacters, isService, isBreak, breaks, afterBreaks, sixBytes, spelledOut, advised, adviceOf, plusCharacters, charactersOf, bodyStart, body, role}
+use Rattle.characters.specs.Characters.{hasRelease, hasRepetition, beginsVersion4, serviceCharacters, isService, isBreak, breaks, afterBreaks, sixBytes, spelledOut, advised, adviceOf, plusCharacters, charactersOf, bodyStart, body, role}
 use Rattle.values.specs.Tokens.{unreleased, reading, taken, tokensFrom, tokens, ends, placeOf, segments, start}
-use Rattle.values.specs.Values.{byteOf, bytesOf, endPlace, valueOf, valuesOf, elementsOf}
-use Rattle.values.specs.Spelling.{Bytes, spellByte, spellValue, spellElement, spellSegment, spellApart}
+use Rattle.values.specs.Values.{byteOf, bytesOf, endPlace, valueOf, valuesOf, repeatsOf, elementsOf}
+use Rattle.values.specs.Spelling.{Bytes, spellByte, spellValue, spellRepeat, spellElement, spellSegment, spellApart}
 use Rattle.starred_cases.specs.Cases.{unb, unh, bgm, unt, unz, x}
 use Rattle.spelling_laws.specs.Bodies.{wordsOf, listed, readList}
 use Rattle.normal_form_laws.specs.Forms.{listRead}
@@ -26,10 +26,10 @@ apart gap = text unb ++ (gap ++ (text unh ++ (gap ++ (text bgm ++ (gap ++ (text 
 -- one segment a line, without an advice and after one: what is given for after the advice goes there alone
 pub respaced-x : (respaced x (10 ∷ []) (replicate 5 (13 ∷ 10 ∷ [])) ≡ apart (13 ∷ 10 ∷ []))
     × (respaced (text "UNA:+.? '" ++ x) (10 ∷ []) (replicate 5 (13 ∷ 10 ∷ [])) ≡ text "UNA:+.? '" ++ (10 ∷ apart (13 ∷ 10 ∷ [])))
-unfolding respaced readList listed wordsOf charactersOf bodyStart body advised adviceOf spelledOut plusCharacters sixBytes begins breaks afterBreaks isBreak role hasRelease serviceCharacters isService member tokens tokensFrom unreleased reading taken segments cut onto ends elementsOf valuesOf valueOf bytesOf byteOf gather endPlace start placeOf lastOr isEmpty spellApart spellSegment spellElement spellValue spellByte joined eachLedBy
+unfolding respaced readList listed wordsOf charactersOf bodyStart body advised adviceOf spelledOut plusCharacters beginsVersion4 sixBytes begins breaks afterBreaks isBreak role hasRelease hasRepetition serviceCharacters isService member tokens tokensFrom unreleased reading taken segments cut onto ends elementsOf repeatsOf valuesOf valueOf bytesOf byteOf gather endPlace start placeOf lastOr isEmpty spellApart spellSegment spellElement spellRepeat spellValue spellByte joined eachLedBy
 respaced-x = (refl, refl)
 
 -- and without any, where none are given
 pub respaced-x-none : respaced (apart (13 ∷ 10 ∷ [])) [] (replicate 5 []) ≡ x
-unfolding respaced readList listed wordsOf charactersOf bodyStart body advised adviceOf spelledOut plusCharacters sixBytes begins breaks afterBreaks isBreak role hasRelease serviceCharacters isService member tokens tokensFrom unreleased reading taken segments cut onto ends elementsOf valuesOf valueOf bytesOf byteOf gather endPlace start placeOf lastOr isEmpty spellApart spellSegment spellElement spellValue spellByte joined eachLedBy
+unfolding respaced readList listed wordsOf charactersOf bodyStart body advised adviceOf spelledOut plusCharacters beginsVersion4 sixBytes begins breaks afterBreaks isBreak role hasRelease hasRepetition serviceCharacters isService member tokens tokensFrom unreleased reading taken segments cut onto ends elementsOf repeatsOf valuesOf valueOf bytesOf byteOf gather endPlace start placeOf lastOr isEmpty spellApart spellSegment spellElement spellRepeat spellValue spellByte joined eachLedBy
 respaced-x-none = refl

@@ -12,10 +12,11 @@ use borrow.Author.Tests.{eqb-true, eq-eqb, ltb-false, not-false}
 use Rattle.lists.specs.Lists.{if_then_else_, text, begins, member, all, at, maybe}
 use Rattle.lists.proofs.Texts.{and-left, and-right, and-both, or-none-left, or-none-right, if-true}
 use Rattle.characters.specs.declared.Characters.{Characters}
-use Rattle.characters.specs.Characters.{usable, sixBytes, spelledOut, advised, adviceOf, plusCharacters, controlCharacters, charactersOf, isBreak, breaks, afterBreaks, bodyStart, body, badAdvice, opens}
+use Rattle.characters.specs.Characters.{usable, sixBytes, spelledOut, advised, adviceOf, plusCharacters, starCharacters, beginsVersion4, controlCharacters, charactersOf, isBreak, breaks, afterBreaks, bodyStart, body, badAdvice, opens}
 use Rattle.values.specs.Spelling.{leadsBreak}
 use Rattle.stages.specs.Places.{unusableAdvice, noOpening}
 use Rattle.refusals.proofs.Stages.{place-none, place-none-not}
+use Rattle.characters.proofs.Words.{version4-plus}
 use Rattle.normal_form_laws.proofs.Openings.{advice-characters, advice-good, apart-body}
 use Rattle.acceptance_laws.specs.Allowed.{WellOpened, advice, plus, control}
 
@@ -90,17 +91,21 @@ module _ (s : List ℕ) where
 
   opening-none : advised s ≡ false → opens s ≡ true → WellOpened s
   unfolding charactersOf body bodyStart controlCharacters sixBytes
-  opening-none e o = step (begins (text "UNB+") s) refl
+  opening-none e o = fourth (beginsVersion4 s) refl
     where
       whole : body s ≡ s
       whole = simp e
 
-      step : (t : Bool) → begins (text "UNB+") s ≡ t → WellOpened s
-      step true b = plus (drop 4 s) (begins-split (text "UNB+") s b)
-      step false b =
-          let c : charactersOf s ≡ controlCharacters = simp (e, b) in
+      step : beginsVersion4 s ≡ false → (t : Bool) → begins (text "UNB+") s ≡ t → WellOpened s
+      step v true b = plus (drop 4 s) (begins-split (text "UNB+") s b)
+      step v false b =
+          let c : charactersOf s ≡ controlCharacters = simp (e, v, b) in
           control (drop 4 (body s))
           (sym whole ∙ body-opens o ∙ ap (λ (d : Characters). text "UNB" ++ d .element ∷ drop 4 (body s)) c)
+
+      fourth : (t : Bool) → beginsVersion4 s ≡ t → WellOpened s
+      fourth true v = let (rest, shape) = version4-plus s v in plus rest shape
+      fourth false v = step v (begins (text "UNB+") s) refl
 
 -- ---- where the input begins so
 
@@ -111,7 +116,7 @@ good-advice (plus rest e) = ap badAdvice e
 good-advice (control rest e) = ap badAdvice e
 
 opens-opening : {s : List ℕ} → WellOpened s → opens s ≡ true
-unfolding opens advised begins charactersOf sixBytes body bodyStart plusCharacters controlCharacters leadsBreak at maybe isBreak member
+unfolding opens advised begins charactersOf beginsVersion4 sixBytes body bodyStart plusCharacters starCharacters controlCharacters leadsBreak at maybe isBreak member
 opens-opening (advice c gap rest u only e) =
     let opening : List ℕ = text "UNB" ++ c .element ∷ rest in
     ap opens e
@@ -119,7 +124,11 @@ opens-opening (advice c gap rest u only e) =
     (advice-characters c (gap ++ opening))
     (apart-body c gap opening only refl)
     ∙ begins-own (text "UNB" ++ c .element ∷ []) rest
-opens-opening (plus rest e) = ap opens e
+opens-opening (plus rest e) = ap opens e ∙ step (begins (text "UNOA:4") rest || begins (text "UNOB:4") rest)
+  where
+    step : (v : Bool) → begins (text "UNB" ++ (if v then starCharacters else plusCharacters) .element ∷ []) (text "UNB+" ++ rest) ≡ true
+    step true = refl
+    step false = refl
 opens-opening (control rest e) = ap opens e
 
 -- neither refusal 2 nor refusal 3 is met exactly where the input begins so

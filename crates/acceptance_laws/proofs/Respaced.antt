@@ -2,7 +2,7 @@
 -- such a spacing of its segments. Assumes nothing.
 use Prim.Native.Nat.{ℕ, suc, _≤_}
 use mathlib.Core.Path.{_≡_, refl, sym, ap, ap₂, subst, _∙_}
-use mathlib.Core.Bool.{Bool, true, false, true≢false}
+use mathlib.Core.Bool.{Bool, true, false, _||_, true≢false}
 use mathlib.Core.List.{List, [], _∷_, _++_, map, append-assoc, append-nil, nil≢cons}
 use mathlib.Core.Option.{none}
 use mathlib.Core.Logic.{inl, inr}
@@ -14,14 +14,14 @@ use Rattle.lists.specs.Lists.{if_then_else_, text, begins, member, isEmpty, all
 use Rattle.lists.proofs.Texts.{and-left, and-right, and-both, or-none-left, or-none-right, all-append, if-true, if-false}
 use Rattle.lists.proofs.Tests.{says-begins}
 use Rattle.characters.specs.declared.Characters.{Characters}
-use Rattle.characters.specs.Characters.{usable, sixBytes, isBreak, breaks, advised, adviceOf, plusCharacters, controlCharacters, charactersOf, bodyStart, body, opens}
+use Rattle.characters.specs.Characters.{usable, sixBytes, isBreak, breaks, advised, adviceOf, plusCharacters, starCharacters, beginsVersion4, controlCharacters, charactersOf, bodyStart, body, opens}
 use Rattle.characters.proofs.Words.{SeparatorByte, usable-says}
 use Rattle.refusals.proofs.Stages.{place-none-not}
 use Rattle.values.specs.Spelling.{Bytes, SegmentList, spellElement, spellSegment, leadsBreak, spellApart}
 use Rattle.stages.specs.Places.{noOpening}
 use Rattle.stages.specs.Stages.{refusalOf}
-use Rattle.spelling_laws.specs.Bodies.{Shaped, Releasable, Unbroken, Breaks}
-use Rattle.spelling_laws.proofs.Laws.{apart-leads, spell-read, read-shaped, read-releasable, read-unbroken}
+use Rattle.spelling_laws.specs.Bodies.{Shaped, Spellable, Unbroken, Breaks}
+use Rattle.spelling_laws.proofs.Laws.{apart-leads, spell-read, read-shaped, read-spellable, read-unbroken}
 use Rattle.normal_form_laws.specs.Forms.{listRead}
 use Rattle.normal_form_laws.proofs.Openings.{advice-advised, advice-characters, apart-body}
 use Rattle.normal_form_laws.proofs.Normal.{accepted-usable, accepted-passes, accepted-leads}
@@ -70,9 +70,9 @@ unfolding member
 no-terminator c u =
     let says = usable-says c .0 u in
     rw (
-      ne-eqb (c .terminator) 85 (letter 85 (omega arith) (omega arith) (says .4)),
-      ne-eqb (c .terminator) 78 (letter 78 (omega arith) (omega arith) (says .4)),
-      ne-eqb (c .terminator) 66 (letter 66 (omega arith) (omega arith) (says .4)),
+      ne-eqb (c .terminator) 85 (letter 85 (omega arith) (omega arith) (says .3)),
+      ne-eqb (c .terminator) 78 (letter 78 (omega arith) (omega arith) (says .3)),
+      ne-eqb (c .terminator) 66 (letter 66 (omega arith) (omega arith) (says .3)),
       ne-eqb (c .terminator) (c .element) (λ e. says .8 (inl (sym e))),
     )
   where
@@ -88,12 +88,45 @@ no-terminator c u =
 abbrev Plain : List ℕ → Type 0
 Plain s = (advised s ≡ false) × (body s ≡ s)
 
-plus-plain : (rest : Bytes) → Plain (text "UNB+" ++ rest) × (charactersOf (text "UNB+" ++ rest) ≡ plusCharacters)
+-- the characters of input that begins `UNB+`, by whether it names version 4
+abbrev plusOnes : Bool → Characters
+plusOnes fourth = if fourth then starCharacters else plusCharacters
+
+plus-element : (fourth : Bool) → plusOnes fourth .element ≡ 43
+unfolding starCharacters plusCharacters sixBytes
+plus-element true = refl
+plus-element false = refl
+
+plus-terminator : (fourth : Bool) → plusOnes fourth .terminator ≡ 39
+unfolding starCharacters plusCharacters sixBytes
+plus-terminator true = refl
+plus-terminator false = refl
+
+plus-plain : (rest : Bytes)
+    → Plain (text "UNB+" ++ rest) × (charactersOf (text "UNB+" ++ rest) ≡ plusOnes (beginsVersion4 (text "UNB+" ++ rest)))
 unfolding advised begins body bodyStart charactersOf
 plus-plain rest = ((refl, refl), refl)
 
+-- a list with any breaks begins `UNB+UNOA:4` or `UNB+UNOB:4` where it does with some
+version-kept : (c : Characters) → c .terminator ≡ 39 → (list : SegmentList) (x y : List Bytes)
+    → beginsVersion4 (spellApart c list x) ≡ beginsVersion4 (spellApart c list y)
+unfolding beginsVersion4 member
+version-kept c t list x y = ap₂ _||_ (word (text "UNB+UNOA:4") (free (text "UNB+UNOA:4") refl)) (word (text "UNB+UNOB:4") (free (text "UNB+UNOB:4") refl))
+  where
+    free : (w : Bytes) → member 39 w ≡ false → member (c .terminator) w ≡ false
+    free w n = ap (λ (b : ℕ). member b w) t ∙ n
+
+    word : (w : Bytes) → member (c .terminator) w ≡ false → begins w (spellApart c list x) ≡ begins w (spellApart c list y)
+    word w n =
+        both (begins w (spellApart c list x)) (begins w (spellApart c list y)) (front-kept c w n list x y) (front-kept c w n list y x)
+      where
+        both : (a b : Bool) → (a ≡ true → b ≡ true) → (b ≡ true → a ≡ true) → a ≡ b
+        both true b h k = sym (h refl)
+        both false true h k = k refl
+        both false false h k = refl
+
 control-plain : (rest : Bytes) → Plain (text "UNB" ++ 29 ∷ rest) × (charactersOf (text "UNB" ++ 29 ∷ rest) ≡ controlCharacters)
-unfolding advised begins body bodyStart charactersOf
+unfolding advised begins beginsVersion4 body bodyStart charactersOf
 control-plain rest = ((refl, refl), refl)
 
 -- ---- an accepted input, with other breaks
@@ -108,12 +141,12 @@ module _ (s : List ℕ) (a : Allowed s) where
   abbrev opening : Bytes
   opening = text "UNB" ++ c .element ∷ []
 
-  spelled-list : Shaped (listRead s) × Releasable c (listRead s) × Unbroken (listRead s)
+  spelled-list : Shaped (listRead s) × Spellable c (listRead s) × Unbroken (listRead s)
   spelled-list =
       let u = accepted-usable s accepted in
       let passes = accepted-passes s accepted in (
         read-shaped c u (bodyStart s) (body s) passes,
-        read-releasable c u (bodyStart s) (body s) passes,
+        read-spellable c u (bodyStart s) (body s) passes,
         read-unbroken c u (bodyStart s) (body s) passes (accepted-leads s accepted),
       )
 
@@ -163,7 +196,7 @@ module _ (s : List ℕ) (a : Allowed s) where
 
   -- with any breaks it differs from itself in nothing else
   pub respaced-breaks : (gap : Bytes) (between : List Bytes) → BreaksFor s gap between → ButForBreaks s (respaced s gap between)
-  unfolding respaced plusCharacters controlCharacters sixBytes
+  unfolding respaced controlCharacters sixBytes
   respaced-breaks gap between k = done (step (a .opening))
     where
       spelled : Bytes
@@ -194,11 +227,18 @@ module _ (s : List ℕ) (a : Allowed s) where
                 (apart-leads c u 0 (listRead s) (spelled-list .0) (spelled-list .1) (spelled-list .2) between (k .after-segments .only-breaks)),
           )
       step (plus rest e) =
-          let same : c ≡ plusCharacters = ap charactersOf e ∙ plus-plain rest .1 in
+          let fourth : Bool = beginsVersion4 (85 ∷ 78 ∷ 66 ∷ 43 ∷ rest) in
+          let same : c ≡ plusOnes fourth = ap charactersOf e ∙ plus-plain rest .1 in
           let text : List ℕ = 85 ∷ 78 ∷ 66 ∷ 43 ∷ still .0 in
-          let shape : spelled ≡ text = still .1 ∙ ap (λ (d : Characters). 85 ∷ 78 ∷ 66 ∷ d .element ∷ still .0) same in
+          let shape : spelled ≡ text =
+          still .1 ∙ ap (λ (b : ℕ). 85 ∷ 78 ∷ 66 ∷ b ∷ still .0) (ap (λ (d : Characters). d .element) same ∙ plus-element fourth) in
+          let whole : body s ≡ 85 ∷ 78 ∷ 66 ∷ 43 ∷ rest = ap body e ∙ plus-plain rest .0 .1 in
+          let kept : fourth ≡ beginsVersion4 text =
+          sym (ap beginsVersion4 (own-between .2 ∙ whole))
+          ∙ version-kept c (ap (λ (d : Characters). d .terminator) same ∙ plus-terminator fourth) (listRead s) (own-between .0) between
+          ∙ ap beginsVersion4 shape in
           without (ap advised e ∙ plus-plain rest .0 .0) text shape
-          (plus (still .0) refl, same ∙ sym (plus-plain (still .0) .1), plus-plain (still .0) .0 .1 ∙ sym shape)
+          (plus (still .0) refl, same ∙ ap plusOnes kept ∙ sym (plus-plain (still .0) .1), plus-plain (still .0) .0 .1 ∙ sym shape)
       step (control rest e) =
           let same : c ≡ controlCharacters = ap charactersOf e ∙ control-plain rest .1 in
           let text : List ℕ = 85 ∷ 78 ∷ 66 ∷ 29 ∷ still .0 in
@@ -216,7 +256,7 @@ module _ (s : List ℕ) (a : Allowed s) where
             record {
               list = listRead s;
               shaped = spelled-list .0;
-              releasable = subst (λ (d : Characters). Releasable d (listRead s)) same (spelled-list .1);
+              spellable = subst (λ (d : Characters). Spellable d (listRead s)) same (spelled-list .1);
               unbroken = spelled-list .2;
               between = between;
               breaks = k .after-segments;

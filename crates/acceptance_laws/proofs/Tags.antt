@@ -8,7 +8,7 @@ use native.Mathlib.Omega.{arith}
 use lib.ListN.{length}
 use lib.Dec.{eqb, leb}
 use borrow.Author.Tests.{eqb-true, leb-true, le-leb}
-use Rattle.lists.specs.Lists.{if_then_else_, text, same, begins, member, isEmpty, all}
+use Rattle.lists.specs.Lists.{if_then_else_, text, same, begins, member, isEmpty, isSingle, all}
 use Rattle.lists.proofs.Texts.{and-left, and-right, and-both, or-cases}
 use Rattle.characters.specs.Characters.{between, upper, digit}
 use Rattle.values.specs.Spelling.{Bytes}
@@ -19,7 +19,7 @@ use Rattle.stages.specs.Contents.{bodyTokens, segmentsOf}
 use Rattle.stages.specs.Places.{brokenTags}
 use Rattle.spelling_laws.specs.Bodies.{listed, readList, Passes}
 use Rattle.normal_form_laws.specs.Forms.{BodyPasses, listRead}
-use Rattle.normal_form_laws.proofs.Tags.{firstValue, isSingle, lone, tagStands, all-finished, tags-words}
+use Rattle.normal_form_laws.proofs.Tags.{foremost, firstValue, tagStands, all-finished, tags-words}
 use Rattle.acceptance_laws.specs.Allowed.{TagByte, letter, figure, Tagged}
 use Rattle.acceptance_laws.proofs.Each.{all-each}
 
@@ -65,9 +65,6 @@ isByte b = upper b || digit b
 -- the test of refusal 6 for a tag that begins `UN`, given whether its element ends after it
 abbrev served : Bytes → Bool → Bool
 served tag alone = not (begins (text "UN") tag) || (not (is User (kindNamed tag)) && alone)
-
-abbrev keeps : Bytes → Bool → Bool
-keeps tag alone = isTag tag && served tag alone
 
 module _ (a b c : ℕ) where
   abbrev tag : Bytes
@@ -134,40 +131,45 @@ empty-nil [] = (λ h. refl, λ e. refl)
 empty-nil (x ∷ xs) = (λ h. absurd (false≢true h), ap isEmpty)
 
 -- the values of a segment pass the test exactly where they are tagged
-tag-stands : (segment : List (List Bytes)) → (tagStands segment ≡ true) ↔ Tagged segment
-unfolding tagStands firstValue lone isSingle isTag all
+tag-stands : (segment : List (List (List Bytes))) → (tagStands segment ≡ true) ↔ Tagged segment
+unfolding tagStands firstValue foremost isSingle isEmpty isTag all
 tag-stands segment = (there segment, back)
   where
-    there : (g : List (List Bytes)) → tagStands g ≡ true → Tagged g
+    there : (g : List (List (List Bytes))) → tagStands g ≡ true → Tagged g
     there [] h = absurd (false≢true h)
     there ([] ∷ es) h = absurd (false≢true h)
-    there ((v ∷ vs) ∷ es) h =
-        let (a, b, c, e) = three v (and-left (isTag v) (served v (isEmpty vs)) h) in
-        let k : keeps (a ∷ b ∷ c ∷ []) (isEmpty vs) ≡ true = subst (λ (l : Bytes). keeps l (isEmpty vs) ≡ true) e h in
-        let asked = service-kept a b c (isEmpty vs) .0 (and-right (isTag (a ∷ b ∷ c ∷ [])) (served (a ∷ b ∷ c ∷ []) (isEmpty vs)) k) in
+    there (([] ∷ rs) ∷ es) h = absurd (false≢true h)
+    there (((v ∷ vs) ∷ r ∷ rs) ∷ es) h =
+        absurd (false≢true (and-right (isTag v) false (and-left (isTag v && false) (served v (isEmpty vs)) h)))
+    there (((v ∷ vs) ∷ []) ∷ es) h =
+        let good : isTag v ≡ true = and-left (isTag v) true (and-left (isTag v && true) (served v (isEmpty vs)) h) in
+        let (a, b, c, e) = three v good in
+        let asked = service-kept a b c (isEmpty vs) .0
+        (subst (λ (l : Bytes). served l (isEmpty vs) ≡ true) e (and-right (isTag v && true) (served v (isEmpty vs)) h)) in
         record {
           first = a;
           second = b;
           third = c;
-          repetition = vs;
+          figures = vs;
           elements = es;
-          shape = ap (λ (l : Bytes). (l ∷ vs) ∷ es) e;
-          bytes = bytes-kept a b c .0 (and-left (isTag (a ∷ b ∷ c ∷ [])) (served (a ∷ b ∷ c ∷ []) (isEmpty vs)) k);
+          shape = ap (λ (l : Bytes). ((l ∷ vs) ∷ []) ∷ es) e;
+          bytes = bytes-kept a b c .0 (subst (λ (l : Bytes). isTag l ≡ true) e good);
           service = λ u. (asked u .0, empty-nil vs .0 (asked u .1));
         }
 
     back : Tagged segment → tagStands segment ≡ true
     back d =
         let named : Bytes = d .first ∷ d .second ∷ d .third ∷ [] in
-        let alone : Bool = isEmpty (d .repetition) in
+        let alone : Bool = isEmpty (d .figures) in
         ap tagStands (d .shape)
-        ∙ and-both (isTag named) (served named alone) (bytes-kept (d .first) (d .second) (d .third) .1 (d .bytes))
+        ∙ and-both (isTag named && true) (served named alone)
+        (and-both (isTag named) true (bytes-kept (d .first) (d .second) (d .third) .1 (d .bytes)) refl)
         (service-kept (d .first) (d .second) (d .third) alone .1
-        (λ u. (d .service u .0, empty-nil (d .repetition) .1 (d .service u .1))))
+        (λ u. (d .service u .0, empty-nil (d .figures) .1 (d .service u .1))))
 
 -- where neither 4 nor 5 is met, 6 is not met exactly where every segment is tagged
 pub tags-clear : (s : List ℕ) → BodyPasses s
-    → (brokenTags s ≡ []) ↔ ((segment : List (List Bytes)) → List·Memᴰ segment (listRead s) → Tagged segment)
+    → (brokenTags s ≡ []) ↔ ((segment : List (List (List Bytes))) → List·Memᴰ segment (listRead s) → Tagged segment)
 unfolding brokenTags segmentsOf bodyTokens listed readList Passes
 tags-clear s passes =
     let stand = tags-words [] (segmentsOf s) (all-finished (bodyTokens s) passes) in

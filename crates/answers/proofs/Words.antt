@@ -28,7 +28,7 @@ pub judged-are : (i : Figures) (r : Refusal)
     ∷ i .characters .element
     ∷ i .characters .mark
     ∷ i .characters .release
-    ∷ i .characters .reserved
+    ∷ i .characters .repetition
     ∷ i .characters .terminator
     ∷ i .segments .0
     ∷ i .messages .0

@@ -2,7 +2,7 @@
 -- plays. Assumes nothing.
 use Prim.Native.Nat.{ℕ, suc, _+_, _≤_, _<_}
 use mathlib.Core.Path.{_≡_, refl, sym, ap, _∙_}
-use mathlib.Core.Bool.{Bool, true, false, not, _&&_, _||_, false≢true}
+use mathlib.Core.Bool.{Bool, true, false, not, _&&_, _||_, false≢true, and-false}
 use mathlib.Core.List.{List, [], _∷_, _++_}
 use mathlib.Core.Logic.{_⊎_, inl, inr, ⊎-elim}
 use native.Mathlib.Omega.{arith}
@@ -15,8 +15,8 @@ use Rattle.lists.proofs.Texts.{and-left, and-both}
 use Rattle.lists.proofs.Tests.{Says, says-eq, says-le, says-both, says-either, says-not, says-as, fails, says-begins}
 use Rattle.characters.specs.declared.Characters.{Characters}
 use Rattle.characters.specs.declared.Role.the-variants.{Separator, Release, Plain}
-use Rattle.characters.specs.Characters.{between, upper, lower, digit, separates, hasRelease, serviceCharacters, isService, usable, sixBytes, spelledOut, advised, adviceOf, plusCharacters, controlCharacters, charactersOf, isBreak, breaks, afterBreaks, bodyStart, body, badAdvice, opens, role}
-pub use Rattle.characters.specs.Notions.{SeparatorByte, Usable}
+use Rattle.characters.specs.Characters.{between, upper, lower, digit, separates, hasRelease, hasRepetition, serviceCharacters, isService, usable, sixBytes, spelledOut, advised, adviceOf, plusCharacters, starCharacters, beginsVersion4, controlCharacters, charactersOf, isBreak, breaks, afterBreaks, bodyStart, body, badAdvice, opens, role}
+pub use Rattle.characters.specs.Notions.{SeparatorByte, Usable, NamesVersion4}
 
 -- ---- bytes
 
@@ -61,25 +61,25 @@ separates-says b =
 
 -- ---- service characters
 
--- what follows the terminator among them: the release character, unless it is a space
-module _ (release : ℕ) where
+-- what follows the terminator among them: the repetition separator and the release character, each unless it is a space
+module _ (x : ℕ) where
   abbrev optional : Bool → List ℕ
-  optional none = if not none then release ∷ [] else []
+  optional none = if not none then x ∷ [] else []
 
-  abbrev Released : ℕ → Type 0
-  Released b = (release ≡ 32 → ⊥) × (b ≡ release)
+  abbrev Given : ℕ → Type 0
+  Given b = (x ≡ 32 → ⊥) × (b ≡ x)
 
-  in-optional : (b : ℕ) (none : Bool) → Says none (release ≡ 32) → Says (member b (optional none)) (Released b)
+  in-optional : (b : ℕ) (none : Bool) → Says none (x ≡ 32) → Says (member b (optional none)) (Given b)
   unfolding member
   in-optional b true s = (λ h. absurd (false≢true h), λ h. absurd (h .0 (s .0 refl)))
-  in-optional b false s = says-as (one b release) (λ e. (fails false s .0 refl, e)) (λ h. h .1)
+  in-optional b false s = says-as (one b x) (λ e. (fails false s .0 refl, e)) (λ h. h .1)
 
-  all-optional : (none : Bool) → Says none (release ≡ 32) → Says (all separates (optional none)) ((release ≡ 32) ⊎ SeparatorByte release)
+  all-optional : (none : Bool) → Says none (x ≡ 32) → Says (all separates (optional none)) ((x ≡ 32) ⊎ SeparatorByte x)
   unfolding all
   all-optional true s = (λ h. inl (s .0 refl), λ h. refl)
   all-optional false s = (
-    λ h. inr (separates-says release .0 (and-left (separates release) true h)),
-    ⊎-elim (λ e. absurd (false≢true (s .1 e))) (λ h. and-both (separates release) true (separates-says release .1 h) refl),
+    λ h. inr (separates-says x .0 (and-left (separates x) true h)),
+    ⊎-elim (λ e. absurd (false≢true (s .1 e))) (λ h. and-both (separates x) true (separates-says x .1 h) refl),
   )
 
   one-optional : (none : Bool) → Says (allDiffer (optional none)) (Unit {0})
@@ -87,17 +87,49 @@ module _ (release : ℕ) where
   one-optional true = (λ h. tt, λ h. refl)
   one-optional false = (λ h. tt, λ h. refl)
 
--- "a service character is one of these four (three)"
+module _ (p r : ℕ) where
+  abbrev lastOnes : Bool → Bool → List ℕ
+  lastOnes np nr = optional p np ++ optional r nr
+
+  in-last : (b : ℕ) (np nr : Bool) → Says np (p ≡ 32) → Says nr (r ≡ 32) → Says (member b (lastOnes np nr)) (Given p b ⊎ Given r b)
+  unfolding member
+  in-last b true nr sp sr = says-as (in-optional r b nr sr) inr (⊎-elim (λ h. absurd (h .0 (sp .0 refl))) (λ h. h))
+  in-last b false nr sp sr =
+      says-as (one-of b p (member b (optional r nr)) (in-optional r b nr sr)) (⊎-elim (λ e. inl (fails false sp .0 refl, e)) inr)
+      (⊎-elim (λ h. inl (h .1)) inr)
+
+  all-last : (np nr : Bool) → Says np (p ≡ 32) → Says nr (r ≡ 32)
+      → Says (all separates (lastOnes np nr)) (((p ≡ 32) ⊎ SeparatorByte p) × ((r ≡ 32) ⊎ SeparatorByte r))
+  unfolding all
+  all-last true nr sp sr = says-as (all-optional r nr sr) (λ h. (inl (sp .0 refl), h)) (λ h. h .1)
+  all-last false nr sp sr =
+      says-as (says-both (separates p) (all separates (optional r nr)) (separates-says p) (all-optional r nr sr)) (λ h. (inr (h .0), h .1))
+      (λ h. (⊎-elim (λ e. absurd (false≢true (sp .1 e))) (λ k. k) (h .0), h .1))
+
+  differ-last : (np nr : Bool) → Says np (p ≡ 32) → Says nr (r ≡ 32) → Says (allDiffer (lastOnes np nr)) ((p ≡ 32 → ⊥) → Given r p → ⊥)
+  unfolding allDiffer
+  differ-last true nr sp sr = says-as (one-optional r nr) (λ h n k. n (sp .0 refl)) (λ h. tt)
+  differ-last false nr sp sr =
+      says-as
+      (says-both (not (member p (optional r nr))) (allDiffer (optional r nr)) (says-not (member p (optional r nr)) (in-optional r p nr sr))
+      (one-optional r nr))
+      (λ h n k. h .0 k)
+      (λ h. (h (fails false sp .0 refl), tt))
+
+-- "a service character is one of these four (three)", or the repetition separator
 pub service-says : (c : Characters) (b : ℕ)
     → Says (isService c b)
-    ((b ≡ c .component) ⊎ (b ≡ c .element) ⊎ (b ≡ c .terminator) ⊎ ((c .release ≡ 32 → ⊥) × (b ≡ c .release)))
-unfolding isService serviceCharacters hasRelease member
+    ((b ≡ c .component) ⊎ (b ≡ c .element) ⊎ (b ≡ c .terminator) ⊎ ((c .repetition ≡ 32 → ⊥) × (b ≡ c .repetition))
+    ⊎ ((c .release ≡ 32 → ⊥) × (b ≡ c .release)))
+unfolding isService serviceCharacters hasRelease hasRepetition member
 service-says c b =
-    let none : Bool = eqb (c .release) 32 in
-    let last : List ℕ = optional (c .release) none in
+    let np : Bool = eqb (c .repetition) 32 in
+    let nr : Bool = eqb (c .release) 32 in
+    let last : List ℕ = lastOnes (c .repetition) (c .release) np nr in
     one-of b (c .component) (member b (c .element ∷ c .terminator ∷ last))
     (one-of b (c .element) (member b (c .terminator ∷ last))
-    (one-of b (c .terminator) (member b last) (in-optional (c .release) b none (says-eq (c .release) 32))))
+    (one-of b (c .terminator) (member b last)
+    (in-last (c .repetition) (c .release) b np nr (says-eq (c .repetition) 32) (says-eq (c .release) 32))))
 
 not-space : {b : ℕ} → SeparatorByte b → b ≡ 32 → ⊥
 not-space (inl h) e = omega arith
@@ -108,27 +140,31 @@ not-space (inr (inr (inr h))) e = omega arith
 -- the same, in the order of the tests
 abbrev Parts : Characters → Type 0
 Parts c =
-    (((c .reserved ≡ 32) × ((c .mark ≡ 46) ⊎ (c .mark ≡ 44)))
-    × (SeparatorByte (c .component) × (SeparatorByte (c .element) × (SeparatorByte (c .terminator) × ((c .release ≡ 32) ⊎ SeparatorByte (c .release))))))
-    × (((c .mark ≡ c .component) ⊎ (c .mark ≡ c .element) ⊎ (c .mark ≡ c .terminator) ⊎ Released (c .release) (c .mark) → ⊥)
-    × (((c .component ≡ c .element) ⊎ (c .component ≡ c .terminator) ⊎ Released (c .release) (c .component) → ⊥)
-    × (((c .element ≡ c .terminator) ⊎ Released (c .release) (c .element) → ⊥) × ((Released (c .release) (c .terminator) → ⊥) × Unit {0}))))
+    (((c .mark ≡ 46) ⊎ (c .mark ≡ 44))
+    × (SeparatorByte (c .component) × (SeparatorByte (c .element) × (SeparatorByte (c .terminator)
+    × (((c .repetition ≡ 32) ⊎ SeparatorByte (c .repetition)) × ((c .release ≡ 32) ⊎ SeparatorByte (c .release)))))))
+    × (((c .mark ≡ c .component) ⊎ (c .mark ≡ c .element) ⊎ (c .mark ≡ c .terminator) ⊎ Given (c .repetition) (c .mark) ⊎ Given (c .release) (c .mark) → ⊥)
+    × (((c .component ≡ c .element) ⊎ (c .component ≡ c .terminator) ⊎ Given (c .repetition) (c .component) ⊎ Given (c .release) (c .component) → ⊥)
+    × (((c .element ≡ c .terminator) ⊎ Given (c .repetition) (c .element) ⊎ Given (c .release) (c .element) → ⊥)
+    × ((Given (c .repetition) (c .terminator) ⊎ Given (c .release) (c .terminator) → ⊥)
+    × ((c .repetition ≡ 32 → ⊥) → Given (c .release) (c .repetition) → ⊥)))))
 
 pub usable-says : (c : Characters) → Says (usable c) (Usable c)
-unfolding usable serviceCharacters hasRelease all allDiffer member
+unfolding usable serviceCharacters hasRelease hasRepetition all allDiffer member
 usable-says c =
-    let none : Bool = eqb r 32 in
-    let last : List ℕ = optional r none in
-    let rest : (b : ℕ) → Says (member b last) (Released r b) = λ b. in-optional r b none (says-eq r 32) in
+    let np : Bool = eqb p 32 in
+    let nr : Bool = eqb r 32 in
+    let last : List ℕ = lastOnes p r np nr in
+    let rest : (b : ℕ) → Says (member b last) (Given p b ⊎ Given r b) = λ b. in-last p r b np nr (says-eq p 32) (says-eq r 32) in
     says-as
     (says-both
-    (eqb (c .reserved) 32 && member m (46 ∷ 44 ∷ []) && all separates (k ∷ e ∷ t ∷ last))
+    (member m (46 ∷ 44 ∷ []) && all separates (k ∷ e ∷ t ∷ last))
     (allDiffer (m ∷ k ∷ e ∷ t ∷ last))
-    (says-both (eqb (c .reserved) 32 && member m (46 ∷ 44 ∷ [])) (all separates (k ∷ e ∷ t ∷ last))
-    (says-both (eqb (c .reserved) 32) (member m (46 ∷ 44 ∷ [])) (says-eq (c .reserved) 32) (one-of m 46 (member m (44 ∷ [])) (one m 44)))
+    (says-both (member m (46 ∷ 44 ∷ [])) (all separates (k ∷ e ∷ t ∷ last))
+    (one-of m 46 (member m (44 ∷ [])) (one m 44))
     (says-both (separates k) (all separates (e ∷ t ∷ last)) (separates-says k)
     (says-both (separates e) (all separates (t ∷ last)) (separates-says e)
-    (says-both (separates t) (all separates last) (separates-says t) (all-optional r none (says-eq r 32))))))
+    (says-both (separates t) (all separates last) (separates-says t) (all-last p r np nr (says-eq p 32) (says-eq r 32))))))
     (says-both (not (member m (k ∷ e ∷ t ∷ last))) (allDiffer (k ∷ e ∷ t ∷ last))
     (says-not (member m (k ∷ e ∷ t ∷ last))
     (one-of m k (member m (e ∷ t ∷ last)) (one-of m e (member m (t ∷ last)) (one-of m t (member m last) (rest m)))))
@@ -136,7 +172,8 @@ usable-says c =
     (says-not (member k (e ∷ t ∷ last)) (one-of k e (member k (t ∷ last)) (one-of k t (member k last) (rest k))))
     (says-both (not (member e (t ∷ last))) (allDiffer (t ∷ last))
     (says-not (member e (t ∷ last)) (one-of e t (member e last) (rest e)))
-    (says-both (not (member t last)) (allDiffer last) (says-not (member t last) (rest t)) (one-optional r none))))))
+    (says-both (not (member t last)) (allDiffer last) (says-not (member t last) (rest t))
+    (differ-last p r np nr (says-eq p 32) (says-eq r 32)))))))
     there
     back
   where
@@ -152,40 +189,55 @@ usable-says c =
     t : ℕ
     t = c .terminator
 
+    p : ℕ
+    p = c .repetition
+
     r : ℕ
     r = c .release
 
-    -- what is no space is the release character only where there is one
-    apart : (b : ℕ) → (b ≡ 32 → ⊥) → (Released r b → ⊥) → b ≡ r → ⊥
-    apart b n h q = h (λ z. n (q ∙ z), q)
+    -- what is no space is an optional one only where there is one
+    apart : (x b : ℕ) → (b ≡ 32 → ⊥) → (Given x b → ⊥) → b ≡ x → ⊥
+    apart x b n h q = h (λ z. n (q ∙ z), q)
 
     mark-no-space : (m ≡ 46) ⊎ (m ≡ 44) → m ≡ 32 → ⊥
     mark-no-space (inl h) q = omega arith
     mark-no-space (inr h) q = omega arith
 
+    -- neither of the two
+    neither : (b : ℕ) → (b ≡ 32 → ⊥) → (Given p b ⊎ Given r b → ⊥) → (b ≡ p) ⊎ (b ≡ r) → ⊥
+    neither b n h = ⊎-elim (apart p b n (λ q. h (inl q))) (apart r b n (λ q. h (inr q)))
+
+    both : (b : ℕ) → ((b ≡ p) ⊎ (b ≡ r) → ⊥) → Given p b ⊎ Given r b → ⊥
+    both b h = ⊎-elim (λ q. h (inl (q .1))) (λ q. h (inr (q .1)))
+
+    none-space : ((p ≡ 32) ⊎ SeparatorByte p) → ((p ≡ 32 → ⊥) → Given r p → ⊥) → p ≡ r → p ≡ 32
+    none-space (inl h) n q = h
+    none-space (inr h) n q = absurd (n (not-space h) (λ z. not-space h (q ∙ z), q))
+
     there : Parts c → Usable c
-    there (((z, mk), (sk, (se, (st, sr)))), (nm, (nk, (ne, (nt, u))))) = (
-      z,
+    there ((mk, (sk, (se, (st, (sp, sr))))), (nm, (nk, (ne, (nt, np))))) = (
       mk,
       sk,
       se,
       st,
+      sp,
       sr,
       ⊎-elim (λ q. nm (inl q)) (⊎-elim (λ q. nm (inr (inl q)))
-          (⊎-elim (λ q. nm (inr (inr (inl q)))) (apart m (mark-no-space mk) (λ q. nm (inr (inr (inr q))))))),
-      ⊎-elim (λ q. nk (inl q)) (⊎-elim (λ q. nk (inr (inl q))) (apart k (not-space sk) (λ q. nk (inr (inr q))))),
-      ⊎-elim (λ q. ne (inl q)) (apart e (not-space se) (λ q. ne (inr q))),
-      apart t (not-space st) nt,
+          (⊎-elim (λ q. nm (inr (inr (inl q)))) (neither m (mark-no-space mk) (λ q. nm (inr (inr (inr q))))))),
+      ⊎-elim (λ q. nk (inl q)) (⊎-elim (λ q. nk (inr (inl q))) (neither k (not-space sk) (λ q. nk (inr (inr q))))),
+      ⊎-elim (λ q. ne (inl q)) (neither e (not-space se) (λ q. ne (inr q))),
+      neither t (not-space st) nt,
+      none-space sp np,
     )
 
     back : Usable c → Parts c
-    back (z, mk, sk, se, st, sr, nm, nk, ne, nt) = (
-      ((z, mk), (sk, (se, (st, sr)))),
+    back (mk, sk, se, st, sp, sr, nm, nk, ne, nt, np) = (
+      (mk, (sk, (se, (st, (sp, sr))))),
       (
-        ⊎-elim (λ q. nm (inl q)) (⊎-elim (λ q. nm (inr (inl q))) (⊎-elim (λ q. nm (inr (inr (inl q)))) (λ q. nm (inr (inr (inr (q .1))))))),
+        ⊎-elim (λ q. nm (inl q)) (⊎-elim (λ q. nm (inr (inl q))) (⊎-elim (λ q. nm (inr (inr (inl q)))) (both m (λ q. nm (inr (inr (inr q))))))),
         (
-          ⊎-elim (λ q. nk (inl q)) (⊎-elim (λ q. nk (inr (inl q))) (λ q. nk (inr (inr (q .1))))),
-          (⊎-elim (λ q. ne (inl q)) (λ q. ne (inr (q .1))), (λ q. nt (q .1), tt)),
+          ⊎-elim (λ q. nk (inl q)) (⊎-elim (λ q. nk (inr (inl q))) (both k (λ q. nk (inr (inr q))))),
+          (⊎-elim (λ q. ne (inl q)) (both e (λ q. ne (inr q))), (both t nt, λ n q. n (np (q .1)))),
         ),
       ),
     )
@@ -193,16 +245,16 @@ usable-says c =
 -- ---- the opening
 
 -- six bytes in the advice's order
-pub six-are : (component element mark release reserved terminator : ℕ)
-    → sixBytes (component ∷ element ∷ mark ∷ release ∷ reserved ∷ terminator ∷ [])
-    ≡ record { component = component; element = element; mark = mark; release = release; reserved = reserved; terminator = terminator }
+pub six-are : (component element mark release repetition terminator : ℕ)
+    → sixBytes (component ∷ element ∷ mark ∷ release ∷ repetition ∷ terminator ∷ [])
+    ≡ record { component = component; element = element; mark = mark; release = release; repetition = repetition; terminator = terminator }
 unfolding sixBytes
-six-are component element mark release reserved terminator = refl
+six-are component element mark release repetition terminator = refl
 
 -- an advice is `UNA` and the six
 pub advice-is : (c : Characters)
     → adviceOf c
-    ≡ 85 ∷ 78 ∷ 65 ∷ c .component ∷ c .element ∷ c .mark ∷ c .release ∷ c .reserved ∷ c .terminator ∷ []
+    ≡ 85 ∷ 78 ∷ 65 ∷ c .component ∷ c .element ∷ c .mark ∷ c .release ∷ c .repetition ∷ c .terminator ∷ []
 unfolding adviceOf spelledOut
 advice-is c = refl
 
@@ -231,7 +283,7 @@ breaks-are more = (refl, refl, refl, λ b cr lf. rw (ne-eqb b 13 cr, ne-eqb b 10
 
 module _ (c : Characters) (rest : List ℕ) where
   abbrev pub advising : List ℕ
-  advising = 85 ∷ 78 ∷ 65 ∷ c .component ∷ c .element ∷ c .mark ∷ c .release ∷ c .reserved ∷ c .terminator ∷ rest
+  advising = 85 ∷ 78 ∷ 65 ∷ c .component ∷ c .element ∷ c .mark ∷ c .release ∷ c .repetition ∷ c .terminator ∷ rest
 
   pub advised-opening : (charactersOf advising ≡ c) × (bodyStart advising ≡ 9 + breaks rest) × (body advising ≡ drop (breaks rest) rest)
   unfolding charactersOf advised begins sixBytes bodyStart body afterBreaks
@@ -256,22 +308,46 @@ pub short-bad : (rest : List ℕ) → length rest < 6 → badAdvice (85 ∷ 78 �
 unfolding badAdvice advised begins
 short-bad rest h = rw (lt-ltb (length (85 ∷ 78 ∷ 65 ∷ rest)) 9 (omega arith))
 
--- "input that begins `UNB+` uses `:` `+` `.` `?` `'`"
+-- request 2026-10: "Input beginning `UNB+UNOA:4` or `UNB+UNOB:4`"
+pub version4-says : (rest : List ℕ) → Says (beginsVersion4 (85 ∷ 78 ∷ 66 ∷ 43 ∷ rest)) (NamesVersion4 rest)
+unfolding beginsVersion4 begins
+version4-says rest =
+    says-as
+    (says-either (begins (text "UNOA:4") rest) (begins (text "UNOB:4") rest) (says-begins (text "UNOA:4") rest) (says-begins (text "UNOB:4") rest))
+    (⊎-elim (λ h. (h .0, inl (h .1))) (λ h. (h .0, inr (h .1))))
+    (λ h. ⊎-elim (λ e. inl (h .0, e)) (λ e. inr (h .0, e)) (h .1))
+
+-- such input begins `UNB+`
+pub version4-plus : (s : List ℕ) → beginsVersion4 s ≡ true → (rest : List ℕ) × (s ≡ 85 ∷ 78 ∷ 66 ∷ 43 ∷ rest)
+unfolding beginsVersion4
+version4-plus s h =
+    ⊎-elim (λ k. (text "UNOA:4" ++ k .0, k .1)) (λ k. (text "UNOB:4" ++ k .0, k .1))
+    (says-either (begins (text "UNB+UNOA:4") s) (begins (text "UNB+UNOB:4") s) (says-begins (text "UNB+UNOA:4") s)
+    (says-begins (text "UNB+UNOB:4") s) .0 h)
+
+-- "input that begins `UNB+` uses `:` `+` `.` `?` `'`"; where it names version 4, it "has `*`"
 pub plus-opening : (rest : List ℕ)
     → let s : List ℕ = 85 ∷ 78 ∷ 66 ∷ 43 ∷ rest in
-    (charactersOf s ≡ record { component = 58; element = 43; mark = 46; release = 63; reserved = 32; terminator = 39 })
+    ((NamesVersion4 rest → ⊥)
+    → charactersOf s ≡ record { component = 58; element = 43; mark = 46; release = 63; repetition = 32; terminator = 39 })
+    × (NamesVersion4 rest → charactersOf s ≡ record { component = 58; element = 43; mark = 46; release = 63; repetition = 42; terminator = 39 })
     × (bodyStart s ≡ 0)
     × (body s ≡ s)
-unfolding charactersOf advised begins plusCharacters sixBytes bodyStart body
-plus-opening rest = (refl, refl, refl)
+unfolding charactersOf advised begins plusCharacters starCharacters sixBytes bodyStart body
+plus-opening rest = (
+  λ n. rw (fails (beginsVersion4 (85 ∷ 78 ∷ 66 ∷ 43 ∷ rest)) (version4-says rest) .1 n),
+  λ h. rw (version4-says rest .1 h),
+  refl,
+  refl,
+)
 
--- "input that begins `UNB` and byte 29 uses 31, 29, `.`, no release, terminator 28"
+-- "input that begins `UNB` and byte 29 uses 31, 29, `.`, no release, terminator 28", and no repetition separator
 pub control-opening : (rest : List ℕ)
     → let s : List ℕ = 85 ∷ 78 ∷ 66 ∷ 29 ∷ rest in
-    (charactersOf s ≡ record { component = 31; element = 29; mark = 46; release = 32; reserved = 32; terminator = 28 })
+    (charactersOf s ≡ record { component = 31; element = 29; mark = 46; release = 32; repetition = 32; terminator = 28 })
     × (bodyStart s ≡ 0)
     × (body s ≡ s)
-unfolding charactersOf advised begins controlCharacters sixBytes bodyStart body
+unfolding charactersOf advised begins beginsVersion4 controlCharacters sixBytes bodyStart body
 control-opening rest = (refl, refl, refl)
 
 -- without an advice
@@ -288,8 +364,9 @@ module _ (s : List ℕ) (none : (rest : List ℕ) → s ≡ 85 ∷ 78 ∷ 65 ∷
   -- 3 is met by "neither beginning above"
   pub plain-opens : Says (opens s)
       (((rest : List ℕ) × (s ≡ 85 ∷ 78 ∷ 66 ∷ 43 ∷ rest)) ⊎ ((rest : List ℕ) × (s ≡ 85 ∷ 78 ∷ 66 ∷ 29 ∷ rest)))
-  unfolding opens charactersOf bodyStart body plusCharacters controlCharacters sixBytes
-  plain-opens = rw not-advised (step (begins (text "UNB+") s) (says-begins (text "UNB+") s))
+  unfolding opens charactersOf bodyStart body plusCharacters starCharacters controlCharacters sixBytes
+  plain-opens =
+      rw not-advised (step (beginsVersion4 s) (version4-plus s) (begins (text "UNB+") s) (says-begins (text "UNB+") s))
     where
       Plus : Type 0
       Plus = (rest : List ℕ) × (s ≡ 85 ∷ 78 ∷ 66 ∷ 43 ∷ rest)
@@ -297,10 +374,12 @@ module _ (s : List ℕ) (none : (rest : List ℕ) → s ≡ 85 ∷ 78 ∷ 65 ∷
       Control : Type 0
       Control = (rest : List ℕ) × (s ≡ 85 ∷ 78 ∷ 66 ∷ 29 ∷ rest)
 
-      step : (t : Bool) → Says t Plus
-          → Says (begins (text "UNB" ++ (if t then plusCharacters else controlCharacters) .element ∷ []) s) (Plus ⊎ Control)
-      step true p = (λ h. inl (p .0 refl), λ h. says-begins (text "UNB+") s .1 (p .0 refl))
-      step false p =
+      step : (v : Bool) → (v ≡ true → Plus) → (t : Bool) → Says t Plus
+          → Says (begins (text "UNB" ++ (if v then starCharacters else if t then plusCharacters else controlCharacters) .element ∷ []) s)
+          (Plus ⊎ Control)
+      step true v t p = (λ h. inl (v refl), λ h. says-begins (text "UNB+") s .1 (v refl))
+      step false v true p = (λ h. inl (p .0 refl), λ h. says-begins (text "UNB+") s .1 (p .0 refl))
+      step false v false p =
           says-as (says-begins (85 ∷ 78 ∷ 66 ∷ 29 ∷ []) s) inr (⊎-elim (λ h. absurd (false≢true (p .1 h))) (λ h. h))
 
 -- ---- what part a byte plays
@@ -314,12 +393,27 @@ module _ (c : Characters) (u : Usable c) where
   unfolding role
   element-role = rw (ne-eqb (c .element) (c .terminator) (λ e. u .8 (inl e)), eq-eqb (c .element) (c .element) refl)
 
-  pub component-role : role c (c .component) ≡ Separator 2
+  -- what is no repetition separator is not taken for one
+  no-repetition : (b : ℕ) → (b ≡ c .repetition → ⊥) → (hasRepetition c && eqb b (c .repetition)) ≡ false
+  no-repetition b n = ap (λ (t : Bool). hasRepetition c && t) (ne-eqb b (c .repetition) n) ∙ and-false (hasRepetition c)
+
+  pub repetition-role : (c .repetition ≡ 32 → ⊥) → role c (c .repetition) ≡ Separator 2
+  unfolding role hasRepetition
+  repetition-role n =
+      rw (
+        ne-eqb (c .repetition) (c .terminator) (λ e. u .9 (inl (sym e))),
+        ne-eqb (c .repetition) (c .element) (λ e. u .8 (inr (inl (sym e)))),
+        ne-eqb (c .repetition) 32 n,
+        eq-eqb (c .repetition) (c .repetition) refl,
+      )
+
+  pub component-role : role c (c .component) ≡ Separator 3
   unfolding role
   component-role =
       rw (
         ne-eqb (c .component) (c .terminator) (λ e. u .7 (inr (inl e))),
         ne-eqb (c .component) (c .element) (λ e. u .7 (inl e)),
+        no-repetition (c .component) (λ e. u .7 (inr (inr (inl e)))),
         eq-eqb (c .component) (c .component) refl,
       )
 
@@ -327,34 +421,37 @@ module _ (c : Characters) (u : Usable c) where
   unfolding role hasRelease
   release-role n =
       rw (
-        ne-eqb (c .release) (c .terminator) (λ e. u .9 (sym e)),
-        ne-eqb (c .release) (c .element) (λ e. u .8 (inr (sym e))),
-        ne-eqb (c .release) (c .component) (λ e. u .7 (inr (inr (sym e)))),
+        ne-eqb (c .release) (c .terminator) (λ e. u .9 (inr (sym e))),
+        ne-eqb (c .release) (c .element) (λ e. u .8 (inr (inr (sym e)))),
+        no-repetition (c .release) (λ e. n (e ∙ u .10 (sym e))),
+        ne-eqb (c .release) (c .component) (λ e. u .7 (inr (inr (inr (sym e))))),
         ne-eqb (c .release) 32 n,
         eq-eqb (c .release) (c .release) refl,
       )
 
 -- every other byte plays none
 pub plain-role : (c : Characters) (b : ℕ) → isService c b ≡ false → role c b ≡ Plain
-unfolding role hasRelease
+unfolding role hasRelease hasRepetition
 plain-role c b h =
     let none = fails (isService c b) (service-says c b) .0 h in
     rw (
       ne-eqb b (c .terminator) (λ e. none (inr (inr (inl e)))),
       ne-eqb b (c .element) (λ e. none (inr (inl e))),
       ne-eqb b (c .component) (λ e. none (inl e)),
-    ) (last (eqb (c .release) 32) (says-eq (c .release) 32) (λ n e. none (inr (inr (inr (n, e))))))
+      optional-none (c .repetition) (eqb (c .repetition) 32) (says-eq (c .repetition) 32) (λ n e. none (inr (inr (inr (inl (n, e)))))),
+      optional-none (c .release) (eqb (c .release) 32) (says-eq (c .release) 32) (λ n e. none (inr (inr (inr (inr (n, e)))))),
+    )
   where
-    last : (r : Bool) → Says r (c .release ≡ 32) → ((c .release ≡ 32 → ⊥) → b ≡ c .release → ⊥)
-        → (if not r && eqb b (c .release) then Release else Plain) ≡ Plain
-    last true s n = refl
-    last false s n = rw (ne-eqb b (c .release) (n (fails false s .0 refl)))
+    optional-none : (x : ℕ) (t : Bool) → Says t (x ≡ 32) → ((x ≡ 32 → ⊥) → b ≡ x → ⊥) → (not t && eqb b x) ≡ false
+    optional-none x true s n = refl
+    optional-none x false s n = ne-eqb b x (n (fails false s .0 refl))
 
 -- every service character plays one
 pub service-role : (c : Characters) → Usable c → (b : ℕ) → isService c b ≡ true
     → ((rank : ℕ) × (role c b ≡ Separator rank)) ⊎ (role c b ≡ Release)
 service-role c u b h =
-    ⊎-elim (λ e. inl (2, ap (role c) e ∙ component-role c u))
+    ⊎-elim (λ e. inl (3, ap (role c) e ∙ component-role c u))
     (⊎-elim (λ e. inl (1, ap (role c) e ∙ element-role c u))
-    (⊎-elim (λ e. inl (0, ap (role c) e ∙ terminator-role c u)) (λ e. inr (ap (role c) (e .1) ∙ release-role c u (e .0)))))
+    (⊎-elim (λ e. inl (0, ap (role c) e ∙ terminator-role c u))
+    (⊎-elim (λ e. inl (2, ap (role c) (e .1) ∙ repetition-role c u (e .0))) (λ e. inr (ap (role c) (e .1) ∙ release-role c u (e .0))))))
     (service-says c b .0 h)

@@ -1,4 +1,5 @@
--- Paper 01, "Service characters"; request 2026-01, line breaks. A byte is a number below 256. Assumes nothing.
+-- Paper 01, "Service characters"; request 2026-01, line breaks; request 2026-10, the repetition separator. A byte is a number below 256.
+-- Assumes nothing.
 use Prim.Native.Nat.{ℕ, zero, suc, _+_}
 use mathlib.Core.Bool.{Bool, true, false, not, _&&_, _||_}
 use mathlib.Core.List.{List, [], _∷_, _++_}
@@ -36,19 +37,26 @@ separates b = (between 33 126 b && not (upper b || lower b || digit b)) || membe
 unfoldable pub hasRelease : Characters → Bool
 hasRelease c = not (eqb (c .release) space)
 
--- "From here on a service character is one of these four (three); the mark and the reserved byte are not."
+-- request 2026-10: "the advice's fifth byte is the repetition separator .. It is a space (none), or a service character"
+unfoldable pub hasRepetition : Characters → Bool
+hasRepetition c = not (eqb (c .repetition) space)
+
+-- "From here on a service character is one of these four (three); the mark .. not"; and the repetition separator, where there is one
 unfoldable pub serviceCharacters : Characters → List ℕ
 serviceCharacters c =
-    c .component ∷ c .element ∷ c .terminator ∷ (if hasRelease c then c .release ∷ [] else [])
+    c .component
+    ∷ c .element
+    ∷ c .terminator
+    ∷ ((if hasRepetition c then c .repetition ∷ [] else []) ++ (if hasRelease c then c .release ∷ [] else []))
 
 unfoldable pub isService : Characters → ℕ → Bool
 isService c b = member b (serviceCharacters c)
 
--- "They are usable when": the reserved byte, the mark, the separators, and "these four (three without release) and the mark all differ"
+-- "They are usable when": the mark, the separators, and "these four (three without release) and the mark all differ"; the repetition
+-- separator "under the same rules as the other separators"
 unfoldable pub usable : Characters → Bool
 usable c =
-    eqb (c .reserved) space
-    && member (c .mark) (text ".,")
+    member (c .mark) (text ".,")
     && all separates (serviceCharacters c)
     && allDiffer (c .mark ∷ serviceCharacters c)
 
@@ -72,11 +80,11 @@ afterBreaks s at = at + breaks (drop at s)
 -- six bytes in the advice's order; a missing one is 0, which is never usable
 unfoldable pub sixBytes : List ℕ → Characters
 sixBytes s =
-    record { component = getD s 0 0; element = getD s 1 0; mark = getD s 2 0; release = getD s 3 0; reserved = getD s 4 0; terminator = getD s 5 0 }
+    record { component = getD s 0 0; element = getD s 1 0; mark = getD s 2 0; release = getD s 3 0; repetition = getD s 4 0; terminator = getD s 5 0 }
 
 -- the six bytes, as an advice spells them
 unfoldable pub spelledOut : Characters → List ℕ
-spelledOut c = c .component ∷ c .element ∷ c .mark ∷ c .release ∷ c .reserved ∷ c .terminator ∷ []
+spelledOut c = c .component ∷ c .element ∷ c .mark ∷ c .release ∷ c .repetition ∷ c .terminator ∷ []
 
 -- "With a service string advice, the input begins `UNA` and six bytes"
 unfoldable pub advised : List ℕ → Bool
@@ -89,6 +97,13 @@ adviceOf c = text "UNA" ++ spelledOut c
 unfoldable pub plusCharacters : Characters
 plusCharacters = sixBytes (text ":+.? '")
 
+-- request 2026-10: "Input beginning `UNB+UNOA:4` or `UNB+UNOB:4` has `*`."
+unfoldable pub starCharacters : Characters
+starCharacters = sixBytes (text ":+.?*'")
+
+unfoldable pub beginsVersion4 : List ℕ → Bool
+beginsVersion4 s = begins (text "UNB+UNOA:4") s || begins (text "UNB+UNOB:4") s
+
 -- "input that begins `UNB` and byte 29 uses 31, 29, `.`, no release, terminator 28"
 unfoldable pub controlCharacters : Characters
 controlCharacters = sixBytes (31 ∷ 29 ∷ 46 ∷ space ∷ space ∷ 28 ∷ [])
@@ -97,6 +112,7 @@ controlCharacters = sixBytes (31 ∷ 29 ∷ 46 ∷ space ∷ space ∷ 28 ∷ []
 unfoldable pub charactersOf : List ℕ → Characters
 charactersOf s =
     if advised s then sixBytes (drop 3 s)
+    else if beginsVersion4 s then starCharacters
     else if begins (text "UNB+") s then plusCharacters else controlCharacters
 
 -- "The body is all that follows the advice, or the whole input." Breaks "directly after the service string advice, are to be passed over"
@@ -120,5 +136,6 @@ unfoldable pub role : Characters → ℕ → Role
 role c b =
     if eqb b (c .terminator) then Separator 0
     else if eqb b (c .element) then Separator 1
-    else if eqb b (c .component) then Separator 2
+    else if hasRepetition c && eqb b (c .repetition) then Separator 2
+    else if eqb b (c .component) then Separator 3
     else if hasRelease c && eqb b (c .release) then Release else Plain

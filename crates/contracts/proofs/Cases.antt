@@ -60,11 +60,11 @@ compares a b r h = (
   λ q e d. compared-tells r (SecondRefused q) (h ∙ second-refused a b e d),
 )
 
-pub locates : (s : List ℕ) (segment element component : ℕ) (r : Located) → Locates s segment element component r
-    → refusalOf s ≡ none → (v : Value) → located s segment element component ≡ some v → r ≡ place.At (v .offset) (v .spelled)
+pub locates : (s : List ℕ) (segment element repeat component : ℕ) (r : Located) → Locates s segment element repeat component r
+    → refusalOf s ≡ none → (v : Value) → located s segment element repeat component ≡ some v → r ≡ place.At (v .offset) (v .spelled)
 unfolding toldLocated
-locates s segment element component r h e v d =
-    located-tells r (place.At (v .offset) (v .spelled)) (h ∙ locate-found s segment element component e v d)
+locates s segment element repeat component r h e v d =
+    located-tells r (place.At (v .offset) (v .spelled)) (h ∙ locate-found s segment element repeat component e v d)
 
 -- the values' bytes go to the front of the first buffer, their table to the front of the second
 pub lists-values : (buffer table s : List ℕ) (r : Listed) (bytesAfter tableAfter : List ℕ) → Reads buffer table s r bytesAfter tableAfter
@@ -103,19 +103,19 @@ keeps first second r h =
     )
 
 -- the part that Locate's answer names
-pub hands-back : (s : RefT (List ℕ)) (segment element component : ℕ) (r : RefT (List ℕ)) → HandsBack s segment element component r
-    → (offset size : ℕ) → locate (now s) segment element component ≡ given (offset ∷ size ∷ []) → IsPart s offset size r
-hands-back s segment element component r h offset size e =
-    let bounds = part-is (now s) segment element component offset size e in
+pub hands-back : (s : RefT (List ℕ)) (segment element repeat component : ℕ) (r : RefT (List ℕ)) → HandsBack s segment element repeat component r
+    → (offset size : ℕ) → locate (now s) segment element repeat component ≡ given (offset ∷ size ∷ []) → IsPart s offset size r
+hands-back s segment element repeat component r h offset size e =
+    let bounds = part-is (now s) segment element repeat component offset size e in
     subst (λ (n : ℕ). IsPart s n size r) (bounds .0)
-    (subst (λ (n : ℕ). IsPart s (partOffset (now s) segment element component) n r) (bounds .1) h)
+    (subst (λ (n : ℕ). IsPart s (partOffset (now s) segment element repeat component) n r) (bounds .1) h)
 
 -- written out: where the part begins in memory, how long it is, and its bytes
-pub part-back : (s : RefT (List ℕ)) (segment element component : ℕ) (r : RefT (List ℕ)) → HandsBack s segment element component r
-    → (offset size : ℕ) → locate (now s) segment element component ≡ given (offset ∷ size ∷ [])
+pub part-back : (s : RefT (List ℕ)) (segment element repeat component : ℕ) (r : RefT (List ℕ)) → HandsBack s segment element repeat component r
+    → (offset size : ℕ) → locate (now s) segment element repeat component ≡ given (offset ∷ size ∷ [])
     → (ptr r ≡ (ptr s .0, offset + ptr s .1)) × (length (now r) ≡ size) × (now r ≡ take size (drop offset (now s)))
-part-back s segment element component r h offset size e =
-    let part = hands-back s segment element component r h offset size e in
+part-back s segment element repeat component r h offset size e =
+    let part = hands-back s segment element repeat component r h offset size e in
     (part .place, part .long, part .bytes)
 
 -- the same slice: the same memory, from the same place on, and the same bytes, so that it is as long

@@ -26,8 +26,8 @@ tight =
       normalise = λ buffer s r q x y h k. (stored-tells r q (alike (h .0) (k .0)), alike (h .1) (k .1));
       compare = λ first second r q h k. compared-tells r q (alike h k);
       keep = λ first second. one-handed (keep (now first) (now second)) first second;
-      locate = λ s segment element component r q h k. located-tells r q (alike h k);
-      part = λ s segment element component r q h k. one-part s _ _ r q h k;
+      locate = λ s segment element repeat component r q h k. located-tells r q (alike h k);
+      part = λ s segment element repeat component r q h k. one-part s _ _ r q h k;
       read = λ buffer table s r q x y t u h k. (listed-tells r q (alike (h .0) (k .0)), alike (h .1) (k .1), alike (h .2) (k .2));
       write = λ service bytes table output r q x y h k. (stored-tells r q (alike (h .0) (k .0)), alike (h .1) (k .1));
     }

@@ -43,7 +43,7 @@ accepted-tells i j e =
             element = ap (value 1) e k;
             mark = ap (value 2) e k;
             release = ap (value 3) e k;
-            reserved = ap (value 4) e k;
+            repetition = ap (value 4) e k;
             terminator = ap (value 5) e k;
           };
       segments = record { 0 = ap (value 6) e k };

@@ -28,8 +28,8 @@ Normalises buffer s r after = (toldStored r ≡ normalise buffer s) × (after �
 abbrev pub Compares : (first second : List ℕ) → Compared → Type 0
 Compares first second r = toldCompared r ≡ compare first second
 
-abbrev pub Locates : (s : List ℕ) (segment element component : ℕ) → Located → Type 0
-Locates s segment element component r = toldLocated r ≡ locate s segment element component
+abbrev pub Locates : (s : List ℕ) (segment element repeat component : ℕ) → Located → Type 0
+Locates s segment element repeat component r = toldLocated r ≡ locate s segment element repeat component
 
 abbrev pub Reads : (buffer table s : List ℕ) → Listed → (bytesAfter tableAfter : List ℕ) → Type 0
 Reads buffer table s r bytesAfter tableAfter =
@@ -56,6 +56,6 @@ abbrev pub Keeps : (first second r : RefT (List ℕ)) → Type 0
 Keeps first second r = Handed (keep (now first) (now second)) first second r
 
 -- Locate's companion: the part that Locate names, or zero bytes at the input's start
-abbrev pub HandsBack : (s : RefT (List ℕ)) (segment element component : ℕ) (r : RefT (List ℕ)) → Type 0
-HandsBack s segment element component r =
-    IsPart s (partOffset (now s) segment element component) (partLength (now s) segment element component) r
+abbrev pub HandsBack : (s : RefT (List ℕ)) (segment element repeat component : ℕ) (r : RefT (List ℕ)) → Type 0
+HandsBack s segment element repeat component r =
+    IsPart s (partOffset (now s) segment element repeat component) (partLength (now s) segment element repeat component) r

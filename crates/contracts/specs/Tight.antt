@@ -22,10 +22,10 @@ pub record Tight : Type 0 where
       → (r ≡ q) × (x ≡ y)
   pub compare : (first second : List ℕ) (r q : Compared) → Compares first second r → Compares first second q → r ≡ q
   pub keep : (first second r q : RefT (List ℕ)) → Keeps first second r → Keeps first second q → SameSlice r q
-  pub locate : (s : List ℕ) (segment element component : ℕ) (r q : Located) → Locates s segment element component r
-      → Locates s segment element component q → r ≡ q
-  pub part : (s : RefT (List ℕ)) (segment element component : ℕ) (r q : RefT (List ℕ)) → HandsBack s segment element component r
-      → HandsBack s segment element component q → SameSlice r q
+  pub locate : (s : List ℕ) (segment element repeat component : ℕ) (r q : Located) → Locates s segment element repeat component r
+      → Locates s segment element repeat component q → r ≡ q
+  pub part : (s : RefT (List ℕ)) (segment element repeat component : ℕ) (r q : RefT (List ℕ))
+      → HandsBack s segment element repeat component r → HandsBack s segment element repeat component q → SameSlice r q
   pub read : (buffer table s : List ℕ) (r q : Listed) (x y t u : List ℕ) → Reads buffer table s r x t → Reads buffer table s q y u
       → (r ≡ q) × (x ≡ y) × (t ≡ u)
   pub write : (service bytes table output : List ℕ) (r q : Stored) (x y : List ℕ) → Writes service bytes table output r x

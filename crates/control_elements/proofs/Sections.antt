@@ -22,13 +22,13 @@ use Rattle.control_elements.specs.Control.{controlElement}
 use Rattle.control_elements.specs.Sections.{sectionNamed, sectionOf, isSection, markersIn, hasSection, mayBegin, sectionRule}
 use Rattle.control_elements.proofs.Words.{element-is, Nearest}
 
--- "a single component" of this one byte in the first element, which is counted from 1 after the tag
+-- "a single component" of this one byte in the first element, which has one repeat and is counted from 1 after the tag
 abbrev pub Names : Segment → ℕ → Type 0
-Names g letter = at (contentsOf g) 1 ≡ some ((letter ∷ []) ∷ [])
+Names g letter = at (contentsOf g) 1 ≡ some (((letter ∷ []) ∷ []) ∷ [])
 
 -- an element that is one component with this text
 text-says : (g : Segment) (name : List ℕ)
-    → Says (maybe false (λ value. same value name) (controlElement g 1)) (at (contentsOf g) 1 ≡ some (name ∷ []))
+    → Says (maybe false (λ value. same value name) (controlElement g 1)) (at (contentsOf g) 1 ≡ some ((name ∷ []) ∷ []))
 text-says g name =
     says-as (says-maybe (λ value. same value name) (λ value. says-same value name) (controlElement g 1))
     (λ h. element-is g 1 name .0 (h .1 ∙ ap some (h .2)))

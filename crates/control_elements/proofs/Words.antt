@@ -10,7 +10,7 @@ use native.Mathlib.Omega.{arith}
 use lib.Dec.{eqb}
 use borrow.Author.Tests.{eq-eqb, ne-eqb}
 use lib.ListN.{length, length-map}
-use Rattle.lists.specs.Lists.{same, all, first, at, maybe}
+use Rattle.lists.specs.Lists.{same, all, first, at, single, maybe}
 use Rattle.lists.proofs.Tests.{Says, says-eq, says-both, says-not, says-same, says-as, says-all, says-maybe, fails, first-is}
 use Rattle.characters.specs.Characters.{between, digit}
 use Rattle.characters.proofs.Words.{between-says, digit-says}
@@ -23,22 +23,24 @@ use Rattle.segments.specs.Tags.{kindOf}
 use Rattle.segments.specs.Order.{segmentsSinceHeader, messagesSinceGroup, messagesIn, groupsIn}
 use Rattle.segments.proofs.Words.{is-says, since-header, since-group}
 use Rattle.control_elements.specs.Positions.{positionTable, positionsOf}
-use Rattle.control_elements.specs.Control.{single, controlElement, isReference, isCount, standsWell, controlRule, headerOf, referenceOf, sameValue, referenceDiffers, decimalFrom, decimal, trueCount, countOf, countWrong}
+use Rattle.control_elements.specs.Control.{onlyValue, controlElement, isReference, isCount, standsWell, controlRule, headerOf, referenceOf, sameValue, referenceDiffers, decimalFrom, decimal, trueCount, countOf, countWrong}
 pub use Rattle.control_elements.specs.Notions.{Reference, Count, Nearest}
 
 -- ---- one element
 
--- "one component": of the element at a position, which is counted from 1 after the tag
+-- "one component", of one repeat: of the element at a position, which is counted from 1 after the tag
 pub element-is : (g : Segment) (position : ℕ) (value : List ℕ)
-    → (controlElement g position ≡ some value) ↔ (at (contentsOf g) position ≡ some (value ∷ []))
-unfolding controlElement maybe single
-element-is g position value = (step (at (contentsOf g) position), λ e. ap (maybe none single) e)
+    → (controlElement g position ≡ some value) ↔ (at (contentsOf g) position ≡ some ((value ∷ []) ∷ []))
+unfolding controlElement onlyValue maybe single
+element-is g position value = (step (at (contentsOf g) position), λ e. ap (maybe none onlyValue) e)
   where
-    step : (o : Option (List (List ℕ))) → maybe none single o ≡ some value → o ≡ some (value ∷ [])
+    step : (o : Option (List (List (List ℕ)))) → maybe none onlyValue o ≡ some value → o ≡ some ((value ∷ []) ∷ [])
     step none e = absurd (Option·none-ne-some value e)
     step (some []) e = absurd (Option·none-ne-some value e)
-    step (some (v ∷ [])) e = ap (λ (w : List ℕ). some (w ∷ [])) (Option·some-injective v value e)
-    step (some (v ∷ w ∷ vs)) e = absurd (Option·none-ne-some value e)
+    step (some ([] ∷ [])) e = absurd (Option·none-ne-some value e)
+    step (some ((v ∷ []) ∷ [])) e = ap (λ (w : List ℕ). some ((w ∷ []) ∷ [])) (Option·some-injective v value e)
+    step (some ((v ∷ w ∷ vs) ∷ [])) e = absurd (Option·none-ne-some value e)
+    step (some (r ∷ q ∷ rs)) e = absurd (Option·none-ne-some value e)
 
 module _ (g : Segment) (position : ℕ) where
   pub reference-says : Says (isReference (controlElement g position)) (Reference (contentsOf g) position)
@@ -107,7 +109,7 @@ nearest-first kind past (nearer, header, farther, parts, own, before) =
 references-differ : (trailer header : Kind) (position : ℕ) → headerOf trailer ≡ some header
     → positionsOf trailer .reference ≡ 2 → positionsOf header .reference ≡ position
     → (past : List Segment) (g : Segment) → kindOf g ≡ trailer → (n : Nearest header past) (v w : List ℕ)
-    → at (contentsOf g) 2 ≡ some (v ∷ []) → at (contentsOf (n .1)) position ≡ some (w ∷ [])
+    → at (contentsOf g) 2 ≡ some ((v ∷ []) ∷ []) → at (contentsOf (n .1)) position ≡ some ((w ∷ []) ∷ [])
     → Says (referenceDiffers past g) (v ≡ w → ⊥)
 unfolding referenceDiffers maybe referenceOf sameValue
 references-differ trailer header position closes two there past g k n v w ev ew =
@@ -116,25 +118,25 @@ references-differ trailer header position closes two there past g k n v w ev ew 
 
 -- refusal 11, by kind of segment
 module _ (past : List Segment) (g : Segment) (v w : List ℕ) where
-  pub unt-reference : kindOf g ≡ Unt → (n : Nearest Unh past) → at (contentsOf g) 2 ≡ some (v ∷ [])
-      → at (contentsOf (n .1)) 1 ≡ some (w ∷ []) → Says (referenceDiffers past g) (v ≡ w → ⊥)
+  pub unt-reference : kindOf g ≡ Unt → (n : Nearest Unh past) → at (contentsOf g) 2 ≡ some ((v ∷ []) ∷ [])
+      → at (contentsOf (n .1)) 1 ≡ some ((w ∷ []) ∷ []) → Says (referenceDiffers past g) (v ≡ w → ⊥)
   unfolding headerOf positionsOf positionTable
   unt-reference k n = references-differ Unt Unh 1 refl refl refl past g k n v w
 
-  pub une-reference : kindOf g ≡ Une → (n : Nearest Ung past) → at (contentsOf g) 2 ≡ some (v ∷ [])
-      → at (contentsOf (n .1)) 5 ≡ some (w ∷ []) → Says (referenceDiffers past g) (v ≡ w → ⊥)
+  pub une-reference : kindOf g ≡ Une → (n : Nearest Ung past) → at (contentsOf g) 2 ≡ some ((v ∷ []) ∷ [])
+      → at (contentsOf (n .1)) 5 ≡ some ((w ∷ []) ∷ []) → Says (referenceDiffers past g) (v ≡ w → ⊥)
   unfolding headerOf positionsOf positionTable
   une-reference k n = references-differ Une Ung 5 refl refl refl past g k n v w
 
-  pub unz-reference : kindOf g ≡ Unz → (n : Nearest Unb past) → at (contentsOf g) 2 ≡ some (v ∷ [])
-      → at (contentsOf (n .1)) 5 ≡ some (w ∷ []) → Says (referenceDiffers past g) (v ≡ w → ⊥)
+  pub unz-reference : kindOf g ≡ Unz → (n : Nearest Unb past) → at (contentsOf g) 2 ≡ some ((v ∷ []) ∷ [])
+      → at (contentsOf (n .1)) 5 ≡ some ((w ∷ []) ∷ []) → Says (referenceDiffers past g) (v ≡ w → ⊥)
   unfolding headerOf positionsOf positionTable
   unz-reference k n = references-differ Unz Unb 5 refl refl refl past g k n v w
 
 -- refusal 12, by kind of segment
 counts-differ : (trailer : Kind) (count : ℕ) (past : List Segment) (g : Segment) → kindOf g ≡ trailer
     → positionsOf trailer .count ≡ 1 → trueCount trailer (map kindOf past) ≡ some count → (v : List ℕ)
-    → at (contentsOf g) 1 ≡ some (v ∷ []) → Says (countWrong past g) (decimal v ≡ count → ⊥)
+    → at (contentsOf g) 1 ≡ some ((v ∷ []) ∷ []) → Says (countWrong past g) (decimal v ≡ count → ⊥)
 unfolding countWrong maybe countOf
 counts-differ trailer count past g k one right v e =
     rw (k, right, one, element-is g 1 v .1 e) (says-not (eqb (decimal v) count) (says-eq (decimal v) count))
@@ -145,7 +147,7 @@ apart : (kind : Kind) (gs : List Segment) → ((g : Segment) → List·Memᴰ g 
 apart kind (g ∷ gs) h k (List·Memᴰ·head e) q = h g (List·Memᴰ·head refl) (sym e ∙ q)
 apart kind (g ∷ gs) h k (List·Memᴰ·tail m) q = apart kind gs (λ x n. h x (List·Memᴰ·tail n)) k m q
 
-module _ (past : List Segment) (g : Segment) (v : List ℕ) (e : at (contentsOf g) 1 ≡ some (v ∷ [])) where
+module _ (past : List Segment) (g : Segment) (v : List ℕ) (e : at (contentsOf g) 1 ≡ some ((v ∷ []) ∷ [])) where
   -- the kinds of what passed, about the nearest header
   kinds-split : (kind : Kind) (n : Nearest kind past) → map kindOf past ≡ map kindOf (n .0) ++ kind ∷ map kindOf (n .2)
   kinds-split kind (nearer, header, farther, parts, own, before) =

@@ -1,4 +1,5 @@
--- Paper 01, "Control elements": what a count and a reference look like, and what a trailer says of what it closes.
+-- Paper 01, "Control elements": what a count and a reference look like, and what a trailer says of what it closes. Request 2026-10:
+-- "Control elements .. have one repeat and document 01's lengths (house)."
 -- What passed is a list of segments, the nearest first. Assumes nothing.
 use Prim.Native.Nat.{ℕ, _+_, _*_, _-_}
 use mathlib.Core.Bool.{Bool, true, false, not, _&&_, _||_}
@@ -6,7 +7,7 @@ use mathlib.Core.List.{List, [], _∷_, map}
 use mathlib.Core.Option.{Option, none, some}
 use lib.ListN.{length}
 use lib.Dec.{eqb}
-use Rattle.lists.specs.Lists.{if_then_else_, same, all, first, at, maybe}
+use Rattle.lists.specs.Lists.{if_then_else_, same, all, first, at, single, maybe}
 use Rattle.characters.specs.Characters.{between, digit}
 use Rattle.values.specs.Tokens.{Segment}
 use Rattle.values.specs.Trimming.{contentsOf}
@@ -19,15 +20,13 @@ use Rattle.control_elements.specs.Positions.{positionsOf}
 
 -- ---- what they look like
 
--- "one component"
-unfoldable pub single : List (List ℕ) → Option (List ℕ)
-single [] = none
-single (value ∷ []) = some value
-single (value ∷ next ∷ rest) = none
+-- "one component": of one repeat, which has one component
+unfoldable pub onlyValue : List (List (List ℕ)) → Option (List ℕ)
+onlyValue element = maybe none single (single element)
 
 -- "Elements are numbered from 1 after the tag and judged as they stand in the trimmed contents."
 unfoldable pub controlElement : Segment → ℕ → Option (List ℕ)
-controlElement segment position = maybe none single (at (contentsOf segment) position)
+controlElement segment position = maybe none onlyValue (at (contentsOf segment) position)
 
 -- "A reference is one component of 1 to 14 bytes"
 unfoldable pub isReference : Option (List ℕ) → Bool

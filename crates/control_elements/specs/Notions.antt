@@ -10,16 +10,16 @@ use Rattle.values.specs.Tokens.{Segment}
 use Rattle.segments.specs.declared.Kind.{Kind}
 use Rattle.segments.specs.Tags.{kindOf}
 
--- "A reference is one component of 1 to 14 bytes"
-abbrev pub Reference : List (List (List ℕ)) → ℕ → Type 0
+-- "A reference is one component of 1 to 14 bytes", of one repeat
+abbrev pub Reference : List (List (List (List ℕ))) → ℕ → Type 0
 Reference contents position =
-    (value : List ℕ) × (at contents position ≡ some (value ∷ [])) × (1 ≤ length value) × (length value ≤ 14)
+    (value : List ℕ) × (at contents position ≡ some ((value ∷ []) ∷ [])) × (1 ≤ length value) × (length value ≤ 14)
 
--- "a count is one component of 1 to 6 digits (leading zeros allowed)"
-abbrev pub Count : List (List (List ℕ)) → ℕ → Type 0
+-- "a count is one component of 1 to 6 digits (leading zeros allowed)", of one repeat
+abbrev pub Count : List (List (List (List ℕ))) → ℕ → Type 0
 Count contents position =
     (value : List ℕ)
-    × (at contents position ≡ some (value ∷ []))
+    × (at contents position ≡ some ((value ∷ []) ∷ []))
     × (1 ≤ length value)
     × (length value ≤ 6)
     × ((d : ℕ) → List·Memᴰ d value → (48 ≤ d) × (d ≤ 57))

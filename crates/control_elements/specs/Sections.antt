@@ -1,6 +1,6 @@
 -- Change request 2026-03, "Section markers": "the standard gives it a section, D for detail or S for summary"; "UNS's first element is a
 -- single component `D` or `S`, each at most once in a message, D before S if both stand." What passed is a list of segments, the nearest
--- first. Assumes nothing.
+-- first. Request 2026-10: the element has one repeat. Assumes nothing.
 use Prim.Native.Nat.{ℕ}
 use mathlib.Core.Bool.{Bool, false, not, _&&_, _||_}
 use mathlib.Core.List.{List}

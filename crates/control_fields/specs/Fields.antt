@@ -1,4 +1,4 @@
--- An element by its first component, read off the tokens that begin with it. Assumes nothing.
+-- An element by its first value, read off the tokens that begin with it. Assumes nothing.
 use mathlib.Core.Bool.{Bool, _&&_}
 use mathlib.Core.List.{List}
 use lib.ListN.{length, take}

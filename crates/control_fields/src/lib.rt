@@ -12,8 +12,8 @@ use elements::NextByte;
 use elements::byte_at;
 use trimmed_values::is_alone;
 
-// An element by its first component: the size in bytes, whether all of them are digits, the number
-// that the first six spell, and whether only empty components follow.
+// An element by its first value: the size in bytes, whether all of them are digits, the number that the
+// first six spell, and whether only empty values follow.
 pub struct Field {
     pub size: usize,
     pub digits: bool,
@@ -91,14 +91,14 @@ pub fn field_at(s: &[u8], c: Characters, from: usize) -> Field
     }
 }
 
-// "A reference is one component of 1 to 14 bytes"
+// "A reference is one component of 1 to 14 bytes", of one repeat
 pub fn is_reference(f: Field) -> bool
     ensures { λ r. ⌜ r ≡ spellsReference f ⌝ }
 {
     both(f.alone, is_between(1, 14, f.size))
 }
 
-// "a count is one component of 1 to 6 digits (leading zeros allowed)"
+// "a count is one component of 1 to 6 digits (leading zeros allowed)", of one repeat
 pub fn is_count(f: Field) -> bool
     ensures { λ r. ⌜ r ≡ spellsCount f ⌝ }
 {

@@ -37,7 +37,7 @@ module _ (c : Characters) (s : List ℕ) where
       → NextAt c s from (Ended at)
   unfolding valueIn valueEnd through ends bytesOf gather byteOf
   next-separator from at {rank} {next} h l = (
-    h .0 ∙ ap valueIn (l .0) ∙ ap (λ (b : Bool). bytesOf (if b then [] else through (ends 2) (tokensAt c s next))) ended,
+    h .0 ∙ ap valueIn (l .0) ∙ ap (λ (b : Bool). bytesOf (if b then [] else through (ends 3) (tokensAt c s next))) ended,
     (
       l .0
           ∙ sym
@@ -49,8 +49,8 @@ module _ (c : Characters) (s : List ℕ) where
     ),
   )
     where
-      ended : leb rank 2 ≡ true
-      ended = le-leb rank 2 (l .3)
+      ended : leb rank 3 ≡ true
+      ended = le-leb rank 3 (l .3)
 
   pub next-stray : (from at : ℕ) {next : ℕ} → Continues from at → Lexes c s at (lexed.Stray next) → Continues from next
   unfolding valueIn valueEnd through ends bytesOf gather byteOf

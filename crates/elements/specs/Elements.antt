@@ -31,9 +31,13 @@ segmentFrom k ts = pieceFrom (outer 0) (ends 0) k ts
 abbrev pub elementFrom : ℕ → List Token → List Token
 elementFrom k ts = pieceFrom (ends 0) (ends 1) k ts
 
--- and from the component of a number on, in the element that they begin; nothing where there are fewer
+-- from the repeat of a number on, in the element that they begin,
+abbrev pub repeatFrom : ℕ → List Token → List Token
+repeatFrom k ts = pieceFrom (ends 1) (ends 2) k ts
+
+-- and from the component of a number on, in the repeat that they begin; nothing where there are fewer
 abbrev pub componentFrom : ℕ → List Token → List Token
-componentFrom k ts = pieceFrom (ends 1) (ends 2) k ts
+componentFrom k ts = pieceFrom (ends 2) (ends 3) k ts
 
 -- the piece that tokens begin with, which a separator of this rank ends; none where there are no tokens
 unfoldable pub firstPiece : ℕ → List Token → Option (List Token)
@@ -50,12 +54,15 @@ module _ (c : Characters) (s : List ℕ) (from : ℕ) where
   PieceAt rank number r =
       (tokensAt c s r ≡ pieceFrom (outer rank) (ends rank) number (tokensAt c s from)) × (from ≤ length s → r ≤ length s)
 
-  -- the same for a segment, an element and a component
+  -- the same for a segment, an element, a repeat and a component
   abbrev pub SegmentAt : ℕ → ℕ → Type 0
   SegmentAt number r = PieceAt 0 number r
 
   abbrev pub ElementAt : ℕ → ℕ → Type 0
   ElementAt number r = PieceAt 1 number r
 
+  abbrev pub RepeatAt : ℕ → ℕ → Type 0
+  RepeatAt number r = PieceAt 2 number r
+
   abbrev pub ComponentAt : ℕ → ℕ → Type 0
-  ComponentAt number r = PieceAt 2 number r
+  ComponentAt number r = PieceAt 3 number r

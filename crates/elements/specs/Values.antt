@@ -12,12 +12,12 @@ use Rattle.elements.specs.declared.NextByte.the-variants.{Byte, Ended}
 
 -- its bytes, without their release characters
 unfoldable pub valueIn : List Token → List ℕ
-valueIn ts = bytesOf (through (ends 2) ts)
+valueIn ts = bytesOf (through (ends 3) ts)
 
 -- the tokens from what ends it on
 unfoldable pub valueEnd : List Token → List Token
 valueEnd [] = []
-valueEnd (t ∷ ts) = if ends 2 t then t ∷ ts else valueEnd ts
+valueEnd (t ∷ ts) = if ends 3 t then t ∷ ts else valueEnd ts
 
 module _ (c : Characters) (s : List ℕ) (from : ℕ) where
   -- the place of what ends the value that begins at a place, or the end of the input

@@ -1,10 +1,10 @@
-// Pieces where they are spelled: at which place a segment, an element of a segment or a component of an
-// element begins, whether a byte of a value stands in a piece, and a value byte by byte up to its end.
-// It promises the pieces into which `values` cuts the larger piece, by their numbers. What trimming
-// leaves of them is left to `trimmed_values`.
+// Pieces where they are spelled: at which place a segment, an element of a segment, a repeat of an
+// element or a component of a repeat begins, whether a byte of a value stands in a piece, and a value
+// byte by byte up to its end. It promises the pieces into which `values` cuts the larger piece, by their
+// numbers. What trimming leaves of them is left to `trimmed_values`.
 ghost use mathlib.Core.Path.{_≡_};
 ghost use Rattle.values.specs.Tokens.{tokensAt};
-ghost use Rattle.elements.specs.Elements.{PieceAt, SegmentAt, ElementAt, ComponentAt, holdsByte};
+ghost use Rattle.elements.specs.Elements.{PieceAt, SegmentAt, ElementAt, RepeatAt, ComponentAt, holdsByte};
 ghost use Rattle.elements.specs.Values.{EndsAt, NextAt};
 use characters::Characters;
 use scanner::Lexed;
@@ -62,12 +62,20 @@ pub fn element_at(s: &[u8], c: Characters, from: usize, position: usize) -> usiz
     piece_at(s, c, from, 1, position)
 }
 
-// Where the component of that number begins in the element that begins at `from`. The input's length
-// where the element has no such component.
+// Where the repeat of that number begins in the element that begins at `from`. The input's length where
+// the element has no such repeat.
+pub fn repeat_at(s: &[u8], c: Characters, from: usize, number: usize) -> usize
+    ensures { λ r. ⌜ RepeatAt c (now (s .entry)) from number r ⌝ }
+{
+    piece_at(s, c, from, 2, number)
+}
+
+// Where the component of that number begins in the repeat that begins at `from`. The input's length
+// where the repeat has no such component.
 pub fn component_at(s: &[u8], c: Characters, from: usize, number: usize) -> usize
     ensures { λ r. ⌜ ComponentAt c (now (s .entry)) from number r ⌝ }
 {
-    piece_at(s, c, from, 2, number)
+    piece_at(s, c, from, 3, number)
 }
 
 // A byte of a value stands from here on, before a separator of this rank or a lower one.

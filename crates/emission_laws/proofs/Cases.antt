@@ -1,4 +1,4 @@
--- Case by case: how a byte is spelled, the three ranks of separators, and the tokens that a body may bring. Assumes nothing.
+-- Case by case: how a byte is spelled, the four ranks of separators, and the tokens that a body may bring. Assumes nothing.
 use Prim.Native.Nat.{ℕ, suc, _+_}
 use mathlib.Core.Path.{_≡_, refl}
 use mathlib.Core.Bool.{Bool, true, false, _&&_}
@@ -10,7 +10,7 @@ use Rattle.lists.proofs.Texts.{and-both}
 use Rattle.characters.specs.declared.Characters.{Characters}
 use Rattle.characters.specs.declared.Role.{Role}
 use Rattle.characters.specs.declared.Role.the-variants.{Separator, Release, Plain}
-use Rattle.characters.specs.Characters.{isService, isBreak, role, hasRelease}
+use Rattle.characters.specs.Characters.{isService, isBreak, role, hasRelease, hasRepetition}
 use Rattle.values.specs.Tokens.{Token, byte, separator, fault, Reading, inside, released, passing, unreleased, reading, taken, tokensFrom, tokens}
 use Rattle.values.specs.Spelling.{spellByte}
 
@@ -23,29 +23,33 @@ by-spelling P c b p q = step (isService c b)
     step true = p
     step false = q
 
--- a separator has one of the three ranks
+-- a separator has one of the four ranks
 unfoldable pub known : Token → Bool
 known (byte b from place) = true
-known (separator rank place) = leb rank 2
+known (separator rank place) = leb rank 3
 known (fault place) = true
 
 -- the same of a byte that plays this part
 unfoldable knownRole : Role → Bool
-knownRole (Separator rank) = leb rank 2
+knownRole (Separator rank) = leb rank 3
 knownRole Release = true
 knownRole Plain = true
 
 role-known : (c : Characters) (b : ℕ) → knownRole (role c b) ≡ true
 unfolding knownRole role
-role-known c b = step (eqb b (c .terminator)) (eqb b (c .element)) (eqb b (c .component)) (hasRelease c && eqb b (c .release))
+role-known c b =
+    step (eqb b (c .terminator)) (eqb b (c .element)) (hasRepetition c && eqb b (c .repetition)) (eqb b (c .component)) (hasRelease c && eqb b (c .release))
   where
-    step : (t u v w : Bool)
-        → knownRole (if t then Separator 0 else if u then Separator 1 else if v then Separator 2 else if w then Release else Plain) ≡ true
-    step true u v w = refl
-    step false true v w = refl
-    step false false true w = refl
-    step false false false true = refl
-    step false false false false = refl
+    step : (t u v w x : Bool)
+        → knownRole
+        (if t then Separator 0 else if u then Separator 1 else if v then Separator 2 else if w then Separator 3 else if x then Release else Plain)
+        ≡ true
+    step true u v w x = refl
+    step false true v w x = refl
+    step false false true w x = refl
+    step false false false true x = refl
+    step false false false false true = refl
+    step false false false false false = refl
 
 -- What holds of no tokens, and goes on to hold with each token that a byte may bring and with a byte that brings none, holds of what is
 -- read; the number is that of the bytes. At the end a release character may still be without its byte.

@@ -17,20 +17,24 @@ use Rattle.emission_laws.specs.declared.Measure.{Measure}
 use Rattle.emission_laws.specs.Emission.{nothing, waiting, separated, heldNext, heldAfter, letOut, spelledNext, emitted, after}
 use Rattle.emission_laws.proofs.Cases.{by-spelling, of-reading}
 
--- what holds after a terminator, an element separator and a component separator holds after a separator
+-- what holds after a terminator, an element separator, a repetition separator and a component separator holds after a separator
 pub by-rank : (P : Bool → Held → Type 0) (h : Held) (rank : ℕ) → P true nothing
-    → P false (record { elements = h .elements + 1; components = 0 }) → P false (record { elements = h .elements; components = h .components + 1 })
+    → P false (record { elements = h .elements + 1; repeats = 0; components = 0 })
+    → P false (record { elements = h .elements; repeats = h .repeats + 1; components = 0 })
+    → P false (record { elements = h .elements; repeats = h .repeats; components = h .components + 1 })
     → P (leb rank 0) (separated h rank)
 unfolding separated
-by-rank P h rank p q r = step (leb rank 0) (leb rank 1)
+by-rank P h rank p q r s = step (leb rank 0) (leb rank 1) (leb rank 2)
   where
-    step : (t u : Bool)
+    step : (t u v : Bool)
         → P t
-        (if t then nothing else if u then record { elements = h .elements + 1; components = 0 }
-        else record { elements = h .elements; components = h .components + 1 })
-    step true u = p
-    step false true = q
-    step false false = r
+        (if t then nothing else if u then record { elements = h .elements + 1; repeats = 0; components = 0 }
+        else if v then record { elements = h .elements; repeats = h .repeats + 1; components = 0 }
+        else record { elements = h .elements; repeats = h .repeats; components = h .components + 1 })
+    step true u v = p
+    step false true v = q
+    step false false true = r
+    step false false false = s
 
 held-append : (h : Held) (us ts : List Token) → heldAfter h (us ++ ts) ≡ heldAfter (heldAfter h us) ts
 unfolding heldAfter
@@ -82,12 +86,17 @@ module _ (c : Characters) where
 
   pub let-out-length : (h : Held) → length (letOut c h) ≡ waiting h
   unfolding letOut
-  let-out-length h = simp (length-append, length-replicate)
+  let-out-length h = simp (length-append, length-replicate) (omega arith)
 
-  -- two runs, in front of a text
-  pub let-out-runs : (h : Held) (text : List ℕ) → letOut c h ++ text ≡ replicate (h .elements) (c .element) ++ (replicate (h .components) (c .component) ++ text)
+  -- three runs, in front of a text
+  pub let-out-runs : (h : Held) (text : List ℕ)
+      → letOut c h ++ text
+      ≡ replicate (h .elements) (c .element) ++ (replicate (h .repeats) (c .repetition) ++ (replicate (h .components) (c .component) ++ text))
   unfolding letOut
-  let-out-runs h text = append-assoc (replicate (h .elements) (c .element)) (replicate (h .components) (c .component)) text
+  let-out-runs h text =
+      append-assoc (replicate (h .elements) (c .element)) (replicate (h .repeats) (c .repetition) ++ replicate (h .components) (c .component)) text
+      ∙ ap (λ (l : List ℕ). replicate (h .elements) (c .element) ++ l)
+      (append-assoc (replicate (h .repeats) (c .repetition)) (replicate (h .components) (c .component)) text)
 
   pub byte-first : (h : Held) (b from place : ℕ) (ts : List Token) → emitted c h (byte b from place ∷ ts) ≡ letOut c h ++ (spellByte c b ++ emitted c nothing ts)
   unfolding emitted spelledNext heldNext
@@ -126,7 +135,7 @@ module _ (c : Characters) where
   token-most h (byte b from place) =
       omega (arith, length-append (letOut c h) (spellByte c b), let-out-length h, by-spelling (λ s. length s ≤ 2) c b (omega arith) (omega arith))
   token-most h (separator rank place) =
-      by-rank (λ t k. length {A = ℕ} (if t then c .terminator ∷ [] else []) + waiting k ≤ waiting h + 2) h rank (omega arith) (omega arith) (omega arith)
+      by-rank (λ t k. length {A = ℕ} (if t then c .terminator ∷ [] else []) + waiting k ≤ waiting h + 2) h rank (omega arith) (omega arith) (omega arith) (omega arith)
   token-most h (fault place) = omega arith
 
   -- the tokens add at most n bytes

@@ -14,19 +14,21 @@ use Rattle.emission_laws.specs.declared.Measure.{Measure}
 -- ---- what is held back
 
 abbrev pub nothing : Held
-nothing = record { elements = 0; components = 0 }
+nothing = record { elements = 0; repeats = 0; components = 0 }
 
 -- how many separators there are
 abbrev pub waiting : Held → ℕ
-waiting h = h .elements + h .components
+waiting h = h .elements + h .repeats + h .components
 
 -- After a separator of a rank. A terminator drops them all: "elements at a segment's end that are a single empty value go"; an
--- element separator drops those of components, "empty components at the end of an element go", and is one more.
+-- element separator drops those of repeats and components, "empty repeats at an element's end", and is one more; a repetition separator
+-- drops those of components, "empty components at the end of every repeat", and is one more.
 unfoldable pub separated : Held → ℕ → Held
 separated h rank =
     if leb rank 0 then nothing
-    else if leb rank 1 then record { elements = h .elements + 1; components = 0 }
-    else record { elements = h .elements; components = h .components + 1 }
+    else if leb rank 1 then record { elements = h .elements + 1; repeats = 0; components = 0 }
+    else if leb rank 2 then record { elements = h .elements; repeats = h .repeats + 1; components = 0 }
+    else record { elements = h .elements; repeats = h .repeats; components = h .components + 1 }
 
 -- after a token: a byte of a value lets them all out
 unfoldable pub heldNext : Held → Token → Held
@@ -44,7 +46,7 @@ heldAfter h (t ∷ ts) = heldAfter (heldNext h t) ts
 module _ (c : Characters) where
   -- the separators that are held back
   unfoldable pub letOut : Held → List ℕ
-  letOut h = replicate (h .elements) (c .element) ++ replicate (h .components) (c .component)
+  letOut h = replicate (h .elements) (c .element) ++ (replicate (h .repeats) (c .repetition) ++ replicate (h .components) (c .component))
 
   -- a token, where so much is held back
   unfoldable pub spelledNext : Held → Token → List ℕ

@@ -2,9 +2,11 @@
 // machine runs over the tokens from left to right and holds back separators until something follows
 // them. specs/ has the machine; proofs/ shows that it spells the contents.
 
-// How many separators of each rank are held back: those of elements, and after them those of components.
+// How many separators of each rank are held back: those of elements, after them those of repeats, and
+// after them those of components.
 pub struct Held {
     pub elements: usize,
+    pub repeats: usize,
     pub components: usize,
 }
 

@@ -24,11 +24,12 @@ pub fn nothing_held() -> Held
 {
     Held {
         elements: 0,
+        repeats: 0,
         components: 0,
     }
 }
 
-// After a separator of a rank: 0 ends a segment, 1 an element, 2 a component.
+// After a separator of a rank: 0 ends a segment, 1 an element, 2 a repeat, 3 a component.
 pub fn after_separator(h: Held, rank: u8) -> Held
     requires { ⌜ waiting h < 18446744073709551615 ⌝ }
     ensures { λ r. ⌜ r ≡ separated h rank ⌝ }
@@ -39,11 +40,20 @@ pub fn after_separator(h: Held, rank: u8) -> Held
     if rank == 1 {
         return Held {
             elements: h.elements + 1,
+            repeats: 0,
+            components: 0,
+        };
+    }
+    if rank == 2 {
+        return Held {
+            elements: h.elements,
+            repeats: h.repeats + 1,
             components: 0,
         };
     }
     Held {
         elements: h.elements,
+        repeats: h.repeats,
         components: h.components + 1,
     }
 }
@@ -53,10 +63,16 @@ fn let_out(buffer: &mut [u8], at: usize, c: Characters, h: Held) -> usize
     requires { ⌜ at + waiting h ≤ length (now buffer) ⌝ }
     ensures { λ r. ⌜ (now (buffer .exit) ≡ sets (now (buffer .entry)) at (letOut c h)) × (r ≡ at + waiting h) ⌝ }
 {
-    let components = at + h.elements;
+    let repeats = at + h.elements;
+    let components = repeats + h.repeats;
+    let end = components + h.components;
+    if end == at {
+        return at;
+    }
     fill(buffer, at, h.elements, c.element);
+    fill(buffer, repeats, h.repeats, c.repetition);
     fill(buffer, components, h.components, c.component);
-    components + h.components
+    end
 }
 
 // ---- measuring
@@ -68,7 +84,7 @@ pub fn with_byte(m: Measure, c: Characters, b: u8) -> Measure
 {
     let h = m.held;
     Measure {
-        total: m.total + (h.elements + h.components) + byte_length(c, b),
+        total: m.total + (h.elements + h.repeats + h.components) + byte_length(c, b),
         held: nothing_held(),
     }
 }

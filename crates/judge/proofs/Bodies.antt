@@ -23,7 +23,7 @@ use Rattle.values.specs.Tokens.{Token, byte, separator, fault, placeOf, tokensA
 use Rattle.values.specs.Values.{isFault, endsInside}
 use Rattle.values.specs.Spelling.{spell}
 use Rattle.levels.specs.Levels.{inLevelA, inLevelB, classOf, inLevel}
-use Rattle.stages.specs.Contents.{bodyTokens, segmentsOf, contents, normalCharacters, interchange, normalForm}
+use Rattle.stages.specs.Contents.{bodyTokens, segmentsOf, contents, normalCharacters, normalRepetition, interchange, normalForm}
 use Rattle.stages.specs.Places.{tooLong, noOpening, strayReleases, unendedSegment, level, placeOutside}
 use Rattle.stages.specs.Stages.{placesOf, brackets, bracketsIn, stagesIn, stages, refusalOf}
 use Rattle.stages.proofs.Over.{within}
@@ -97,21 +97,24 @@ module _ (s : List ℕ) where
     unfolding bracketsIn brackets those all any placesOf strayReleases
     sound = none-stray (bodyTokens s) (unmet s 1 6 e StrayRelease refl)
 
-    -- the length of the normal form, as it is measured
+    -- the length of the normal form, as it is measured with its six characters
+    abbrev normal : Characters
+    normal = normalCharacters (charactersOf s .mark) (normalRepetition (contents s))
+
     abbrev measure : ℕ
-    measure = length (emitted (normalCharacters (charactersOf s .mark)) nothing (bodyTokens s))
+    measure = length (emitted normal nothing (bodyTokens s))
 
     pub form-length : measure + 9 ≡ length (normalForm s)
     unfolding normalForm interchange contents segmentsOf bodyTokens adviceOf spelledOut
     form-length =
-        let n = normalCharacters (charactersOf s .mark) in
+        let n = normal in
         omega (arith, length-append (adviceOf n) (spell n (contents s)), ap length (contents-emitted n (charactersOf s) (bodyStart s) (body s) ended))
 
     -- it is not too long to count
     pub measure-bound : measure ≤ 64000
     unfolding bodyTokens body
     measure-bound =
-        let n = normalCharacters (charactersOf s .mark) in
+        let n = normal in
         omega (
           arith,
           ap length (contents-emitted n (charactersOf s) (bodyStart s) (body s) ended),

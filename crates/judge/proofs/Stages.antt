@@ -1,15 +1,17 @@
 -- What each stage of the code finds is what its stage of the paper answers. Assumes nothing.
 use Prim.Native.Nat.{ℕ, suc, _+_, _<_, _≤_}
-use mathlib.Core.Path.{_≡_, refl, sym, ap, ap₂, _∙_}
+use mathlib.Core.Path.{_≡_, refl, sym, ap, ap₂, subst, _∙_}
 use mathlib.Core.Bool.{Bool, true, false}
 use mathlib.Core.List.{List, [], _∷_, _++_, map, reverse}
 use mathlib.Core.Option.{Option, none, some}
 use native.Mathlib.Omega.{arith}
 use lib.ListN.{length}
-use lib.Dec.{eqb, ltb}
+use lib.Dec.{eqb, ltb, lit≤}
 use borrow.Author.Tests.{lt-ltb, le-ltb, eqb-false, eq-eqb, ne-eqb}
 use Rattle.lists.specs.Lists.{if_then_else_, all, any, those, text, same, at, maybe, through}
 use Rattle.lists.proofs.Pieces.{cut-first}
+use Rattle.lists.proofs.Numbers.{at-map}
+use Rattle.characters.specs.declared.Characters.{Characters}
 use Rattle.characters.specs.Characters.{charactersOf, bodyStart, body}
 use Rattle.refusals.specs.declared.Fault.the-variants.{TooLong, ForeignLevel, OutsideLevel, NormalTooLong}
 use Rattle.refusals.specs.declared.Refusal.{Refusal}
@@ -17,15 +19,15 @@ use Rattle.refusals.specs.declared.Outcome.{Outcome}
 use Rattle.refusals.specs.Refusals.{number, met, placeIf, orElse, answering, outcome}
 use Rattle.refusals.proofs.Stages.{one-place, place-none}
 use Rattle.values.specs.Tokens.{Token, Segment, ends, segments, start as startOf, tokensAt}
-use Rattle.values.specs.Trimming.{valueAt, contentsOf}
-use Rattle.levels.specs.Levels.{levelNamed, isOurVersion, levelOf}
+use Rattle.values.specs.Trimming.{contentsOf}
+use Rattle.levels.specs.Levels.{levelNamed, syntaxIdentifier, isVersion4, isOurVersion, levelIn, levelOf, hasVersion4}
 use Rattle.segments.specs.declared.Walk.{Walk}
 use Rattle.segments.specs.Tags.{kindOf}
 use Rattle.segments.specs.Order.{walkOver}
 use Rattle.control_elements.specs.Sections.{lastSection}
 use Rattle.scanner.specs.Scan.{segmentAt}
 use Rattle.scanner.proofs.Segments.{stands, segment-start}
-use Rattle.stages.specs.Contents.{bodyTokens, segmentsOf, kindsOf, normalCharacters, normalForm}
+use Rattle.stages.specs.Contents.{bodyTokens, segmentsOf, contents, kindsOf, normalCharacters, normalRepetition, normalForm}
 use Rattle.stages.specs.Places.{isOver, tooLong, foreignLevel, level, outsideLevel, normalTooLong}
 use Rattle.stages.specs.Stages.{placesOf, brackets, bracketsIn, bracketed, stagesIn, stages, refusalOf}
 use Rattle.stages.proofs.Stages.{unmet, run-on, run-none}
@@ -98,9 +100,9 @@ abbrev numberOf : Option ℕ → ℕ
 numberOf o = maybe 0 (λ l. l) o
 
 -- a level has a number of its own
-level-known : (g : Segment) → numberOf (levelOf g) ≡ 0 → levelOf g ≡ none
-unfolding levelOf levelNamed maybe
-level-known g = by-version (isOurVersion g) (valueAt (contentsOf g) 1 0)
+level-known : (c : Characters) (g : Segment) → numberOf (levelOf c g) ≡ 0 → levelOf c g ≡ none
+unfolding levelOf levelIn levelNamed maybe
+level-known c g = by-identifier (syntaxIdentifier (contentsOf g))
   where
     by-name : (a b : Bool) → numberOf (if a then some 2 else if b then some 1 else none) ≡ 0
         → _≡_ {A = Option ℕ} (if a then some 2 else if b then some 1 else none) none
@@ -113,6 +115,10 @@ level-known g = by-version (isOurVersion g) (valueAt (contentsOf g) 1 0)
     by-version true none e = refl
     by-version true (some v) e = by-name (same v (text "UNOA")) (same v (text "UNOB")) e
     by-version false v e = refl
+
+    by-identifier : (o : Option (List (List ℕ))) → numberOf (maybe none (levelIn c) o) ≡ 0 → maybe none (levelIn c) o ≡ none
+    by-identifier none e = refl
+    by-identifier (some i) e = by-version (isOurVersion c i) (at i 0) e
 
 module _ (s : List ℕ) (e : answering (stagesIn s 1 6) ≡ none) where
   abbrev first : Segment
@@ -130,17 +136,26 @@ module _ (s : List ℕ) (e : answering (stagesIn s 1 6) ≡ none) where
       ∙ ap (λ (l : List Segment). at l 0) (cut-first (ends 0) t ts)
       ∙ ap (λ (l : List Token). some (through (ends 0) l)) (sym d)
 
+  -- the fifth byte of the normal form is that of the version which it names
+  first-repetition : normalRepetition (contentsOf first ∷ []) ≡ normalRepetition (contents s)
+  unfolding normalRepetition hasVersion4 contents at maybe
+  first-repetition =
+      ap (λ (t : Bool). if t then 42 else 32)
+      (sym
+      (at-map false (λ unb. maybe false isVersion4 (syntaxIdentifier unb)) contentsOf (segmentsOf s) 0
+      ∙ ap (maybe false (λ unb. maybe false isVersion4 (syntaxIdentifier (contentsOf unb)))) first-segment))
+
   -- the level is the one that it names
-  level-named : numberOf (levelOf first) ≡ level s
+  level-named : numberOf (levelOf (charactersOf s) first) ≡ level s
   unfolding level maybe
-  level-named = sym (ap (maybe 0 (λ unb. numberOf (levelOf unb))) first-segment)
+  level-named = sym (ap (maybe 0 (λ unb. numberOf (levelOf (charactersOf s) unb))) first-segment)
 
   -- 7 is met at its start where that is none of ours
   foreign-is : foreignLevel s ≡ placeIf (eqb (level s) 0) (bodyStart s)
   unfolding foreignLevel maybe placeIf
   foreign-is =
-      ap (maybe [] (λ unb. maybe (startOf unb ∷ []) (λ l. []) (levelOf unb))) first-segment
-      ∙ step (levelOf first) (level-known first)
+      ap (maybe [] (λ unb. maybe (startOf unb ∷ []) (λ l. []) (levelOf (charactersOf s) unb))) first-segment
+      ∙ step (levelOf (charactersOf s) first) (level-known (charactersOf s) first)
       ∙ ap₂ (λ (l place : ℕ). placeIf (eqb l 0) place) level-named (segment-start (charactersOf s) s (bodyStart s) inside)
     where
       step : (o : Option ℕ) → (numberOf o ≡ 0 → o ≡ none) → maybe (startOf first ∷ []) (λ l. []) o ≡ placeIf (eqb (numberOf o) 0) (startOf first)
@@ -156,12 +171,12 @@ module _ (s : List ℕ) (e : answering (stagesIn s 1 6) ≡ none) where
   level-answers d = ap (λ (ps : List ℕ). answering (met ForeignLevel ps ∷ [])) foreign-is ∙ one-place ForeignLevel (bodyStart s) [] d
 
 module _ (s : List ℕ) {before : Progress} {found : Found} (e : before ≡ progress 1 6 s) (d : before ≡ Passed found)
-    {l : ℕ} (h : l ≡ numberOf (levelOf (segmentAt (found .characters) s (found .start)))) where
+    {l : ℕ} (h : l ≡ numberOf (levelOf (found .characters) (segmentAt (found .characters) s (found .start)))) where
   level-is : l ≡ level s
   unfolding foundBy
   level-is =
       let (passed, f) = passed-is s 1 6 e d in
-      h ∙ ap (λ (g : Found). numberOf (levelOf (segmentAt (g .characters) s (g .start)))) f ∙ level-named s passed
+      h ∙ ap (λ (g : Found). numberOf (levelOf (g .characters) (segmentAt (g .characters) s (g .start)))) f ∙ level-named s passed
 
   pub level-foreign : l ≡ 0 → Refused (record { fault = ForeignLevel; place = found .start }) ≡ progress 1 7 s
   unfolding foundBy bracketsIn brackets those all maybe
@@ -234,29 +249,49 @@ module _ (s : List ℕ) (e : answering (stagesIn s 1 12) ≡ none) {found : Foun
   unfolding bracketsIn brackets those all
   read = run-none s 1 6 12 refl e .0
 
-  -- what is found may be measured
-  pub measurable : (length s ≤ mostBytes) × (faultless (tokensAt (found .characters) s (found .start)) ≡ true)
-      × (visible (tokensAt (found .characters) s (found .start)) ≡ true)
-  unfolding bracketsIn brackets those all
-  measurable = (
-    short s read,
-    ap faultless (body-tokens s 12 d) ∙ sound s read,
-    ap visible (body-tokens s 12 d) ∙ visible-body s (run-none s 1 8 12 refl e .0),
-  )
+  -- the version that the header names gives the fifth byte of the normal form
+  module _ {r : ℕ} (h : r ≡ normalRepetition (contentsOf (segmentAt (found .characters) s (found .start)) ∷ [])) where
+    pub repetition-is : r ≡ normalRepetition (contents s)
+    unfolding foundBy
+    repetition-is =
+        h
+        ∙ ap (λ (f : Found). normalRepetition (contentsOf (segmentAt (f .characters) s (f .start)) ∷ [])) d
+        ∙ first-repetition s read
 
-  measure : length (emitted (normalCharacters (found .characters .mark)) nothing (tokensAt (found .characters) s (found .start)))
-      ≡ length (emitted (normalCharacters (charactersOf s .mark)) nothing (bodyTokens s))
-  unfolding foundBy bodyTokens body tokensAt
-  measure =
-      ap (λ (f : Found). length (emitted (normalCharacters (f .characters .mark)) nothing (tokensAt (f .characters) s (f .start)))) d
+    repetition-visible : 32 ≤ r
+    unfolding normalRepetition
+    repetition-visible = subst (λ (n : ℕ). 32 ≤ n) (sym repetition-is) (either (hasVersion4 (contents s)))
+      where
+        either : (t : Bool) → 32 ≤ (if t then 42 else 32)
+        either true = lit≤ tt
+        either false = lit≤ tt
 
-  pub measured-bound : length (emitted (normalCharacters (found .characters .mark)) nothing (tokensAt (found .characters) s (found .start))) ≤ 64000
-  measured-bound = omega (arith, measure, measure-bound s read)
+    -- what is found may be measured
+    pub measurable : (length s ≤ mostBytes) × (faultless (tokensAt (found .characters) s (found .start)) ≡ true)
+        × (visible (tokensAt (found .characters) s (found .start)) ≡ true) × (32 ≤ r)
+    unfolding bracketsIn brackets those all
+    measurable = (
+      short s read,
+      ap faultless (body-tokens s 12 d) ∙ sound s read,
+      ap visible (body-tokens s 12 d) ∙ visible-body s (run-none s 1 8 12 refl e .0),
+      repetition-visible,
+    )
 
-  -- its measure is that of the normal form
-  pub measured-form : {n : ℕ} → n ≡ length (emitted (normalCharacters (found .characters .mark)) nothing (tokensAt (found .characters) s (found .start)))
-      → n + 9 ≡ length (normalForm s)
-  measured-form h = omega (arith, h, measure, form-length s read)
+    abbrev measure : ℕ
+    measure = length (emitted (normalCharacters (found .characters .mark) r) nothing (tokensAt (found .characters) s (found .start)))
+
+    measure-is : measure ≡ length (emitted (normalCharacters (charactersOf s .mark) (normalRepetition (contents s))) nothing (bodyTokens s))
+    unfolding foundBy bodyTokens body tokensAt
+    measure-is =
+        ap₂ (λ (f : Found) (k : ℕ). length (emitted (normalCharacters (f .characters .mark) k) nothing (tokensAt (f .characters) s (f .start)))) d
+        repetition-is
+
+    pub measured-bound : measure ≤ 64000
+    measured-bound = omega (arith, measure-is, measure-bound s read)
+
+    -- its measure is that of the normal form
+    pub measured-form : {n : ℕ} → n ≡ measure → n + 9 ≡ length (normalForm s)
+    measured-form k = omega (arith, k, measure-is, form-length s read)
 
 module _ (s : List ℕ) (n : ℕ) (e : n ≡ length (normalForm s)) where
   length-answers : {b : Bool} → ltb mostBytes (length (normalForm s)) ≡ b

@@ -131,7 +131,9 @@ pub fn judge_length(s: &[u8], found: Found) -> Judged
     ensures { λ r. ⌜ r ≡ judged (now (s .entry)) (answering (stagesIn (now (s .entry)) 13 13)) ⌝ }
 {
     let characters = found.characters;
-    let length = stage_length::measured(s, characters, found.start) + 9;
+    let start = found.start;
+    let repetition = stage_level::normal_repetition(s, characters, start);
+    let length = stage_length::measured(s, characters, start, repetition) + 9;
     if refusals::MOST_BYTES < length {
         return Judged::Refused(Refusal {
             fault: Fault::NormalTooLong,

@@ -3,8 +3,9 @@ use Prim.Native.Nat.{ℕ}
 use mathlib.Core.Path.{_≡_, refl, ap, ap₂, _∙_}
 use mathlib.Core.Bool.{Bool, true, false}
 use mathlib.Core.List.{List, [], _∷_, _++_}
+use mathlib.Core.Option.{none, some}
 use lib.Dec.{leb}
-use Rattle.lists.specs.Lists.{text, member, allDiffer, isEmpty, all, those, unlessIdle, dropEnd, trimEnd, eachLedBy, joined, gather}
+use Rattle.lists.specs.Lists.{text, member, allDiffer, isEmpty, all, those, unlessIdle, dropEnd, trimEnd, eachLedBy, joined, gather, isSingle, single}
 use Rattle.lists.proofs.Texts.{and-left, and-right}
 
 -- a text's bytes are its letters' numbers in ASCII, in their order
@@ -78,3 +79,14 @@ joined-are = (refl, refl, refl)
 pub gathered-are : gather (λ (n : ℕ). n ∷ 0 ∷ []) (1 ∷ 2 ∷ []) ≡ 1 ∷ 0 ∷ 2 ∷ 0 ∷ []
 unfolding gather
 gathered-are = refl
+
+-- one alone
+pub single-is : {A : Type 0} (x y : A) (ys : List A)
+    → (single {A = A} [] ≡ none) × (single (x ∷ []) ≡ some x) × (single (x ∷ y ∷ ys) ≡ none)
+unfolding single
+single-is x y ys = (refl, refl, refl)
+
+pub is-single-is : {A : Type 0} (x y : A) (ys : List A)
+    → (isSingle {A = A} [] ≡ false) × (isSingle (x ∷ []) ≡ true) × (isSingle (x ∷ y ∷ ys) ≡ false)
+unfolding isSingle isEmpty
+is-single-is x y ys = (refl, refl, refl)

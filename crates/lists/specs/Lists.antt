@@ -89,6 +89,17 @@ module _ {A : Type 0} where
   lastOr x [] = x
   lastOr x (y ∷ ys) = lastOr y ys
 
+  -- there is one in it
+  unfoldable pub isSingle : List A → Bool
+  isSingle [] = false
+  isSingle (x ∷ xs) = isEmpty xs
+
+  -- the one that is there, where there is no other
+  unfoldable pub single : List A → Option A
+  single [] = none
+  single (x ∷ []) = some x
+  single (x ∷ y ∷ ys) = none
+
   -- ---- a list cut into pieces
 
   -- x put in front: of the first piece, or as a piece of its own where there is none or where x ends its piece

@@ -38,9 +38,9 @@ use Rattle.contracts.specs.Promises.{HandsBack}
 use Rattle.locate.specs.declared.Span.{Span}
 use Rattle.locate.specs.Locating.{answerOf, Inside, partOf}
 
-module _ (s : List ℕ) (segment element component : ℕ) where
+module _ (s : List ℕ) (segment element repeat component : ℕ) where
   -- Judge's refusal answers
-  pub locate-refused : {r : Refusal} → refusalOf s ≡ some r → toldLocated (Refused r) ≡ locate s segment element component
+  pub locate-refused : {r : Refusal} → refusalOf s ≡ some r → toldLocated (Refused r) ≡ locate s segment element repeat component
   unfolding locate toldLocated maybe
   locate-refused e = sym (ap (maybe _ refused) e)
 
@@ -65,28 +65,28 @@ module _ (s : List ℕ) (segment element component : ℕ) where
 
     -- the value of the segment that tokens begin with; of no segment where there are none
     of-segment : (ts : List Token)
-        → maybe none (λ g. valueAt (trimmed g) element component) (firstPiece 0 ts)
-        ≡ valueAt (trimmed (through (ends 0) ts)) element component
+        → maybe none (λ g. valueAt (trimmed g) element repeat component) (firstPiece 0 ts)
+        ≡ valueAt (trimmed (through (ends 0) ts)) element repeat component
     unfolding firstPiece at maybe cut through valueAt trimmed trimSegment trimEnd elementsOf
     of-segment [] = refl
     of-segment (t ∷ ts) = refl
 
     -- the value is the one in the segment that was found
-    located-is : located s segment element component ≡ valueAt (trimmed (segmentAt (i .characters) s start)) element component
+    located-is : located s segment element repeat component ≡ valueAt (trimmed (segmentAt (i .characters) s start)) element repeat component
     unfolding located segmentsOf segments segmentAt
     located-is =
-        at-map none (λ elements. valueAt elements element component) trimmed (segmentsOf s) segment
-        ∙ ap (maybe none (λ g. valueAt (trimmed g) element component))
+        at-map none (λ elements. valueAt elements element repeat component) trimmed (segmentsOf s) segment
+        ∙ ap (maybe none (λ g. valueAt (trimmed g) element repeat component))
         (segment-number segment (bodyTokens s) ∙ ap (firstPiece 0) (sym start-is))
         ∙ of-segment (tokensAt (i .characters) s start)
 
-    pub locate-found : {f : Found} → f ≡ placed (valueAt (trimmed (segmentAt (i .characters) s start)) element component)
-        → toldLocated (answerOf f) ≡ locate s segment element component
+    pub locate-found : {f : Found} → f ≡ placed (valueAt (trimmed (segmentAt (i .characters) s start)) element repeat component)
+        → toldLocated (answerOf f) ≡ locate s segment element repeat component
     unfolding locate maybe toldLocated placed
     locate-found e =
         ap (λ (f : Found). toldLocated (answerOf f)) (e ∙ ap placed (sym located-is))
-        ∙ told (located s segment element component)
-        ∙ sym (ap (maybe (maybe (given []) (λ v. given (v .offset ∷ v .spelled ∷ [])) (located s segment element component)) refused) a)
+        ∙ told (located s segment element repeat component)
+        ∙ sym (ap (maybe (maybe (given []) (λ v. given (v .offset ∷ v .spelled ∷ [])) (located s segment element repeat component)) refused) a)
       where
         told : (o : Option Value) → toldLocated (answerOf (placed o)) ≡ maybe (given []) (λ v. given (v .offset ∷ v .spelled ∷ [])) o
         told none = refl
@@ -102,34 +102,34 @@ answer-inside s found.Absent h = h
 pub found-inside : (s : List ℕ) {r : Located} {o n : ℕ} → Inside s r → r ≡ At o n → o + n ≤ length s
 found-inside s h e = subst (Inside s) e h
 
-module _ (s : List ℕ) (segment element component : ℕ) {r : Located} (told : toldLocated r ≡ locate s segment element component) where
+module _ (s : List ℕ) (segment element repeat component : ℕ) {r : Located} (told : toldLocated r ≡ locate s segment element repeat component) where
   part-is : (l : Located) → r ≡ l
-      → record { offset = partIn (toldLocated l .values) .0; length = partIn (toldLocated l .values) .1 } ≡ partOf s segment element component
+      → record { offset = partIn (toldLocated l .values) .0; length = partIn (toldLocated l .values) .1 } ≡ partOf s segment element repeat component
   unfolding partOf
   part-is l e =
       ap (λ (p : ℕ × ℕ). record { offset = p .0; length = p .1 })
-      (ap (λ (a : Answer). partIn (a .values)) (ap toldLocated (sym e) ∙ told) ∙ part-told s segment element component)
+      (ap (λ (a : Answer). partIn (a .values)) (ap toldLocated (sym e) ∙ told) ∙ part-told s segment element repeat component)
 
   -- the part that was found, or zero bytes at the input's start
-  pub part-found : {o n : ℕ} → r ≡ At o n → record { offset = o; length = n } ≡ partOf s segment element component
+  pub part-found : {o n : ℕ} → r ≡ At o n → record { offset = o; length = n } ≡ partOf s segment element repeat component
   unfolding toldLocated given partIn
   part-found e = part-is _ e
 
-  pub part-absent : r ≡ Absent → record { offset = 0; length = 0 } ≡ partOf s segment element component
+  pub part-absent : r ≡ Absent → record { offset = 0; length = 0 } ≡ partOf s segment element repeat component
   unfolding toldLocated given partIn
   part-absent e = part-is Absent e
 
-  pub part-refused : {q : Refusal} → r ≡ Refused q → record { offset = 0; length = 0 } ≡ partOf s segment element component
+  pub part-refused : {q : Refusal} → r ≡ Refused q → record { offset = 0; length = 0 } ≡ partOf s segment element repeat component
   unfolding toldLocated refused partIn
   part-refused e = part-is _ e
 
 -- as many bytes of the input from there on are handed back
-pub handed : (whole : RefT (List ℕ)) (segment element component : ℕ) {part : Span} (p : RefT (List ℕ))
-    → part ≡ partOf (now whole) segment element component → part .offset + part .length ≤ length (now whole)
+pub handed : (whole : RefT (List ℕ)) (segment element repeat component : ℕ) {part : Span} (p : RefT (List ℕ))
+    → part ≡ partOf (now whole) segment element repeat component → part .offset + part .length ≤ length (now whole)
     → now p ≡ take (part .offset + part .length - part .offset) (drop (part .offset) (now whole))
-    → ptr p ≡ (ptr whole .0, part .offset + ptr whole .1) → HandsBack whole segment element component p
+    → ptr p ≡ (ptr whole .0, part .offset + ptr whole .1) → HandsBack whole segment element repeat component p
 unfolding partOf
-handed whole segment element component {part} p e h b q =
+handed whole segment element repeat component {part} p e h b q =
     let from = ap (λ (x : Span). x .offset) e in
     let size = ap (λ (x : Span). x .length) e in
     let bytes = b ∙ ap (λ (k : ℕ). take k (drop (part .offset) (now whole))) (add-sub-cancel-left (part .offset) (part .length)) in

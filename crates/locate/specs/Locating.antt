@@ -20,6 +20,6 @@ Inside s Absent = Unit {0}
 Inside s (Refused r) = Unit {0}
 
 -- what the companion hands back
-unfoldable pub partOf : (s : List ℕ) (segment element component : ℕ) → Span
-partOf s segment element component =
-    record { offset = partOffset s segment element component; length = partLength s segment element component }
+unfoldable pub partOf : (s : List ℕ) (segment element repeat component : ℕ) → Span
+partOf s segment element repeat component =
+    record { offset = partOffset s segment element repeat component; length = partLength s segment element repeat component }

@@ -66,10 +66,16 @@ rows =
     (43 ∷ 43 ∷ 43 ∷ [])
     (7 ∷ 8 ∷ 0 ∷ [])
     (4 ∷ 1 ∷ 52 ∷ 52 ∷ [])
+    -- a repetition separator with version 1 is under 7; versions 1 and 4 may stand in one file, each with its own characters
+    ∷ row (text "UNA:+.?*'" ++ x ++ short) (93 ∷ 43 ∷ []) (7 ∷ 0 ∷ []) (4 ∷ 1 ∷ 52 ∷ 52 ∷ [])
+    ∷ row (shortWith "UNB+UNOA:4+A*C+B+1+R'" "UNZ+1+R'" ++ shortWith "UNB+UNOA:1+A*C+B+1+R'" "UNZ+1+R'")
+    (45 ∷ 45 ∷ [])
+    (0 ∷ 0 ∷ [])
+    (8 ∷ 2 ∷ 108 ∷ 54 ∷ [])
     -- UNZ ends a piece wherever it stands: 9, and the cutting goes on
     ∷ row (text "UNB+UNOA:1+A'UNZ+0+R'" ++ short) (21 ∷ 43 ∷ []) (9 ∷ 0 ∷ []) (4 ∷ 1 ∷ 52 ∷ 52 ∷ [])
     -- 2 to 6 before a UNZ, or in it: the rest is one piece from its beginning on, and nothing behind it is counted
-    ∷ row (short ++ text "UNA:+.?*'" ++ x) (43 ∷ 93 ∷ []) (0 ∷ 2 ∷ []) (4 ∷ 1 ∷ 52 ∷ 52 ∷ [])
+    ∷ row (short ++ text "UNA:+.?A'" ++ x) (43 ∷ 93 ∷ []) (0 ∷ 2 ∷ []) (4 ∷ 1 ∷ 52 ∷ 52 ∷ [])
     ∷ row (short ++ text "UNZ+1+R'" ++ x) (43 ∷ 92 ∷ []) (0 ∷ 3 ∷ []) (4 ∷ 1 ∷ 52 ∷ 52 ∷ [])
     ∷ row (short ++ with "BGM+220+A?B'" unt unz ++ x) (43 ∷ 167 ∷ []) (0 ∷ 4 ∷ []) (4 ∷ 1 ∷ 52 ∷ 52 ∷ [])
     ∷ row (short ++ take 42 short) (43 ∷ 42 ∷ []) (0 ∷ 5 ∷ []) (4 ∷ 1 ∷ 52 ∷ 52 ∷ [])

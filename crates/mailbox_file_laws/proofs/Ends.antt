@@ -2,16 +2,17 @@
 use Prim.Native.Nat.{ℕ, zero, suc, _+_, _-_, _≤_, _<_}
 use mathlib.Core.Path.{_≡_, refl, sym, ap, ap₂, _∙_, subst}
 use mathlib.Core.Logic.{_↔_, ⊎-elim}
-use mathlib.Core.Bool.{Bool, true, false}
+use mathlib.Core.Bool.{Bool, true, false, _&&_, _||_}
 use mathlib.Core.List.{List, [], _∷_, _++_, append-assoc, append-nil, List·Memᴰ, List·Memᴰ·head, List·Memᴰ·tail, List·Memᴰ·cases-cons, List·Memᴰ·append-cases, List·Memᴰ·eq-of-singleton, Memᴰ·append-left, Memᴰ·append-right}
 use mathlib.Core.Option.{Option, none, some}
 use native.Mathlib.Omega.{arith}
 use lib.ListN.{length, take, drop, length-append, length-drop, take-append-drop}
-use lib.Seq.{drop-append-le, take-append-add, length-take-le, take-all, drop-drop}
-use Rattle.lists.specs.Lists.{if_then_else_, all, cut, maybe}
+use lib.Seq.{drop-append-le, take-append-add, take-append-seam, length-take-le, take-all, drop-drop}
+use lib.Dec.{eqb}
+use Rattle.lists.specs.Lists.{if_then_else_, text, begins, all, cut, maybe}
 use Rattle.lists.proofs.Texts.{and-both, and-left, and-right, if-true}
 use Rattle.characters.specs.declared.Characters.{Characters}
-use Rattle.characters.specs.Characters.{isBreak, breaks, afterBreaks, charactersOf, bodyStart, body}
+use Rattle.characters.specs.Characters.{beginsVersion4, isBreak, breaks, afterBreaks, charactersOf, bodyStart, body}
 use Rattle.values.specs.Tokens.{Segment, segments, tokensAt}
 use Rattle.values.specs.Values.{endPlace}
 use Rattle.values.specs.Spelling.{leadsBreak}
@@ -77,38 +78,62 @@ pub end-is : (s : List ℕ) (g : Segment) → unzOf s ≡ some g → pieceEnd s 
 unfolding pieceEnd maybe
 end-is s g h = ap (maybe (length s) (endBehind s)) h
 
--- in front of more it is the same
-pub unz-followed : (p more : List ℕ) (g : Segment) → unzOf p ≡ some g → unzOf (p ++ more) ≡ some g
-unz-followed p more g h =
-    let o = opening p (unz-opens p g h) in
+-- what begins with some bytes is decided by as many
+front-alike : (front x a b : List ℕ) → length front ≤ length x → begins front (x ++ a) ≡ begins front (x ++ b)
+unfolding begins
+front-alike [] x a b h = refl
+front-alike (p ∷ ps) [] a b h = absurd (omega arith)
+front-alike (p ∷ ps) (y ∷ ys) a b h = ap (λ (t : Bool). eqb p y && t) (front-alike ps ys a b (omega arith))
+
+version-alike : (x a b : List ℕ) → 10 ≤ length x → beginsVersion4 (x ++ a) ≡ beginsVersion4 (x ++ b)
+unfolding beginsVersion4
+version-alike x a b h = ap₂ (λ (s t : Bool). s || t) (front-alike (text "UNB+UNOA:4") x a b h) (front-alike (text "UNB+UNOB:4") x a b h)
+
+-- it is the same in two files that begin with the same bytes, where it ends within these
+unz-same : (x a b : List ℕ) (g : Segment) → unzOf (x ++ a) ≡ some g → endPlace g < length x → unzOf (x ++ b) ≡ some g
+unz-same x a b g h l =
+    let o = opening (x ++ a) (unz-opens (x ++ a) g h) in
     let n : ℕ = length (o .lead) in
-    let alone : unzFrom (o .c) p n ≡ some g =
-    subst (λ (t : List ℕ). unzFrom (o .c) t n ≡ some g) (sym (o .is)) (sym (unz-from o (o .rest)) ∙ ap unzOf (sym (o .is)) ∙ h) in
-    let both : p ++ more ≡ o .lead ++ unb (o .c) (o .rest ++ more) =
-    ap (λ (t : List ℕ). t ++ more) (o .is) ∙ append-assoc (o .lead) (unb (o .c) (o .rest)) more in
-    let nothing : unzFrom (o .c) (p ++ []) n ≡ some g = ap (λ (t : List ℕ). unzFrom (o .c) t n) (append-nil p) ∙ alone in
-    let on : unzFrom (o .c) (p ++ more) n ≡ some g =
-    unz-alike (o .c) p [] more (length (p ++ [])) n g (omega arith) nothing (unz-within p g h) in
-    ap unzOf both ∙ unz-from o (o .rest ++ more) ∙ ap (λ (t : List ℕ). unzFrom (o .c) t n) (sym both) ∙ on
+    let c : Characters = o .c in
+    let there : unzFrom c (x ++ a) n ≡ some g =
+    subst (λ (t : List ℕ). unzFrom c t n ≡ some g) (sym (o .is)) (sym (unz-from o (o .rest) (ap beginsVersion4 (sym (o .is)))) ∙ ap unzOf (sym (o .is)) ∙ h) in
+    let here : unzFrom c (x ++ b) n ≡ some g = unz-alike c x a b (length (x ++ a)) n g (omega arith) there l in
+    let rest : ℕ = length x - (n + 4) in
+    let size : length x ≡ n + suc (suc (suc (suc rest))) = omega (arith, unz-behind o g there) in
+    let begun : x ≡ o .lead ++ unb c (take rest (o .rest)) =
+    sym (take-append-seam x a)
+    ∙ ap₂ (λ (i : ℕ) (t : List ℕ). take i t) size (o .is)
+    ∙ take-append-add (o .lead) (unb c (o .rest)) (suc (suc (suc (suc rest)))) in
+    let both : x ++ b ≡ o .lead ++ unb c (take rest (o .rest) ++ b) =
+    ap (λ (t : List ℕ). t ++ b) begun ∙ append-assoc (o .lead) (unb c (take rest (o .rest))) b in
+    let ten : (more s : List ℕ) → s ≡ o .lead ++ unb c more → unzFrom c s n ≡ some g → beginsVersion4 s ≡ true → beginsVersion4 (x ++ b) ≡ beginsVersion4 (x ++ a) =
+    λ more s e k v. version-alike x b a (omega (
+      arith,
+      o .ten more g (ap beginsVersion4 (sym e) ∙ v) (subst (λ (t : List ℕ). unzFrom c t n ≡ some g) e k),
+    )) in
+    let version : beginsVersion4 (x ++ b) ≡ beginsVersion4 (x ++ a) =
+    alike (beginsVersion4 (x ++ a)) (beginsVersion4 (x ++ b)) (λ v. ten (o .rest) (x ++ a) (o .is) there v)
+    (λ v. ten (take rest (o .rest) ++ b) (x ++ b) both here v) in
+    ap unzOf both
+    ∙ unz-from o (take rest (o .rest) ++ b) (ap beginsVersion4 (sym both) ∙ version)
+    ∙ ap (λ (t : List ℕ). unzFrom c t n) (sym both)
+    ∙ here
+  where
+    -- two tests that agree where either holds
+    alike : (s t : Bool) → (s ≡ true → t ≡ s) → (t ≡ true → t ≡ s) → t ≡ s
+    alike true t f k = f refl
+    alike false true f k = k refl
+    alike false false f k = refl
+
+-- in front of more
+pub unz-followed : (p more : List ℕ) (g : Segment) → unzOf p ≡ some g → unzOf (p ++ more) ≡ some g
+unz-followed p more g h = unz-same p [] more g (ap unzOf (append-nil p) ∙ h) (unz-within p g h)
 
 -- and where the file is cut behind it
 pub unz-cut : (s : List ℕ) (n : ℕ) (g : Segment) → unzOf s ≡ some g → endPlace g < n → n ≤ length s → unzOf (take n s) ≡ some g
 unz-cut s n g h l k =
-    let o = opening s (unz-opens s g h) in
-    let m : ℕ = length (o .lead) in
-    let whole : unzFrom (o .c) s m ≡ some g =
-    subst (λ (t : List ℕ). unzFrom (o .c) t m ≡ some g) (sym (o .is)) (sym (unz-from o (o .rest)) ∙ ap unzOf (sym (o .is)) ∙ h) in
-    let rest : ℕ = n - (m + 4) in
-    let size : n ≡ m + suc (suc (suc (suc rest))) = omega (arith, unz-behind o g whole) in
-    let opened : take n s ≡ o .lead ++ unb (o .c) (take rest (o .rest)) =
-    ap₂ (λ (i : ℕ) (t : List ℕ). take i t) size (o .is) ∙ take-append-add (o .lead) (unb (o .c) (o .rest)) (suc (suc (suc (suc rest)))) in
-    let apart : unzFrom (o .c) (take n s ++ drop n s) m ≡ some g = ap (λ (t : List ℕ). unzFrom (o .c) t m) (take-append-drop n s) ∙ whole in
-    let alone : unzFrom (o .c) (take n s ++ []) m ≡ some g =
-    unz-alike (o .c) (take n s) (drop n s) [] (length (take n s ++ drop n s)) m g (omega arith) apart (omega (arith, length-take-le n s k)) in
-    ap unzOf opened
-    ∙ unz-from o (take rest (o .rest))
-    ∙ ap (λ (t : List ℕ). unzFrom (o .c) t m) (sym opened ∙ sym (append-nil (take n s)))
-    ∙ alone
+    ap unzOf (sym (append-nil (take n s)))
+    ∙ unz-same (take n s) (drop n s) [] g (ap unzOf (take-append-drop n s) ∙ h) (omega (arith, length-take-le n s k))
 
 -- ---- where the piece ends
 

@@ -4,8 +4,8 @@ use mathlib.Core.Path.{_≡_, refl}
 use mathlib.Core.Bool.{Bool, true, false, _&&_}
 use mathlib.Core.List.{List, [], _∷_}
 use lib.Dec.{eqb, leb, ltb}
-use Rattle.lists.specs.Lists.{isEmpty, all, those, onto, cut, unlessIdle, dropEnd, trimEnd, eachLedBy, joined, gather}
-use Rattle.nesting.specs.Nesting.{shaped, every, mapped, byDepth, nested, written, spelled, flat, isIdle, idle, trim}
+use Rattle.lists.specs.Lists.{isEmpty, isSingle, all, those, onto, cut, unlessIdle, dropEnd, trimEnd, eachLedBy, joined, gather}
+use Rattle.nesting.specs.Nesting.{shaped, every, mapped, byDepth, nested, written, spelled, flat, lone, isIdle, idle, trim}
 
 abbrev isZero : ℕ → Bool
 isZero n = eqb n 0
@@ -50,6 +50,11 @@ spelled-are = refl
 pub flat-are : flat (λ depth. depth) (λ kind n. kind ∷ n ∷ []) 2 9 two ≡ (9 ∷ 11 ∷ []) ∷ (0 ∷ 12 ∷ []) ∷ (1 ∷ 13 ∷ []) ∷ []
 unfolding gather
 flat-are = refl
+
+-- no two values side by side, or no two parts of depth 1
+pub lone-are : (lone ℕ 0 2 two ≡ false) × (lone ℕ 1 2 two ≡ false) × (lone ℕ 0 2 ((1 ∷ []) ∷ (2 ∷ []) ∷ []) ≡ true) × (lone ℕ 1 2 ((1 ∷ 2 ∷ []) ∷ []) ≡ true)
+unfolding isEmpty isSingle all
+lone-are = (refl, refl, refl, refl)
 
 -- a single empty value, at any depth
 pub idle-are : (idle ℕ isZero 2 ((0 ∷ []) ∷ []) ≡ true)

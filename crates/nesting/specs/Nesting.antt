@@ -1,9 +1,9 @@
 -- Values nested to any depth. Nothing here knows of EDIFACT. Assumes nothing.
 use Prim.Native.Nat.{ℕ, zero, suc, _-_}
-use mathlib.Core.Bool.{Bool, true, false, not, _&&_}
+use mathlib.Core.Bool.{Bool, true, false, not, _&&_, _||_}
 use mathlib.Core.List.{List, [], _∷_, _++_, map}
-use lib.Dec.{leb}
-use Rattle.lists.specs.Lists.{isEmpty, all, cut, trimEnd, joined, gather}
+use lib.Dec.{eqb, leb}
+use Rattle.lists.specs.Lists.{isEmpty, isSingle, all, cut, trimEnd, joined, gather}
 
 -- of depth 0 a value, of depth n + 1 a list of parts of depth n
 abbrev pub Nest : Type 0 → ℕ → Type 0
@@ -67,6 +67,13 @@ module _ {A B : Type 0} (kinds : ℕ → ℕ) (item : ℕ → A → B) where
   flat (suc zero) first (v ∷ vs) = item first v ∷ map (item (kinds 0)) vs
   flat (suc (suc n)) first [] = []
   flat (suc (suc n)) first (x ∷ xs) = flat (suc n) first x ++ gather (flat (suc n) (kinds (suc n))) xs
+
+-- ---- one alone
+
+-- no two parts of depth d stand side by side: each part of depth d + 1 has one part
+abbrev pub lone : (A : Type 0) (d n : ℕ) → Nest A n → Bool
+lone A d zero v = true
+lone A d (suc n) xs = (not (eqb d n) || isSingle xs) && all (lone A d n) xs
 
 -- ---- trimmed
 

@@ -2,12 +2,13 @@
 -- keeps which of them are empty may be done before or after. Assumes nothing.
 use Prim.Native.Nat.{ℕ, zero, suc}
 use mathlib.Core.Path.{_≡_, refl, sym, ap, ap₂, fun-ext, _∙_}
-use mathlib.Core.Bool.{Bool, true}
+use mathlib.Core.Bool.{Bool, true, false, not, _||_, false≢true}
+use lib.Dec.{eqb}
 use mathlib.Core.List.{List, [], _∷_, map, map-map}
-use Rattle.lists.specs.Lists.{isEmpty, all, dropEnd, trimEnd}
+use Rattle.lists.specs.Lists.{isEmpty, isSingle, all, dropEnd, trimEnd}
 use Rattle.lists.proofs.Texts.{and-left, and-right, and-both, all-append, all-map}
 use Rattle.lists.proofs.Ends.{trimEnd-again, trimEnd-map}
-use Rattle.nesting.specs.Nesting.{Nest, shaped, every, mapped, isIdle, idle, trim}
+use Rattle.nesting.specs.Nesting.{Nest, shaped, every, lone, mapped, isIdle, idle, trim}
 use Rattle.nesting_laws.proofs.Shape.{trim-step, shaped-some, shaped-all, all-shaped}
 use Rattle.nesting_laws.proofs.Trimmed.{dropEnd-shortened}
 
@@ -60,6 +61,27 @@ module _ (A : Type 0) (isBlank : A → Bool) where
   trim-shaped (suc n) (x ∷ xs) h =
       all-shaped A n (trim A isBlank (suc n) (x ∷ xs)) (ap isEmpty (trim-step A isBlank n (x ∷ xs)))
       (left-all (shaped A) n (trim-shaped n) (x ∷ xs) (shaped-all A n (x ∷ xs) h))
+
+  -- where no two parts of a depth stand side by side, none do afterwards
+  pub trim-lone : (d n : ℕ) (x : Nest A n) → lone A d n x ≡ true → lone A d n (trim A isBlank n x) ≡ true
+  unfolding isEmpty isSingle trimEnd dropEnd all
+  trim-lone d zero v h = h
+  trim-lone d (suc n) [] h = ap (lone A d (suc n)) (trim-step A isBlank n []) ∙ h
+  trim-lone d (suc n) (x ∷ xs) h =
+      let t : Nest A n → Bool = idle A isBlank n in
+      let f : Nest A n → Nest A n = trim A isBlank n in
+      let left : List (Nest A n) = trim A isBlank (suc n) (x ∷ xs) in
+      let few : Bool = not (eqb d n) || isEmpty xs in
+      and-both (not (eqb d n) || isSingle left) (all (lone A d n) left)
+      (ap (λ (l : List (Nest A n)). not (eqb d n) || isSingle l) (trim-step A isBlank n (x ∷ xs))
+      ∙ fewer (eqb d n) xs (and-left few (all (lone A d n) (x ∷ xs)) h))
+      (left-all (lone A d) n (trim-lone d n) (x ∷ xs) (and-right few (all (lone A d n) (x ∷ xs)) h))
+    where
+      fewer : (e : Bool) (xs : List (Nest A n)) → (not e || isEmpty xs) ≡ true
+          → (not e || isEmpty (dropEnd (idle A isBlank n) (map (trim A isBlank n) xs))) ≡ true
+      fewer true [] k = refl
+      fewer true (y ∷ ys) k = absurd (false≢true k)
+      fewer false xs k = refl
 
 module _ {A B : Type 0} (f : A → B) (t : B → Bool) where
   abbrev u : A → Bool

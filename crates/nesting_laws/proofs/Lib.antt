@@ -8,3 +8,4 @@ pub mod Writing
 pub mod Flat
 pub mod Splits
 pub mod Positions
+pub mod Lone

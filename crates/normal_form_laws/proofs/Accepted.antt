@@ -11,7 +11,7 @@ use Rattle.lists.specs.Lists.{if_then_else_, begins, text, all, any, allDiffer,
 use Rattle.lists.proofs.Texts.{or-none-right}
 use borrow.Author.Tests.{not-true, not-false}
 use Rattle.characters.specs.declared.Characters.{Characters}
-use Rattle.characters.specs.Characters.{between, upper, lower, digit, separates, hasRelease, serviceCharacters, usable, sixBytes, advised, plusCharacters, controlCharacters, charactersOf, badAdvice}
+use Rattle.characters.specs.Characters.{between, upper, lower, digit, separates, hasRelease, hasRepetition, serviceCharacters, usable, sixBytes, advised, plusCharacters, starCharacters, beginsVersion4, controlCharacters, charactersOf, badAdvice}
 use Rattle.refusals.specs.declared.Fault.the-variants.{TooLong, UnusableAdvice, NoOpening, StrayRelease, UnendedSegment, BrokenTag, ForeignLevel, OutsideLevel, MisplacedSegment, BadControl, ReferenceDiffers, CountWrong, NormalTooLong}
 use Rattle.refusals.specs.Refusals.{number, met, placeIf, lowest, orElse, answering}
 use Rattle.refusals.proofs.Stages.{place-none, place-none-not}
@@ -112,13 +112,15 @@ module _ (s : List ℕ) where
 
   -- the service characters of an input that 2 does not refuse are usable
   pub usable-accepted : unusableAdvice s ≡ [] → usable (charactersOf s) ≡ true
-  unfolding unusableAdvice badAdvice charactersOf usable serviceCharacters hasRelease separates between upper lower digit all allDiffer member sixBytes plusCharacters controlCharacters
-  usable-accepted e = step (advised s) (begins (text "UNB+") s) (place-none (badAdvice s) 0 .0 e)
+  unfolding unusableAdvice badAdvice charactersOf usable serviceCharacters hasRelease hasRepetition separates between upper lower digit all allDiffer member sixBytes plusCharacters starCharacters controlCharacters
+  usable-accepted e = step (advised s) (beginsVersion4 s) (begins (text "UNB+") s) (place-none (badAdvice s) 0 .0 e)
     where
-      step : (a b : Bool) → let c : Characters = if a then sixBytes (drop 3 s) else if b then plusCharacters else controlCharacters in
+      step : (a v b : Bool)
+          → let c : Characters = if a then sixBytes (drop 3 s) else if v then starCharacters else if b then plusCharacters else controlCharacters in
           (a && (ltb (length s) 9 || not (usable c))) ≡ false → usable c ≡ true
-      step true b h =
+      step true v b h =
           let test : Bool = usable (sixBytes (drop 3 s)) in
           not-false test (or-none-right (ltb (length s) 9) (not test) h)
-      step false true h = refl
-      step false false h = refl
+      step false true b h = refl
+      step false false true h = refl
+      step false false false h = refl

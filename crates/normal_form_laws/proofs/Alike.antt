@@ -11,7 +11,6 @@ use Rattle.refusals.specs.Refusals.{placeIf}
 use Rattle.refusals.proofs.Stages.{place-none}
 use Rattle.values.specs.Tokens.{Segment, start}
 use Rattle.values.specs.Trimming.{contentsOf}
-use Rattle.levels.specs.Levels.{isOurVersion, levelOf}
 use Rattle.segments.specs.declared.Kind.{Kind}
 use Rattle.segments.specs.declared.Kind.the-variants.{Unh, Uns}
 use Rattle.segments.specs.declared.Section.{Section}
@@ -35,10 +34,6 @@ module _ (g h : Segment) (e : contentsOf g ≡ contentsOf h) where
   pub kind-alike : kindOf g ≡ kindOf h
   unfolding kindOf
   kind-alike = ap kindNamed (tag-first g ∙ ap firstValue e ∙ sym (tag-first h))
-
-  pub level-alike : levelOf g ≡ levelOf h
-  unfolding levelOf isOurVersion
-  level-alike = rw e
 
   element-alike : (position : ℕ) → controlElement g position ≡ controlElement h position
   unfolding controlElement

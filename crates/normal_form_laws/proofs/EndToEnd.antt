@@ -18,13 +18,13 @@ use Rattle.values.specs.Spelling.{Bytes, SegmentList, spell, leadsBreak}
 use Rattle.segments.specs.Tags.{kindOf}
 use Rattle.stages.specs.Contents.{bodyTokens, segmentsOf, contents, kindsOf, interchange, normalForm}
 use Rattle.stages.specs.Stages.{refusalOf}
-use Rattle.spelling_laws.specs.Bodies.{Sound, Passes, Shaped, Releasable, Unbroken}
+use Rattle.spelling_laws.specs.Bodies.{Sound, Passes, Shaped, Spellable, Unbroken}
 use Rattle.spelling_laws.proofs.Listing.{segments-append}
 use Rattle.spelling_laws.proofs.Laws.{spelling-passes, spelling-leads, tokens-append}
 use Rattle.normal_form_laws.specs.Forms.{markOf, formCharacters, NormalForm, NormalForms, endToEnd, afterTrailer, formEnd, cutUpTo}
 use Rattle.normal_form_laws.proofs.Openings.{advice-characters, apart-start, apart-body}
 use Rattle.normal_form_laws.proofs.Accepted.{accepted-exactly, order-accepted}
-use Rattle.normal_form_laws.proofs.Normal.{normal-releasable, contents-shaped, contents-unbroken, normal-usable}
+use Rattle.normal_form_laws.proofs.Normal.{normal-spellable, contents-shaped, contents-unbroken, normal-usable}
 use Rattle.normal_form_laws.proofs.Accepting.{normal-accepted}
 use Rattle.normal_form_laws.proofs.Trailers.{complete-any, trailer-last}
 
@@ -71,7 +71,7 @@ leads-append [] ys h k = k
 leads-append (x ∷ xs) ys h k = h
 
 -- the segments of an interchange, and of what follows it
-segments-more : (c : Characters) (list : SegmentList) (more : Bytes) → usable c ≡ true → Shaped list → Releasable c list → Unbroken list
+segments-more : (c : Characters) (list : SegmentList) (more : Bytes) → usable c ≡ true → Shaped list → Spellable c list → Unbroken list
     → leadsBreak more ≡ false
     → segmentsOf (interchange c list ++ more) ≡ segmentsOf (interchange c list) ++ segments (tokens c (length (interchange c list)) more)
 unfolding interchange Passes Sound adviceOf spelledOut
@@ -96,7 +96,7 @@ module _ (s : List ℕ) (accepted : refusalOf s ≡ none) (more : List ℕ) (unl
       let list : SegmentList = contents s in
       let order = order-accepted n .0 (accepted-exactly n .0 (normal-accepted s accepted) .order) in
       ap afterTrailer
-      (segments-more c list more (normal-usable s accepted) (contents-shaped s accepted) (normal-releasable (markOf s) list)
+      (segments-more c list more (normal-usable s accepted) (contents-shaped s accepted) (normal-spellable s accepted)
       (contents-unbroken s accepted) unled)
       ∙ trailer-last [] (segmentsOf n) (segments (tokens c (length n) more)) (order .0)
       (complete-any (map kindOf (segmentsOf n)) (order .1))

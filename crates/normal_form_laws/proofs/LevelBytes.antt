@@ -7,12 +7,12 @@ use mathlib.Core.Logic.{_↔_}
 use Rattle.lists.specs.Lists.{all, gather}
 use Rattle.lists.proofs.Texts.{and-left, and-both, all-append}
 use Rattle.nesting_laws.proofs.Reading.{every-nested}
-use Rattle.values.specs.Tokens.{Token, byte, separator, fault}
+use Rattle.values.specs.Tokens.{Token, byte, separator, fault, endsPart}
 use Rattle.values.specs.Values.{byteOf, bytesOf}
 use Rattle.levels.specs.Levels.{inLevel}
 use Rattle.stages.specs.Contents.{bodyTokens}
 use Rattle.stages.specs.Places.{level, placeOutside, outsideLevel}
-use Rattle.spelling_laws.specs.Bodies.{endsPart, listed, readList}
+use Rattle.spelling_laws.specs.Bodies.{listed, readList}
 use Rattle.spelling_laws.proofs.Listing.{listed-nested}
 use Rattle.normal_form_laws.specs.Forms.{listRead}
 use Rattle.normal_form_laws.proofs.Trimmed.{allBytes}
@@ -22,7 +22,7 @@ use Rattle.normal_form_laws.proofs.Tests.{gather-none}
 -- the bytes of the list that tokens hold are those of the tokens
 pub all-listed : (p : ℕ → Bool) (ts : List Token) → allBytes p (listed ts) ≡ all (λ t. all p (byteOf t)) ts
 unfolding bytesOf all gather
-all-listed p ts = ap (allBytes p) (listed-nested ts) ∙ every-nested endsPart bytesOf (all p) (λ t. all p (byteOf t)) one 3 ts
+all-listed p ts = ap (allBytes p) (listed-nested ts) ∙ every-nested endsPart bytesOf (all p) (λ t. all p (byteOf t)) one 4 ts
   where
     one : (ts : List Token) → all p (bytesOf ts) ≡ all (λ t. all p (byteOf t)) ts
     one [] = refl

@@ -2,6 +2,7 @@ pub mod Tests
 pub mod Trimmed
 pub mod Openings
 pub mod Accepted
+pub mod Versions
 pub mod Normal
 pub mod Tags
 pub mod Alike

@@ -1,30 +1,32 @@
 -- An accepted input and its normal form: how they are read, the same contents and mark, and its own normal form. Assumes nothing.
 use Prim.Native.Nat.{ℕ, _-_}
-use mathlib.Core.Path.{_≡_, refl, ap, ap₂, _∙_}
+use mathlib.Core.Path.{_≡_, refl, sym, ap, ap₂, _∙_}
 use mathlib.Core.Bool.{Bool, true, false, _&&_, _||_, true≢false, or-false}
 use mathlib.Core.List.{List, _∷_}
 use mathlib.Core.Option.{none}
 use mathlib.Core.Logic.{_⊎_, inl, inr}
 use lib.Dec.{eqb}
 use borrow.Author.Tests.{eqb-true}
-use Rattle.lists.specs.Lists.{text, member, all, allDiffer}
-use Rattle.lists.proofs.Texts.{and-left, and-right, or-cases}
+use Rattle.lists.specs.Lists.{if_then_else_, text, member, all, allDiffer}
+use Rattle.lists.proofs.Texts.{and-left, or-cases}
 use Rattle.characters.specs.declared.Characters.{Characters}
-use Rattle.characters.specs.Characters.{between, upper, lower, digit, space, separates, hasRelease, serviceCharacters, usable, sixBytes, charactersOf, bodyStart, body, opens}
+use Rattle.characters.specs.Characters.{between, upper, lower, digit, separates, hasRelease, hasRepetition, serviceCharacters, usable, sixBytes, charactersOf, bodyStart, body, opens}
 use Rattle.refusals.proofs.Stages.{place-none-not}
 use Rattle.values.specs.Spelling.{SegmentList, spell, leadsBreak}
-use Rattle.stages.specs.Contents.{contents, normalCharacters, interchange, normalForm}
+use Rattle.stages.specs.Contents.{contents, normalCharacters, normalRepetition, interchange, normalForm}
 use Rattle.stages.specs.Places.{noOpening}
 use Rattle.stages.specs.Stages.{refusalOf}
 use Rattle.operations.specs.ValueList.{trimList}
-use Rattle.spelling_laws.specs.Bodies.{Shaped, Releasable, Unbroken}
-use Rattle.spelling_laws.proofs.Laws.{read-shaped, read-unbroken}
+use Rattle.spelling_laws.specs.Bodies.{Shaped, Spellable, Unbroken}
+use Rattle.spelling_laws.proofs.Laws.{read-shaped, read-spellable, read-unbroken}
 use Rattle.trimming_laws.proofs.Trimmed.{trimList-shaped}
 use Rattle.trimming_laws.proofs.Starts.{trim-unbroken}
 use Rattle.normal_form_laws.specs.Forms.{markOf, formCharacters, BodyPasses, listRead}
-use Rattle.normal_form_laws.proofs.Trimmed.{contents-read, contents-trimmed}
+use Rattle.normal_form_laws.proofs.Trimmed.{contents-read, contents-trimmed, trim-spellable}
 use Rattle.normal_form_laws.proofs.Openings.{advice-characters, opened-leads, interchange-passes, interchange-read}
 use Rattle.normal_form_laws.proofs.Accepted.{Accepted, accepted-exactly, passes-accepted, usable-accepted}
+use Rattle.normal_form_laws.proofs.Versions.{own-suits, form-repetition}
+use Rattle.levels.specs.Levels.{hasVersion4}
 
 -- ---- the normal form's characters
 
@@ -32,25 +34,20 @@ use Rattle.normal_form_laws.proofs.Accepted.{Accepted, accepted-exactly
 pub usable-mark : (c : Characters) → usable c ≡ true → member (c .mark) (text ".,") ≡ true
 unfolding usable
 usable-mark c u =
-    let reserved : Bool = eqb (c .reserved) space in
     let marked : Bool = member (c .mark) (text ".,") in
     let separate : Bool = all separates (serviceCharacters c) in
-    and-right reserved marked
-    (and-left (reserved && marked) separate (and-left (reserved && marked && separate) (allDiffer (c .mark ∷ serviceCharacters c)) u))
+    and-left marked separate (and-left (marked && separate) (allDiffer (c .mark ∷ serviceCharacters c)) u)
 
--- with either of them the normal form's characters are usable
-marked-usable : (mark : ℕ) → member mark (text ".,") ≡ true → usable (normalCharacters mark) ≡ true
-unfolding member usable normalCharacters sixBytes serviceCharacters hasRelease separates between upper lower digit all allDiffer
-marked-usable mark h = step (or-cases (eqb mark 46) (eqb mark 44 || false) h)
+-- with either of them the normal form's characters are usable, in each version
+marked-usable : (mark : ℕ) → member mark (text ".,") ≡ true → (list : SegmentList) → usable (normalCharacters mark (normalRepetition list)) ≡ true
+unfolding member usable normalCharacters normalRepetition sixBytes serviceCharacters hasRelease hasRepetition separates between upper lower digit all allDiffer
+marked-usable mark h list = step (or-cases (eqb mark 46) (eqb mark 44 || false) h) (hasVersion4 list)
   where
-    step : (eqb mark 46 ≡ true) ⊎ ((eqb mark 44 || false) ≡ true) → usable (normalCharacters mark) ≡ true
-    step (inl e) = rw (eqb-true mark 46 e) refl
-    step (inr e) = rw (eqb-true mark 44 (rw or-false at e)) refl
-
--- they have a release character, so that every list can be spelled with them
-pub normal-releasable : (mark : ℕ) (list : SegmentList) → Releasable (normalCharacters mark) list
-unfolding Releasable hasRelease normalCharacters sixBytes
-normal-releasable mark list r = absurd (true≢false r)
+    step : (eqb mark 46 ≡ true) ⊎ ((eqb mark 44 || false) ≡ true) → (v : Bool) → usable (normalCharacters mark (if v then 42 else 32)) ≡ true
+    step (inl e) true = rw (eqb-true mark 46 e) refl
+    step (inl e) false = rw (eqb-true mark 46 e) refl
+    step (inr e) true = rw (eqb-true mark 44 (rw or-false at e)) refl
+    step (inr e) false = rw (eqb-true mark 44 (rw or-false at e)) refl
 
 -- ---- an accepted input
 
@@ -84,23 +81,42 @@ module _ (s : List ℕ) (accepted : refusalOf s ≡ none) where
       (trim-unbroken (listRead s)
       (read-unbroken (charactersOf s) accepted-usable (bodyStart s) (body s) accepted-passes accepted-leads))
 
+  -- what can be spelled with its own characters
+  pub contents-spellable : Spellable (charactersOf s) (contents s)
+  contents-spellable =
+      rw (contents-read s)
+      (trim-spellable (charactersOf s) (listRead s) (read-spellable (charactersOf s) accepted-usable (bodyStart s) (body s) accepted-passes))
+
   -- ---- its normal form
+
+  -- the contents can be spelled with its characters: they have a release character, and a repetition separator in version 4, before which
+  -- each element has one repeat
+  pub normal-spellable : Spellable (formCharacters s) (contents s)
+  unfolding hasRelease normalCharacters sixBytes
+  normal-spellable = record {
+    released = λ r. absurd (true≢false r);
+    repeated = λ r. contents-spellable .repeated (older (hasRepetition (charactersOf s)) refl (sym (form-repetition (markOf s) (contents s)) ∙ r));
+  }
+    where
+      older : (p : Bool) → hasRepetition (charactersOf s) ≡ p → hasVersion4 (contents s) ≡ false → p ≡ false
+      older true e v = absurd (true≢false (sym (own-suits s nowhere e) ∙ v))
+      older false e v = refl
 
   -- its characters are usable; its body passes and is read as the contents
   pub normal-usable : usable (formCharacters s) ≡ true
-  normal-usable = marked-usable (markOf s) accepted-mark
+  normal-usable = marked-usable (markOf s) accepted-mark (contents s)
 
   pub normal-passes : BodyPasses (normalForm s)
   unfolding normalForm
   normal-passes =
       let list : SegmentList = contents s in
-      interchange-passes (formCharacters s) list normal-usable contents-shaped (normal-releasable (markOf s) list) contents-unbroken
+      interchange-passes (formCharacters s) list normal-usable contents-shaped normal-spellable contents-unbroken
 
   pub normal-read : listRead (normalForm s) ≡ contents s
   unfolding normalForm
   normal-read =
       let list : SegmentList = contents s in
-      interchange-read (formCharacters s) list normal-usable contents-shaped (normal-releasable (markOf s) list) contents-unbroken
+      interchange-read (formCharacters s) list normal-usable contents-shaped normal-spellable contents-unbroken
 
   -- it has the same contents, under its own characters with the same mark
   pub normal-contents : contents (normalForm s) ≡ contents s
@@ -117,4 +133,4 @@ module _ (s : List ℕ) (accepted : refusalOf s ≡ none) where
   -- the normal form is its own normal form
   pub normal-again : normalForm (normalForm s) ≡ normalForm s
   unfolding normalForm
-  normal-again = ap₂ (λ (mark : ℕ) (list : SegmentList). interchange (normalCharacters mark) list) normal-mark normal-contents
+  normal-again = ap₂ (λ (mark : ℕ) (list : SegmentList). interchange (normalCharacters mark (normalRepetition list)) list) normal-mark normal-contents

@@ -15,7 +15,7 @@ use Rattle.characters.specs.Characters.{usable, sixBytes, spelledOut, advised, 
 use Rattle.values.specs.Spelling.{Bytes, SegmentList, spell, leadsBreak}
 use Rattle.stages.specs.Contents.{contents, interchange}
 use Rattle.operations.specs.ValueList.{trimList}
-use Rattle.spelling_laws.specs.Bodies.{Shaped, Releasable, Unbroken}
+use Rattle.spelling_laws.specs.Bodies.{Shaped, Spellable, Unbroken}
 use Rattle.spelling_laws.proofs.Laws.{read-spelling, spelling-passes, spelling-leads}
 use Rattle.normal_form_laws.specs.Forms.{BodyPasses, listRead}
 use Rattle.normal_form_laws.proofs.Trimmed.{contents-read}
@@ -93,16 +93,16 @@ opened-leads s o =
 
 -- ---- a list that can be spelled, after its advice
 
-module _ (c : Characters) (list : SegmentList) (u : usable c ≡ true) (shaped : Shaped list) (releasable : Releasable c list)
+module _ (c : Characters) (list : SegmentList) (u : usable c ≡ true) (shaped : Shaped list) (spellable : Spellable c list)
     (unbroken : Unbroken list) where
   -- its body is the list, spelled
   pub interchange-start : bodyStart (interchange c list) ≡ 9
   unfolding interchange all
-  interchange-start = apart-start c [] (spell c list) refl (spelling-leads c u 9 list shaped releasable unbroken)
+  interchange-start = apart-start c [] (spell c list) refl (spelling-leads c u 9 list shaped spellable unbroken)
 
   pub interchange-body : body (interchange c list) ≡ spell c list
   unfolding interchange all
-  interchange-body = apart-body c [] (spell c list) refl (spelling-leads c u 9 list shaped releasable unbroken)
+  interchange-body = apart-body c [] (spell c list) refl (spelling-leads c u 9 list shaped spellable unbroken)
 
   pub interchange-characters : charactersOf (interchange c list) ≡ c
   unfolding interchange
@@ -111,11 +111,11 @@ module _ (c : Characters) (list : SegmentList) (u : usable c ≡ true) (shaped :
   -- its body passes and is read as the list
   pub interchange-passes : BodyPasses (interchange c list)
   interchange-passes =
-      rw (interchange-characters, interchange-start, interchange-body) (spelling-passes c u 9 list shaped releasable unbroken)
+      rw (interchange-characters, interchange-start, interchange-body) (spelling-passes c u 9 list shaped spellable unbroken)
 
   pub interchange-read : listRead (interchange c list) ≡ list
   interchange-read =
-      rw (interchange-characters, interchange-start, interchange-body) (read-spelling c u 9 list shaped releasable unbroken)
+      rw (interchange-characters, interchange-start, interchange-body) (read-spelling c u 9 list shaped spellable unbroken)
 
   -- its contents are the list, trimmed
   pub interchange-contents : contents (interchange c list) ≡ trimList list

@@ -10,7 +10,7 @@ use lib.ListN.{length, length-drop}
 use Rattle.characters.specs.declared.Characters.{Characters}
 use Rattle.characters.specs.Characters.{sixBytes, spelledOut, adviceOf, charactersOf, bodyStart, body}
 use Rattle.values.specs.Spelling.{SegmentList}
-use Rattle.stages.specs.Contents.{bodyTokens, segmentsOf, contents, normalCharacters, interchange, normalForm}
+use Rattle.stages.specs.Contents.{bodyTokens, segmentsOf, contents, normalCharacters, normalRepetition, interchange, normalForm}
 use Rattle.stages.specs.Stages.{refusalOf}
 use Rattle.operations.specs.Compare.{areSame}
 use Rattle.operations.proofs.Cases.{same-says}
@@ -46,7 +46,7 @@ pub only-normal : (s form : List ℕ) → Normalised s form → form ≡ normalF
 unfolding normalForm normalCharacters sixBytes
 only-normal s form n =
     sym (n .own-form)
-    ∙ ap₂ (λ (c : Characters) (list : SegmentList). interchange (normalCharacters (c .mark)) list) (n .characters) (n .same-contents)
+    ∙ ap₂ (λ (c : Characters) (list : SegmentList). interchange (normalCharacters (c .mark) (normalRepetition list)) list) (n .characters) (n .same-contents)
 
 -- Two accepted inputs have the same normal form exactly where their contents and their marks are equal.
 pub same-normal : (a b : List ℕ) → refusalOf a ≡ none → refusalOf b ≡ none
@@ -57,7 +57,7 @@ same-normal a b h k = (
     sym (normal-contents a h) ∙ ap contents e ∙ normal-contents b k,
     sym (normal-mark a h) ∙ ap markOf e ∙ normal-mark b k,
   ),
-  λ e. ap₂ (λ (mark : ℕ) (list : SegmentList). interchange (normalCharacters mark) list) (e .1) (e .0),
+  λ e. ap₂ (λ (mark : ℕ) (list : SegmentList). interchange (normalCharacters mark (normalRepetition list)) list) (e .1) (e .0),
 )
 
 -- Compare's "same", in these words.

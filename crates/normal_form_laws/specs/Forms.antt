@@ -1,18 +1,20 @@
 -- Paper 01, "Normal form": what is promised of it, and how a file of normal forms end to end is cut apart. Assumes nothing.
 use Prim.Native.Nat.{ℕ, zero, suc, _+_, _*_, _≤_}
 use mathlib.Core.Path.{_≡_}
+use mathlib.Core.Bool.{true}
 use mathlib.Core.List.{List, [], _∷_, List·Memᴰ}
 use mathlib.Core.Option.{none}
 use lib.ListN.{length, take, drop}
 use Rattle.lists.specs.Lists.{if_then_else_, gather, at, maybe}
 use Rattle.characters.specs.declared.Characters.{Characters}
-use Rattle.characters.specs.Characters.{charactersOf, bodyStart, body}
+use Rattle.characters.specs.Characters.{hasRepetition, charactersOf, bodyStart, body}
 use Rattle.values.specs.Tokens.{Segment, start}
 use Rattle.values.specs.Spelling.{SegmentList}
+use Rattle.levels.specs.Levels.{hasVersion4}
 use Rattle.segments.specs.declared.Kind.the-variants.{Unz}
 use Rattle.segments.specs.Kinds.{is}
 use Rattle.segments.specs.Tags.{kindOf}
-use Rattle.stages.specs.Contents.{segmentsOf, contents, normalCharacters, normalForm}
+use Rattle.stages.specs.Contents.{segmentsOf, contents, normalCharacters, normalRepetition, normalForm}
 use Rattle.stages.specs.Stages.{refusalOf}
 use Rattle.spelling_laws.specs.Bodies.{readList, Passes}
 
@@ -24,7 +26,11 @@ markOf s = charactersOf s .mark
 
 -- the characters of its normal form
 abbrev pub formCharacters : List ℕ → Characters
-formCharacters s = normalCharacters (markOf s)
+formCharacters s = normalCharacters (markOf s) (normalRepetition (contents s))
+
+-- "the fifth byte isn't a space" only where the contents name version 4
+abbrev pub Suits : Characters → SegmentList → Type 0
+Suits c list = hasRepetition c ≡ true → hasVersion4 list ≡ true
 
 -- its body passes refusals 4 and 5
 abbrev pub BodyPasses : List ℕ → Type 0

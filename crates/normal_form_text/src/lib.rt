@@ -63,15 +63,30 @@ fn put_by_token(
     }
 }
 
-// Stores the contents of the body that begins at `start`, from a place of the buffer on. A body that
-// is already spelled as in its normal form, but for line breaks, is copied without them.
-pub fn put_contents(buffer: &mut [u8], from: usize, s: &[u8], c: Characters, start: usize)
-    requires { ⌜ (from + length (emitted (normalCharacters (c .mark)) nothing (tokensAt c (now s) start)) ≤ length (now buffer)) × (from ≤ 9) × (length (now s) ≤ mostBytes) × (faultless (tokensAt c (now s) start) ≡ true) × (visible (tokensAt c (now s) start) ≡ true) ⌝ }
-    ensures { λ _. ⌜ now (buffer .exit) ≡ sets (now (buffer .entry)) from (emitted (normalCharacters (c .mark)) nothing (tokensAt c (now (s .entry)) start)) ⌝ }
+// Stores the contents of the body that begins at `start`, from a place of the buffer on, as a normal
+// form with this fifth byte spells them. A body that is already spelled so, but for line breaks, is
+// copied without them.
+pub fn put_contents(
+    buffer: &mut [u8],
+    from: usize,
+    s: &[u8],
+    c: Characters,
+    start: usize,
+    repetition: u8,
+)
+    requires { ⌜ (from + length (emitted (normalCharacters (c .mark) repetition) nothing (tokensAt c (now s) start)) ≤ length (now buffer)) × (from ≤ 9) × (length (now s) ≤ mostBytes) × (faultless (tokensAt c (now s) start) ≡ true) × (visible (tokensAt c (now s) start) ≡ true) × (32 ≤ repetition) ⌝ }
+    ensures { λ _. ⌜ now (buffer .exit) ≡ sets (now (buffer .entry)) from (emitted (normalCharacters (c .mark) repetition) nothing (tokensAt c (now (s .entry)) start)) ⌝ }
 {
-    if is_verbatim(s, c, start) {
+    if is_verbatim(s, c, start, repetition) {
         put_unbroken(buffer, from, s, start);
         return;
     }
-    put_by_token(buffer, from, normal_characters(c.mark), s, c, start);
+    put_by_token(
+        buffer,
+        from,
+        normal_characters(c.mark, repetition),
+        s,
+        c,
+        start,
+    );
 }

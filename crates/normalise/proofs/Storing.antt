@@ -1,6 +1,6 @@
 -- What is stored is the normal form, with the rest of the buffer as it was; and what is answered. Assumes nothing.
 use Prim.Native.Nat.{ℕ, _+_, _≤_, _<_}
-use mathlib.Core.Path.{_≡_, refl, sym, ap, ap₂, _∙_}
+use mathlib.Core.Path.{_≡_, refl, sym, ap, ap₂, subst, _∙_}
 use mathlib.Core.Bool.{true}
 use mathlib.Core.List.{List, [], _∷_, _++_}
 use mathlib.Core.Option.{none, some}
@@ -9,19 +9,27 @@ use native.Mathlib.Omega.{arith}
 use lib.ListN.{length, length-append}
 use lib.Seq.{sets}
 use Rattle.characters.specs.declared.Characters.{Characters}
-use Rattle.characters.specs.Characters.{charactersOf, bodyStart, body, adviceOf, spelledOut}
+use Rattle.lists.specs.Lists.{all, those}
+use Rattle.characters.specs.Characters.{sixBytes, charactersOf, bodyStart, body, adviceOf, spelledOut}
 use Rattle.refusals.specs.declared.Fault.the-variants.{BufferShort}
 use Rattle.refusals.specs.declared.Refusal.{Refusal}
+use Rattle.refusals.specs.Limits.{mostBytes}
+use Rattle.refusals.specs.Refusals.{answering}
 use Rattle.values.specs.Tokens.{tokensAt}
-use Rattle.stages.specs.Contents.{bodyTokens, segmentsOf, contents, normalCharacters, interchange, normalForm}
-use Rattle.stages.specs.Stages.{refusalOf}
+use Rattle.values.specs.Trimming.{contentsOf}
+use Rattle.scanner.specs.Scan.{segmentAt}
+use Rattle.stages.specs.Contents.{bodyTokens, segmentsOf, contents, normalCharacters, normalRepetition, interchange, normalForm}
+use Rattle.stages.specs.Stages.{brackets, bracketsIn, stagesIn, stages, refusalOf}
+use Rattle.stages.proofs.Stages.{run-none}
+use Rattle.normal_form_laws.specs.Forms.{formCharacters}
 use Rattle.emission_laws.specs.Emission.{nothing, emitted}
 use Rattle.emission_laws.proofs.Theorems.{contents-emitted}
 use Rattle.verbatim.specs.Verbatim.{faultless, visible}
 use Rattle.stage_walks.specs.Walks.{refuse}
 use Rattle.storing.proofs.Stores.{sets-append}
-use Rattle.judge.proofs.Bodies.{tokens-here, accepted-ended, accepted-sound}
-use Rattle.judge.proofs.Stages.{accepted-visible}
+use Rattle.stage_opening.specs.Runs.{foundBy}
+use Rattle.judge.proofs.Bodies.{accepted-ended}
+use Rattle.judge.proofs.Stages.{repetition-is, measurable}
 use Rattle.answers.specs.declared.Stored.the-variants.{Length, Refused}
 use Rattle.answers.specs.Answers.{given, toldStored}
 use Rattle.contracts.specs.Promises.{Normalises}
@@ -33,17 +41,34 @@ pub nine : (c : Characters) → length (adviceOf c) ≡ 9
 unfolding adviceOf spelledOut
 nine c = refl
 
--- no fault 4 lies in the body of an accepted interchange
-pub form-faultless : (s : List ℕ) → refusalOf s ≡ none → {c : Characters} {start : ℕ} → c ≡ charactersOf s → start ≡ bodyStart s
-    → faultless (tokensAt c s start) ≡ true
-form-faultless s a d p =
-    ap faultless (ap₂ (λ (c : Characters) (start : ℕ). tokensAt c s start) d p ∙ tokens-here s) ∙ accepted-sound s a
+-- ---- what is known of an accepted interchange
 
--- and no byte of a value is below the space
-pub form-visible : (s : List ℕ) → refusalOf s ≡ none → {c : Characters} {start : ℕ} → c ≡ charactersOf s → start ≡ bodyStart s
-    → visible (tokensAt c s start) ≡ true
-form-visible s a d p =
-    ap visible (ap₂ (λ (c : Characters) (start : ℕ). tokensAt c s start) d p ∙ tokens-here s) ∙ accepted-visible s a
+module _ (s : List ℕ) (a : refusalOf s ≡ none) {c : Characters} {start : ℕ} (d : c ≡ charactersOf s) (p : start ≡ bodyStart s) where
+  passed : answering (stagesIn s 1 12) ≡ none
+  unfolding refusalOf stages stagesIn bracketsIn brackets those all
+  passed = run-none s 1 12 13 refl a .0
+
+  -- the fifth byte that its header gives
+  abbrev fifth : Characters → ℕ → ℕ
+  fifth x at = normalRepetition (contentsOf (segmentAt x s at) ∷ [])
+
+  -- with that byte the characters are those of its normal form
+  pub characters-are : {r : ℕ} → r ≡ fifth c start → normalCharacters (c .mark) r ≡ formCharacters s
+  unfolding foundBy
+  characters-are e =
+      ap₂ (λ (x : Characters) (r : ℕ). normalCharacters (x .mark) r) d
+      (e ∙ ap₂ fifth d p ∙ repetition-is s passed {found = foundBy 12 s} refl refl)
+
+  -- the contents may be spelled with these
+  pub spellable : {n : Characters} → n ≡ formCharacters s
+      → (length s ≤ mostBytes) × (faultless (tokensAt c s start) ≡ true) × (visible (tokensAt c s start) ≡ true) × (32 ≤ n .repetition)
+  unfolding foundBy normalCharacters sixBytes
+  spellable {n} q =
+      let (short, sound, seen, high) = measurable s passed {found = foundBy 12 s} refl refl in
+      let here = ap₂ (λ (x : Characters) (at : ℕ). tokensAt x s at) d p in
+      let five : n .repetition ≡ fifth (charactersOf s) (bodyStart s) =
+      ap (λ (x : Characters). x .repetition) q ∙ sym (repetition-is s passed {found = foundBy 12 s} refl refl) in
+      (short, ap faultless here ∙ sound, ap visible here ∙ seen, subst (λ (r : ℕ). 32 ≤ r) (sym five) high)
 
 module _ (buffer s : List ℕ) where
   -- a refusal answers, and the buffer is unchanged
@@ -61,17 +86,18 @@ module _ (buffer s : List ℕ) where
     short-refuses {n} e h = refuses (form-short buffer s a (omega (arith, e, h)) ∙ ap (refuse BufferShort) (sym e))
 
     -- the normal form is the advice and what is emitted
-    pub form-is : {c : Characters} {start : ℕ} → c ≡ charactersOf s → start ≡ bodyStart s
-        → normalForm s ≡ adviceOf (normalCharacters (c .mark)) ++ emitted (normalCharacters (c .mark)) nothing (tokensAt c s start)
-    unfolding normalForm interchange contents segmentsOf bodyTokens body tokensAt
-    form-is d p =
-        ap (λ (l : List ℕ). adviceOf (normalCharacters (charactersOf s .mark)) ++ l)
-        (contents-emitted (normalCharacters (charactersOf s .mark)) (charactersOf s) (bodyStart s) (body s)
-        (accepted-ended s a))
+    pub form-is : {c n : Characters} {start : ℕ} → c ≡ charactersOf s → start ≡ bodyStart s → n ≡ formCharacters s
+        → normalForm s ≡ adviceOf n ++ emitted (normalCharacters (c .mark) (n .repetition)) nothing (tokensAt c s start)
+    unfolding normalForm interchange contents segmentsOf bodyTokens body tokensAt normalCharacters sixBytes
+    form-is {c} {n} {start} d p q =
+        let form : Characters = formCharacters s in
+        ap (λ (l : List ℕ). adviceOf form ++ l)
+        (contents-emitted form (charactersOf s) (bodyStart s) (body s) (accepted-ended s a))
         ∙ ap₂
-        (λ (c : Characters) (start : ℕ). adviceOf (normalCharacters (c .mark)) ++ emitted (normalCharacters (c .mark)) nothing (tokensAt c s start))
+        (λ (x : Characters) (at : ℕ). adviceOf form ++ emitted (normalCharacters (x .mark) (form .repetition)) nothing (tokensAt x s at))
         (sym d)
         (sym p)
+        ∙ ap (λ (m : Characters). adviceOf m ++ emitted (normalCharacters (c .mark) (m .repetition)) nothing (tokensAt c s start)) (sym q)
 
     -- it is stored, and the rest of the buffer is as it was
     pub form-stored : {n : ℕ} (c : Characters) (text first after : List ℕ) → n ≡ length (normalForm s) → n ≤ length buffer

@@ -6,11 +6,24 @@ ghost use mathlib.Core.Option.{none};
 ghost use Rattle.stages.specs.Stages.{refusalOf};
 ghost use Rattle.operations.specs.Judge.{figuresOf};
 ghost use Rattle.contracts.specs.Promises.{Normalises};
+ghost use Rattle.normal_form_laws.specs.Forms.{formCharacters};
 use answers::Figures;
 use answers::Judged;
 use answers::Stored;
+use characters::Characters;
 use refusals::Fault;
 use refusals::Refusal;
+
+// The service characters of the normal form of an interchange that Judge accepted, of which it said
+// this: the mark is its own, the fifth byte its version's.
+pub fn form_characters(s: &[u8], i: Figures) -> Characters
+    requires { ⌜ (refusalOf (now s) ≡ none) × (i ≡ figuresOf (now s)) ⌝ }
+    ensures { λ r. ⌜ r ≡ formCharacters (now (s .entry)) ⌝ }
+{
+    let c = i.characters;
+    let repetition = stage_level::normal_repetition(s, c, stage_opening::body_start(s));
+    verbatim::normal_characters(c.mark, repetition)
+}
 
 // Stores the normal form of an interchange that Judge accepted, of which it said this.
 pub fn store_form(buffer: &mut [u8], s: &[u8], i: Figures) -> Stored
@@ -25,9 +38,9 @@ pub fn store_form(buffer: &mut [u8], s: &[u8], i: Figures) -> Stored
         });
     }
     let c = i.characters;
-    let mark = c.mark;
-    storing::put_advice(buffer, verbatim::normal_characters(mark));
-    normal_form_text::put_contents(buffer, 9, s, c, stage_opening::body_start(s));
+    let n = form_characters(s, i);
+    storing::put_advice(buffer, n);
+    normal_form_text::put_contents(buffer, 9, s, c, stage_opening::body_start(s), n.repetition);
     Stored::Length(length)
 }
 

@@ -44,11 +44,11 @@ partIn (offset ∷ []) = (0, 0)
 partIn (offset ∷ size ∷ rest) = (offset, size)
 
 -- Locate's answer names the part that the companion hands back
-pub part-told : (s : List ℕ) (segment element component : ℕ)
-    → partIn (locate s segment element component .values)
-    ≡ (partOffset s segment element component, partLength s segment element component)
+pub part-told : (s : List ℕ) (segment element repeat component : ℕ)
+    → partIn (locate s segment element repeat component .values)
+    ≡ (partOffset s segment element repeat component, partLength s segment element repeat component)
 unfolding locate partOffset partLength given refused maybe partIn
-part-told s segment element component = step (refusalOf s) (located s segment element component)
+part-told s segment element repeat component = step (refusalOf s) (located s segment element repeat component)
   where
     step : (o : Option Refusal) (v : Option Value)
         → partIn (maybe (maybe (given []) (λ x. given (x .offset ∷ x .spelled ∷ [])) v) refused o .values)

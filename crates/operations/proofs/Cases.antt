@@ -12,7 +12,7 @@ use Rattle.characters.specs.Characters.{charactersOf}
 use Rattle.refusals.specs.declared.Refusal.{Refusal}
 use Rattle.values.specs.Tokens.{Segment}
 use Rattle.values.specs.Values.{Value}
-use Rattle.values.specs.Trimming.{isIdle, trimElement, trimSegment, trimmed, valueAt}
+use Rattle.values.specs.Trimming.{isIdle, trimRepeat, trimElement, trimSegment, trimmed, valueAt}
 use Rattle.values.specs.Spelling.{Bytes}
 use Rattle.segments.specs.declared.Kind.the-variants.{Unb, Ung, Unh, Unt, Une, Unz}
 use Rattle.segments.specs.Kinds.{is}
@@ -103,52 +103,61 @@ at-map f (x ∷ xs) zero o e = ap (maybe none (λ x. some (f x))) e
 at-map f (x ∷ xs) (suc n) o e = at-map f xs n o e
 
 module _ (s : List ℕ) (n : ℕ) where
-  -- "by segment, element and component, each from 0 in the contents (element 0 is the tag)": of a tag and an element of two components
-  pub located-are : (g : Segment) (tag v w : Value) → at (segmentsOf s) n ≡ some g → trimmed g ≡ (tag ∷ []) ∷ (v ∷ w ∷ []) ∷ []
-      → (located s n 0 0 ≡ some tag)
-      × (located s n 1 0 ≡ some v)
-      × (located s n 1 1 ≡ some w)
-      × (located s n 0 1 ≡ none)
-      × (located s n 2 0 ≡ none)
+  -- "by segment, element and component, each from 0 in the contents (element 0 is the tag)", and by repeat between the two: of a tag and an
+  -- element of two repeats, the first of two components
+  pub located-are : (g : Segment) (tag u v w : Value) → at (segmentsOf s) n ≡ some g
+      → trimmed g ≡ ((tag ∷ []) ∷ []) ∷ ((u ∷ v ∷ []) ∷ (w ∷ []) ∷ []) ∷ []
+      → (located s n 0 0 0 ≡ some tag)
+      × (located s n 1 0 0 ≡ some u)
+      × (located s n 1 0 1 ≡ some v)
+      × (located s n 1 1 0 ≡ some w)
+      × (located s n 0 0 1 ≡ none)
+      × (located s n 0 1 0 ≡ none)
+      × (located s n 1 1 1 ≡ none)
+      × (located s n 2 0 0 ≡ none)
   unfolding located valueAt at maybe
-  located-are g tag v w e d =
+  located-are g tag u v w e d =
       let found = at-map trimmed (segmentsOf s) n (some g) e in
-      (rw (found, d), rw (found, d), rw (found, d), rw (found, d), rw (found, d))
+      (rw (found, d), rw (found, d), rw (found, d), rw (found, d), rw (found, d), rw (found, d), rw (found, d), rw (found, d))
 
-  pub located-none : (element component : ℕ) → at (segmentsOf s) n ≡ none → located s n element component ≡ none
+  pub located-none : (element repeat component : ℕ) → at (segmentsOf s) n ≡ none → located s n element repeat component ≡ none
   unfolding located maybe
-  located-none element component e = rw (at-map trimmed (segmentsOf s) n none e)
+  located-none element repeat component e = rw (at-map trimmed (segmentsOf s) n none e)
 
 -- ---- value lists
 
 abbrev item : ℕ → Bytes → Item
 item kind value = record { kind = kind; value = value }
 
-module _ (u v w x : Bytes) where
-  -- each value with the kind of what ends it: of `u:v+w'x'`
-  pub closed-are : closed (item 0 u ∷ item 2 v ∷ item 1 w ∷ item 0 x ∷ []) ≡ item 2 u ∷ item 1 v ∷ item 0 w ∷ item 0 x ∷ []
+module _ (u v w x y : Bytes) where
+  -- each value with the kind of what ends it: of `u:v*w+x'y'`
+  pub closed-are : closed (item 0 u ∷ item 2 v ∷ item 3 w ∷ item 1 x ∷ item 0 y ∷ []) ≡ item 2 u ∷ item 3 v ∷ item 1 w ∷ item 0 x ∷ item 0 y ∷ []
   unfolding closed
   closed-are = refl
 
-  -- "0 new segment, 1 new element, 2 next component"
-  pub segments-are : segmentsListed (item 0 u ∷ item 2 v ∷ item 1 w ∷ item 0 x ∷ []) ≡ ((u ∷ v ∷ []) ∷ (w ∷ []) ∷ []) ∷ ((x ∷ []) ∷ []) ∷ []
+  -- "0 new segment, 1 new element, 2 next component", "kind 3 (a next repeat's first value)"
+  pub segments-are : segmentsListed (item 0 u ∷ item 2 v ∷ item 3 w ∷ item 1 x ∷ item 0 y ∷ [])
+      ≡ (((u ∷ v ∷ []) ∷ (w ∷ []) ∷ []) ∷ ((x ∷ []) ∷ []) ∷ []) ∷ (((y ∷ []) ∷ []) ∷ []) ∷ []
   unfolding segmentsListed closed closes rankOf cut onto
   segments-are = refl
 
--- what ends a segment ends its element and its component too, and not the other way round
+-- what ends a segment ends its element, its repeat and its component too, and not the other way round
 pub closes-are : (v : Bytes)
     → (closes 0 (item 0 v) ≡ true)
     × (closes 1 (item 0 v) ≡ true)
     × (closes 0 (item 1 v) ≡ false)
     × (closes 1 (item 1 v) ≡ true)
-    × (closes 1 (item 2 v) ≡ false)
+    × (closes 1 (item 3 v) ≡ false)
+    × (closes 2 (item 3 v) ≡ true)
+    × (closes 2 (item 2 v) ≡ false)
+    × (closes 3 (item 2 v) ≡ true)
 unfolding closes rankOf
-closes-are v = (refl, refl, refl, refl, refl)
+closes-are v = (refl, refl, refl, refl, refl, refl, refl, refl)
 
--- "the trimmed list": of `A:+::'B'`
-pub list-trimmed : trimList ((((65 ∷ []) ∷ [] ∷ []) ∷ ([] ∷ [] ∷ [] ∷ []) ∷ []) ∷ (((66 ∷ []) ∷ []) ∷ []) ∷ [])
-    ≡ (((65 ∷ []) ∷ []) ∷ []) ∷ (((66 ∷ []) ∷ []) ∷ []) ∷ []
-unfolding trimList trimSegment trimElement trimEnd dropEnd unlessIdle isIdle isEmpty
+-- "the trimmed list": of `A:*:+*:'B'`
+pub list-trimmed : trimList (((((65 ∷ []) ∷ [] ∷ []) ∷ ([] ∷ [] ∷ []) ∷ []) ∷ (([] ∷ []) ∷ ([] ∷ [] ∷ []) ∷ []) ∷ []) ∷ ((((66 ∷ []) ∷ []) ∷ []) ∷ []) ∷ [])
+    ≡ ((((65 ∷ []) ∷ []) ∷ []) ∷ []) ∷ ((((66 ∷ []) ∷ []) ∷ []) ∷ []) ∷ []
+unfolding trimList trimSegment trimElement trimRepeat trimEnd dropEnd unlessIdle isIdle isEmpty
 list-trimmed = refl
 
 -- ---- Write

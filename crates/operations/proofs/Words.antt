@@ -13,7 +13,7 @@ use lib.ListN.{length, take, drop, length-append}
 use Rattle.lists.specs.Lists.{any, at, gather, maybe}
 use Rattle.lists.proofs.Tests.{Says, says-eq, says-lt, says-both, says-either, says-not, says-as, says-any, says-maybe, decides, at-within}
 use Rattle.characters.specs.declared.Characters.{Characters}
-use Rattle.characters.specs.Characters.{spelledOut, adviceOf, sixBytes, usable, hasRelease, isService}
+use Rattle.characters.specs.Characters.{spelledOut, adviceOf, sixBytes, usable, hasRelease, hasRepetition, isService}
 use Rattle.characters.proofs.Words.{Usable, usable-says, service-says, six-are}
 use Rattle.refusals.specs.declared.Fault.{Fault}
 use Rattle.refusals.specs.declared.Fault.the-variants.{TooLong, UnusableAdvice, BufferShort, BadList, NeedsRelease}
@@ -27,9 +27,9 @@ use Rattle.stages.specs.Places.{tooLong}
 use Rattle.stages.specs.Stages.{laterStages}
 use Rattle.stages.proofs.Words.{one-at}
 use Rattle.operations.specs.Judge.{shortFor}
-use Rattle.operations.specs.ValueList.{Item, rankOf, listElement, listSegment, listOf, listBytes, tableFrom, listTable, Entry, entries, valueIn, listedIn, segmentsListed, trimList}
+use Rattle.operations.specs.ValueList.{Item, rankOf, listRepeat, listElement, listSegment, listOf, listBytes, tableFrom, listTable, Entry, entries, valueIn, listedIn, segmentsListed, trimList}
 use Rattle.operations.specs.Read.{valueBytes, valueTable}
-use Rattle.operations.specs.Write.{numbersWhere, badTable, brokenStart, badEntry, badList, unusableBytes, lacksRelease, needsRelease, writtenText, writeStages, writeRefusal}
+use Rattle.operations.specs.Write.{numbersWhere, badTable, brokenStart, badEntry, badList, unusableBytes, lacksRelease, lacksRepetition, cannotStand, needsRelease, writtenText, writeStages, writeRefusal}
 pub use Rattle.operations.specs.Notions.{Record, BadTable, Bad, BadRecord, LacksRelease, Nowhere, Lowest}
 
 -- ---- the records of a table
@@ -130,12 +130,12 @@ bad-says : (bytes : List ℕ) (kind start size : ℕ)
     → Says (badEntry bytes (record { kind = kind; start = start; size = size })) (Bad bytes kind start size)
 unfolding badEntry brokenStart valueIn
 bad-says bytes kind start size =
-    let high : Bool = ltb 2 kind in
+    let high : Bool = ltb 3 kind in
     let beyond : Bool = ltb (length bytes) (start + size) in
     let value : List ℕ = take size (drop start bytes) in
     says-as
     (says-either (high || beyond) (eqb kind 0 && leadsBreak value)
-    (says-either high beyond (says-lt 2 kind) (says-lt (length bytes) (start + size)))
+    (says-either high beyond (says-lt 3 kind) (says-lt (length bytes) (start + size)))
     (says-both (eqb kind 0) (leadsBreak value) (says-eq kind 0) (leads-says value)))
     (⊎-elim (⊎-elim inl (λ h. inr (inl h))) (λ h. inr (inr h)))
     (⊎-elim (λ h. inl (inl h)) (⊎-elim (λ h. inl (inr h)) inr))
@@ -159,7 +159,7 @@ fifteen-at bytes table p =
 abbrev pub SixUsable : List ℕ → Type 0
 SixUsable service =
     (c : Characters)
-    × (service ≡ c .component ∷ c .element ∷ c .mark ∷ c .release ∷ c .reserved ∷ c .terminator ∷ [])
+    × (service ≡ c .component ∷ c .element ∷ c .mark ∷ c .release ∷ c .repetition ∷ c .terminator ∷ [])
     × Usable c
 
 pub six-says : (service : List ℕ) → Says (eqb (length service) 6 && usable (sixBytes service)) (SixUsable service)
@@ -171,12 +171,12 @@ six-says service =
     (λ h.
     let c : Characters = h .0 in
     let own : sixBytes service ≡ c =
-    ap sixBytes (h .1) ∙ six-are (c .component) (c .element) (c .mark) (c .release) (c .reserved) (c .terminator) in
+    ap sixBytes (h .1) ∙ six-are (c .component) (c .element) (c .mark) (c .release) (c .repetition) (c .terminator) in
     (ap length (h .1), subst Usable (sym own) (h .2)))
   where
     split : (xs : List ℕ) → length xs ≡ 6
         → let c : Characters = sixBytes xs in
-        xs ≡ c .component ∷ c .element ∷ c .mark ∷ c .release ∷ c .reserved ∷ c .terminator ∷ []
+        xs ≡ c .component ∷ c .element ∷ c .mark ∷ c .release ∷ c .repetition ∷ c .terminator ∷ []
     split [] h = absurd (omega arith)
     split (a ∷ []) h = absurd (omega arith)
     split (a ∷ b ∷ []) h = absurd (omega arith)
@@ -196,36 +196,67 @@ two-at service p =
 
 pub sixteen-at : (service bytes table : List ℕ) (p : ℕ)
     → List·Memᴰ p (needsRelease service bytes table) ↔ LacksRelease (sixBytes service) bytes table p
-unfolding needsRelease lacksRelease valueIn hasRelease
+unfolding needsRelease cannotStand lacksRelease lacksRepetition valueIn hasRelease hasRepetition
 sixteen-at service bytes table p =
-    let c : Characters = sixBytes service in
-    numbers-say (λ e. lacksRelease c (valueIn bytes e))
-    (λ kind start size.
-    (c .release ≡ 32) × ((b : ℕ) × List·Memᴰ b (take size (drop start bytes)) × ((b ≡ c .component) ⊎ (b ≡ c .element) ⊎ (b ≡ c .terminator))))
+    numbers-say (cannotStand c bytes) (λ kind start size. Unreleased (take size (drop start bytes)) ⊎ ((kind ≡ 3) × (c .repetition ≡ 32)))
     (λ kind start size.
     let value : List ℕ = take size (drop start bytes) in
-    says-as
-    (says-both (not (not (eqb (c .release) 32))) (any (isService c) value)
-    (says-not (not (eqb (c .release) 32)) (says-not (eqb (c .release) 32) (says-eq (c .release) 32)))
-    (says-any (isService c) (service-says c) value))
-    (λ h.
-    let space : c .release ≡ 32 = ⊎-elim (λ z. z) (λ z. absurd (h .0 z)) (decides (eqb (c .release) 32) (says-eq (c .release) 32)) in
-    (space, (h .1 .0, h .1 .1, ⊎-elim inl (⊎-elim (λ z. inr (inl z)) (⊎-elim (λ z. inr (inr z)) (λ z. absurd (z .0 space)))) (h .1 .2))))
-    (λ h. (λ z. z (h .0), (h .1 .0, h .1 .1, ⊎-elim inl (⊎-elim (λ z. inr (inl z)) (λ z. inr (inr (inl z)))) (h .1 .2)))))
+    says-either (lacksRelease c value) (lacksRepetition c kind) (unreleased value)
+    (says-both (eqb kind 3) (not (hasRepetition c)) (says-eq kind 3) (space-says (c .repetition))))
     table p
+  where
+    c : Characters
+    c = sixBytes service
+
+    Unreleased : List ℕ → Type 0
+    Unreleased value =
+        (c .release ≡ 32)
+        × ((b : ℕ)
+        × List·Memᴰ b value
+        × ((b ≡ c .component) ⊎ (b ≡ c .element) ⊎ (b ≡ c .terminator) ⊎ ((c .repetition ≡ 32 → ⊥) × (b ≡ c .repetition))))
+
+    -- a space means "none"
+    space-says : (x : ℕ) → Says (not (not (eqb x 32))) (x ≡ 32)
+    space-says x = step (eqb x 32) (says-eq x 32)
+      where
+        step : (t : Bool) → Says t (x ≡ 32) → Says (not (not t)) (x ≡ 32)
+        step true s = s
+        step false s = s
+
+    unreleased : (value : List ℕ) → Says (lacksRelease c value) (Unreleased value)
+    unreleased value =
+        says-as (says-both (not (hasRelease c)) (any (isService c) value) (space-says (c .release)) (says-any (isService c) (service-says c) value))
+        (λ h. (
+          h .0,
+          (
+            h .1 .0,
+            h .1 .1,
+            ⊎-elim inl (⊎-elim (λ z. inr (inl z))
+                (⊎-elim (λ z. inr (inr (inl z))) (⊎-elim (λ z. inr (inr (inr z))) (λ z. absurd (z .0 (h .0)))))) (h .1 .2),
+          ),
+        ))
+        (λ h. (
+          h .0,
+          (
+            h .1 .0,
+            h .1 .1,
+            ⊎-elim inl (⊎-elim (λ z. inr (inl z)) (⊎-elim (λ z. inr (inr (inl z))) (λ z. inr (inr (inr (inl z)))))) (h .1 .2),
+          ),
+        ))
 
 -- ---- the value list that Read gives
 
--- "kind (0 new segment, 1 new element, 2 next component)"
-pub kinds-are : (u v w x : Bytes)
-    → listOf (((u ∷ v ∷ []) ∷ (w ∷ []) ∷ []) ∷ ((x ∷ []) ∷ []) ∷ [])
+-- "kind (0 new segment, 1 new element, 2 next component)", "kind 3 (a next repeat's first value)"
+pub kinds-are : (u v w x y : Bytes)
+    → listOf ((((u ∷ v ∷ []) ∷ (w ∷ []) ∷ []) ∷ ((x ∷ []) ∷ []) ∷ []) ∷ (((y ∷ []) ∷ []) ∷ []) ∷ [])
     ≡ record { kind = 0; value = u }
     ∷ record { kind = 2; value = v }
-    ∷ record { kind = 1; value = w }
-    ∷ record { kind = 0; value = x }
+    ∷ record { kind = 3; value = w }
+    ∷ record { kind = 1; value = x }
+    ∷ record { kind = 0; value = y }
     ∷ []
-unfolding listOf gather listSegment listElement
-kinds-are u v w x = refl
+unfolding listOf gather listSegment listElement listRepeat
+kinds-are u v w x y = refl
 
 -- "values .. end to end"
 pub bytes-are : (l : Item) (ls : List Item) → (listBytes [] ≡ []) × (listBytes (l ∷ ls) ≡ l .value ++ listBytes ls)
@@ -277,8 +308,8 @@ unfolding valueBytes valueTable
 read-list s = (refl, refl)
 
 -- "always an advice, then the trimmed list"
-pub text-is : (component element mark release reserved terminator : ℕ) (bytes table : List ℕ)
-    → writtenText (component ∷ element ∷ mark ∷ release ∷ reserved ∷ terminator ∷ []) bytes table
+pub text-is : (component element mark release repetition terminator : ℕ) (bytes table : List ℕ)
+    → writtenText (component ∷ element ∷ mark ∷ release ∷ repetition ∷ terminator ∷ []) bytes table
     ≡ 85
     ∷ 78
     ∷ 65
@@ -286,13 +317,13 @@ pub text-is : (component element mark release reserved terminator : ℕ) (bytes 
     ∷ element
     ∷ mark
     ∷ release
-    ∷ reserved
+    ∷ repetition
     ∷ terminator
     ∷ spell
-    (record { component = component; element = element; mark = mark; release = release; reserved = reserved; terminator = terminator })
+    (record { component = component; element = element; mark = mark; release = release; repetition = repetition; terminator = terminator })
     (trimList (segmentsListed (listedIn bytes table)))
 unfolding writtenText interchange adviceOf spelledOut sixBytes
-text-is component element mark release reserved terminator bytes table = refl
+text-is component element mark release repetition terminator bytes table = refl
 
 -- ---- "Writer: 15, 2, 16, 1, 14"
 
@@ -384,7 +415,8 @@ module _ (service bytes table output : List ℕ) where
           write-later h =
               past1 ∙ leaves-it BufferShort (placeIf (ltb (length output) (length text)) (length text)) (laterStages text) At14 fourteen-at h
 
--- kind 0 begins what a terminator ends, 1 what an element separator ends, 2 what a component separator ends
-pub ranks-are : (rankOf 0 ≡ 0) × (rankOf 1 ≡ 1) × (rankOf 2 ≡ 2)
+-- kind 0 begins what a terminator ends, 1 what an element separator ends, 3 what a repetition separator ends, 2 what a component separator
+-- ends
+pub ranks-are : (rankOf 0 ≡ 0) × (rankOf 1 ≡ 1) × (rankOf 3 ≡ 2) × (rankOf 2 ≡ 3)
 unfolding rankOf
-ranks-are = (refl, refl, refl)
+ranks-are = (refl, refl, refl, refl)

@@ -1,4 +1,4 @@
--- Paper 01, "Operations": Locate and its companion. Assumes nothing.
+-- Paper 01, "Operations": Locate and its companion; request 2026-10: "value lists gain kind 3 .., locate a repeat number". Assumes nothing.
 use Prim.Native.Nat.{ℕ}
 use mathlib.Core.List.{List, [], _∷_, map}
 use mathlib.Core.Option.{Option, none, some}
@@ -10,10 +10,10 @@ use Rattle.stages.specs.Contents.{segmentsOf}
 use Rattle.stages.specs.Stages.{refusalOf}
 use Rattle.answers.specs.Answers.{Answer, given, refused}
 
-module _ (s : List ℕ) (segment element component : ℕ) where
-  -- the value "by segment, element and component, each from 0 in the contents (element 0 is the tag)"
+module _ (s : List ℕ) (segment element repeat component : ℕ) where
+  -- the value "by segment, element", repeat "and component, each from 0 in the contents (element 0 is the tag)"
   unfoldable pub located : Option Value
-  located = maybe none (λ elements. valueAt elements element component) (at (map trimmed (segmentsOf s)) segment)
+  located = maybe none (λ elements. valueAt elements element repeat component) (at (map trimmed (segmentsOf s)) segment)
 
   -- "offset and spelled length in the input, or "absent", or a refusal"
   unfoldable pub locate : Answer

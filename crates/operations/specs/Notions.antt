@@ -20,22 +20,27 @@ abbrev pub BadTable : List ℕ → Type 0
 BadTable table =
     (96000 < length table) ⊎ (length table % 3 ≡ 0 → ⊥) ⊎ ((kind : ℕ) × (at table 0 ≡ some kind) × (kind ≡ 0 → ⊥))
 
--- "kind above 2; start plus length above the number of bytes"; request 2026-01: "No segment of a list may begin with a break"
+-- request 2026-10: "kind above 3"; "start plus length above the number of bytes"; request 2026-01: "No segment of a list may begin with a
+-- break"
 abbrev pub Bad : List ℕ → ℕ → ℕ → ℕ → Type 0
-Bad bytes kind start size = (2 < kind) ⊎ (length bytes < start + size) ⊎ ((kind ≡ 0) × LeadsBreak (take size (drop start bytes)))
+Bad bytes kind start size = (3 < kind) ⊎ (length bytes < start + size) ⊎ ((kind ≡ 0) × LeadsBreak (take size (drop start bytes)))
 
 abbrev pub BadRecord : List ℕ → List ℕ → ℕ → Type 0
 BadRecord bytes table n = (kind : ℕ) × (start : ℕ) × (size : ℕ) × Record table n kind start size × Bad bytes kind start size
 
--- 16: "a value holds a service character and there is no release"
+-- 16: "a value holds a service character and there is no release"; request 2026-10: "16 also at a kind 3 record where the writer's fifth
+-- byte is a space"
 abbrev pub LacksRelease : Characters → List ℕ → List ℕ → ℕ → Type 0
 LacksRelease c bytes table n =
     (kind : ℕ)
     × (start : ℕ)
     × (size : ℕ)
     × Record table n kind start size
-    × ((c .release ≡ 32)
-    × ((b : ℕ) × List·Memᴰ b (take size (drop start bytes)) × ((b ≡ c .component) ⊎ (b ≡ c .element) ⊎ (b ≡ c .terminator))))
+    × (((c .release ≡ 32)
+    × ((b : ℕ)
+    × List·Memᴰ b (take size (drop start bytes))
+    × ((b ≡ c .component) ⊎ (b ≡ c .element) ⊎ (b ≡ c .terminator) ⊎ ((c .repetition ≡ 32 → ⊥) × (b ≡ c .repetition)))))
+    ⊎ ((kind ≡ 3) × (c .repetition ≡ 32)))
 
 -- a refusal is met at no place; or at this one, and at none that is lower
 abbrev pub Nowhere : (ℕ → Type 0) → Type 0

@@ -1,4 +1,4 @@
--- Paper 01, "Operations": Write from a value list and six service bytes. Assumes nothing.
+-- Paper 01, "Operations": Write from a value list and six service bytes; request 2026-10: kind 3. Assumes nothing.
 use Prim.Native.Nat.{ℕ, suc, _+_, _%_}
 use mathlib.Core.Bool.{Bool, true, false, not, _&&_, _||_}
 use mathlib.Core.List.{List, [], _∷_, _++_}
@@ -7,7 +7,7 @@ use lib.ListN.{length, replicate}
 use lib.Dec.{eqb, ltb}
 use Rattle.lists.specs.Lists.{any, at, maybe}
 use Rattle.characters.specs.declared.Characters.{Characters}
-use Rattle.characters.specs.Characters.{sixBytes, usable, hasRelease, isService}
+use Rattle.characters.specs.Characters.{sixBytes, usable, hasRelease, hasRepetition, isService}
 use Rattle.refusals.specs.declared.Fault.the-variants.{TooLong, UnusableAdvice, BadList, NeedsRelease}
 use Rattle.refusals.specs.declared.Refusal.{Refusal}
 use Rattle.refusals.specs.Refusals.{Stage, met, placeIf, answering}
@@ -36,9 +36,9 @@ badTable table =
 unfoldable pub brokenStart : List ℕ → Entry → Bool
 brokenStart bytes e = eqb (e .kind) 0 && leadsBreak (valueIn bytes e)
 
--- "kind above 2; start plus length above the number of bytes"
+-- "kind above 2; start plus length above the number of bytes"; request 2026-10: "15 for a kind above 3 instead of 2"
 unfoldable pub badEntry : List ℕ → Entry → Bool
-badEntry bytes e = ltb 2 (e .kind) || ltb (length bytes) (e .start + e .size) || brokenStart bytes e
+badEntry bytes e = ltb 3 (e .kind) || ltb (length bytes) (e .start + e .size) || brokenStart bytes e
 
 -- 15: "0 for the first two, else lowest such record number"
 unfoldable pub badList : List ℕ → List ℕ → List ℕ
@@ -52,10 +52,17 @@ unusableBytes service = placeIf (not (eqb (length service) 6 && usable (sixBytes
 unfoldable pub lacksRelease : Characters → List ℕ → Bool
 lacksRelease c value = not (hasRelease c) && any (isService c) value
 
+-- request 2026-10: "16 also at a kind 3 record where the writer's fifth byte is a space"
+unfoldable pub lacksRepetition : Characters → ℕ → Bool
+lacksRepetition c kind = eqb kind 3 && not (hasRepetition c)
+
+unfoldable pub cannotStand : Characters → List ℕ → Entry → Bool
+cannotStand c bytes e = lacksRelease c (valueIn bytes e) || lacksRepetition c (e .kind)
+
 module _ (service bytes table : List ℕ) where
   -- 16: "lowest such record number"
   unfoldable pub needsRelease : List ℕ
-  needsRelease = numbersWhere (λ e. lacksRelease (sixBytes service) (valueIn bytes e)) 0 (entries table)
+  needsRelease = numbersWhere (cannotStand (sixBytes service) bytes) 0 (entries table)
 
   -- "always an advice, then the trimmed list"
   unfoldable pub writtenText : List ℕ

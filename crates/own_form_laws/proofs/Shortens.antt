@@ -1,14 +1,16 @@
 -- Trimming only shortens what is spelled, and leaves it as long only where it takes nothing. Assumes nothing.
-use Prim.Native.Nat.{ℕ, suc, _+_, _≤_}
-use mathlib.Core.Path.{_≡_, refl, ap, ap₂, _∙_}
+use Prim.Native.Nat.{ℕ, zero, suc, _+_, _≤_}
+use mathlib.Core.Path.{_≡_, refl, sym, ap, ap₂, _∙_}
 use mathlib.Core.Bool.{Bool, true, false}
 use mathlib.Core.List.{List, [], _∷_, _++_, map}
 use native.Mathlib.Omega.{arith}
 use lib.ListN.{length, length-append}
 use Rattle.lists.specs.Lists.{isEmpty, unlessIdle, dropEnd, trimEnd, eachLedBy, joined, gather}
+use Rattle.nesting.specs.Nesting.{Nest, spelled, idle, trim}
+use Rattle.nesting_laws.proofs.Shape.{trim-step}
 use Rattle.characters.specs.declared.Characters.{Characters}
-use Rattle.values.specs.Spelling.{SegmentList, spellValue, spellElement, spellSegment, spell}
-use Rattle.values.specs.Trimming.{isIdle, trimElement, trimSegment}
+use Rattle.values.specs.Spelling.{SegmentList, separatorOf, spellValue, spellRepeat, spellElement, spellSegment, spell}
+use Rattle.values.specs.Trimming.{trimRepeat, trimElement, trimSegment}
 use Rattle.operations.specs.ValueList.{trimList}
 
 -- what is spelled of g x is at most as long as what is spelled of x, and as long only where g leaves x as it is
@@ -110,27 +112,39 @@ module _ {A : Type 0} where
             (led-each .onlyWhere (omega (arith, first .atMost, led-each .atMost, before, after, was, is)));
       }
 
--- ---- an element, a segment, a list of segments
+-- both
+both-shorten : {A : Type 0} (f : A → List ℕ) (x : ℕ) (g : A → A) → ((y : A) → Shortens f g y) → (t : A → Bool) (xs : List A)
+    → Shortens (λ ys. joined x (map f ys)) (λ ys. trimEnd t (map g ys)) xs
+both-shorten f x g h t xs =
+    shortens-both (λ ys. joined x (map f ys)) (map g) (trimEnd t) xs (each-shortens f x g h xs) (trim-shortens f x t (map g xs))
+
+-- ---- a part of any depth, a list of segments
 
 module _ (c : Characters) where
-  element-shortens : (element : List (List ℕ)) → Shortens (spellElement c) (trimElement isEmpty) element
-  unfolding spellElement trimElement
-  element-shortens element = trim-shortens (spellValue c) (c .component) isEmpty element
+  abbrev spelt : (n : ℕ) → Nest (List ℕ) n → List ℕ
+  spelt n x = spelled (separatorOf c) (spellValue c) n x
 
-  segment-shortens : (segment : List (List (List ℕ))) → Shortens (spellSegment c) (trimSegment isEmpty) segment
-  unfolding spellSegment trimSegment
-  segment-shortens segment =
-      let pieces : List (List (List ℕ)) → List ℕ = λ ys. joined (c .element) (map (spellElement c) ys) in
-      let shorter : Shortens pieces (λ y. trimEnd (isIdle isEmpty) (map (trimElement isEmpty) y)) segment =
-      shortens-both pieces (map (trimElement isEmpty)) (trimEnd (isIdle isEmpty)) segment
-      (each-shortens (spellElement c) (c .element) (trimElement isEmpty) element-shortens segment)
-      (trim-shortens (spellElement c) (c .element) (isIdle isEmpty) (map (trimElement isEmpty) segment)) in
-      let ended : (ys : List (List (List ℕ))) → length (pieces ys ++ c .terminator ∷ []) ≡ length (pieces ys) + 1 =
-      λ ys. length-append (pieces ys) (c .terminator ∷ []) in
+  part-shortens : (n : ℕ) (x : Nest (List ℕ) n) → Shortens (spelt n) (trim (List ℕ) isEmpty n) x
+  part-shortens zero v = record { atMost = omega arith; onlyWhere = λ e. refl }
+  part-shortens (suc n) xs =
+      let shorter = both-shorten (spelt n) (separatorOf c n) (trim (List ℕ) isEmpty n) (part-shortens n) (idle (List ℕ) isEmpty n) xs in
+      let step = trim-step (List ℕ) isEmpty n xs in
       record {
-        atMost = omega (arith, shorter .atMost, ended segment, ended (trimEnd (isIdle isEmpty) (map (trimElement isEmpty) segment)));
+        atMost = omega (arith, shorter .atMost, ap (λ (y : Nest (List ℕ) (suc n)). length (spelt (suc n) y)) step);
         onlyWhere = λ e.
-            shorter .onlyWhere (omega (arith, ended segment, ended (trimEnd (isIdle isEmpty) (map (trimElement isEmpty) segment))));
+            step ∙ shorter .onlyWhere (sym (ap (λ (y : Nest (List ℕ) (suc n)). length (spelt (suc n) y)) step) ∙ e);
+      }
+
+  segment-shortens : (segment : List (List (List (List ℕ)))) → Shortens (spellSegment c) (trimSegment isEmpty) segment
+  unfolding spellSegment spellElement spellRepeat trimSegment trimElement trimRepeat
+  segment-shortens segment =
+      let shorter = part-shortens 3 segment in
+      let ended : (ys : List (List (List (List ℕ)))) → length (spelt 3 ys ++ c .terminator ∷ []) ≡ length (spelt 3 ys) + 1 =
+      λ ys. length-append (spelt 3 ys) (c .terminator ∷ []) in
+      let trimmed : List (List (List (List ℕ))) = trim (List ℕ) isEmpty 3 segment in
+      record {
+        atMost = omega (arith, shorter .atMost, ended segment, ended trimmed);
+        onlyWhere = λ e. shorter .onlyWhere (omega (arith, ended segment, ended trimmed));
       }
 
   -- what is spelled of a trimmed list is at most as long as what is spelled of the list, and as long only where nothing was trimmed

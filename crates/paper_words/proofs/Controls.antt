@@ -150,7 +150,7 @@ module _ (past : List Segment) (g : Segment) where
   -- the reference of the trailer is the header's
   abbrev Agreed : Kind → ℕ → Type 0
   Agreed header position =
-      (n : Nearest header past) × (v : Bytes) × (at (contentsOf g) 2 ≡ some (v ∷ [])) × (at (contentsOf (n .1)) position ≡ some (v ∷ []))
+      (n : Nearest header past) × (v : Bytes) × (at (contentsOf g) 2 ≡ some ((v ∷ []) ∷ [])) × (at (contentsOf (n .1)) position ≡ some ((v ∷ []) ∷ []))
 
   agreed : {trailer header : Kind} {position : ℕ} → kindOf g ≡ trailer → Closes trailer header position → controlRule g ≡ true
       → referenceDiffers past g ≡ false → Agreed header position
@@ -172,7 +172,7 @@ module _ (past : List Segment) (g : Segment) where
       by-value v none e = absurd (true≢false e)
       by-value v (some w) e = ap some (sym (says-same v w .0 (not-false (same v w) e)))
 
-      by-header : (v : Bytes) → at (contentsOf g) 2 ≡ some (v ∷ []) → positionsOf header .reference ≡ position
+      by-header : (v : Bytes) → at (contentsOf g) 2 ≡ some ((v ∷ []) ∷ []) → positionsOf header .reference ≡ position
           → (o : Option Segment) → first (λ x. is header (kindOf x)) past ≡ o → maybe none referenceOf o ≡ some v → Agreed header position
       by-header v stands place none e q = absurd (Option·none-ne-some v q)
       by-header v stands place (some x) e q =
@@ -196,7 +196,7 @@ module _ (past : List Segment) (g : Segment) where
 
 -- the count of the trailer is right
 abbrev Right : List Segment → Segment → Type 0
-Right past g = (v : Bytes) × (at (contentsOf g) 1 ≡ some (v ∷ [])) × Counts past (kindOf g) (decimal v)
+Right past g = (v : Bytes) × (at (contentsOf g) 1 ≡ some ((v ∷ []) ∷ [])) × Counts past (kindOf g) (decimal v)
 
 module _ (past : List Segment) (g : Segment) where
   -- a count that is not wrong
@@ -210,7 +210,7 @@ module _ (past : List Segment) (g : Segment) where
       let ((v, stands, least, most, digits), reference) = controlled g .0 rule .2 among in
       (v, stands, by v stands (kindOf g) refl among)
     where
-      by : (v : Bytes) → at (contentsOf g) 1 ≡ some (v ∷ []) → (kind : Kind) → kindOf g ≡ kind → List·Memᴰ kind trailers
+      by : (v : Bytes) → at (contentsOf g) 1 ≡ some ((v ∷ []) ∷ []) → (kind : Kind) → kindOf g ≡ kind → List·Memᴰ kind trailers
           → Counts past kind (decimal v)
       by v stands kind k (List·Memᴰ·head e) =
           let own : kindOf g ≡ Unt = k ∙ e in

@@ -42,7 +42,7 @@ use Rattle.paper_words.specs.PaperWords.{Framed, Inside, Message, Group,
 -- ---- the sections of a message
 
 -- the section that a UNS names, by its letter
-detail : (g : Segment) → (at (contentsOf g) 1 ≡ some ((68 ∷ []) ∷ [])) ↔ (sectionOf g ≡ Detail)
+detail : (g : Segment) → (at (contentsOf g) 1 ≡ some (((68 ∷ []) ∷ []) ∷ [])) ↔ (sectionOf g ≡ Detail)
 unfolding isSection
 detail g = (λ e. named (sectionOf g) (detail-says g .1 e), λ e. detail-says g .0 (ap (isSection Detail) e))
   where
@@ -51,7 +51,7 @@ detail g = (λ e. named (sectionOf g) (detail-says g .1 e), λ e. detail-says g 
     named Detail h = refl
     named Summary h = absurd (false≢true h)
 
-summary : (g : Segment) → (at (contentsOf g) 1 ≡ some ((83 ∷ []) ∷ [])) ↔ (sectionOf g ≡ Summary)
+summary : (g : Segment) → (at (contentsOf g) 1 ≡ some (((83 ∷ []) ∷ []) ∷ [])) ↔ (sectionOf g ≡ Summary)
 unfolding isSection
 summary g = (λ e. named (sectionOf g) (summary-says g .1 e), λ e. summary-says g .0 (ap (isSection Summary) e))
   where

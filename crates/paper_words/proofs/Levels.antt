@@ -22,7 +22,7 @@ use Rattle.levels.proofs.Words.{in-level-says, names-level, level-names, level-
 use Rattle.stages.specs.Contents.{bodyTokens, segmentsOf, contents}
 use Rattle.stages.specs.Places.{noOpening, foreignLevel, placeOutside, outsideLevel}
 use Rattle.stages.proofs.Words.{seven-at, eight-at}
-use Rattle.paper_words.specs.PaperWords.{Level}
+use Rattle.paper_words.specs.PaperWords.{Elements, Level}
 use Rattle.paper_words.proofs.Meanings.{OutsideOf, Meant}
 
 -- ---- the first segment
@@ -48,10 +48,10 @@ some-token c place b bs e = step (role c b) e
 
 module _ (s : List ℕ) where
   -- the first of the contents are those of the first segment
-  abbrev First : List (List Bytes) → Type 0
+  abbrev First : Elements → Type 0
   First unb = (g : Segment) × (rest : List Segment) × (segmentsOf s ≡ g ∷ rest) × (contentsOf g ≡ unb)
 
-  first-is : (unb : List (List Bytes)) → (at (contents s) 0 ≡ some unb) ↔ First unb
+  first-is : (unb : Elements) → (at (contents s) 0 ≡ some unb) ↔ First unb
   unfolding contents at
   first-is unb = (
     there (segmentsOf s) refl,
@@ -81,11 +81,11 @@ module _ (s : List ℕ) where
       (ap (tokens (charactersOf s) (bodyStart s)) (sym k) ∙ no-tokens e)
 
   -- what it names
-  own : (g : Segment) (rest : List Segment) → segmentsOf s ≡ g ∷ rest → (letter : ℕ) → Level s letter → Names (contentsOf g) letter
+  own : (g : Segment) (rest : List Segment) → segmentsOf s ≡ g ∷ rest → (letter : ℕ) → Level s letter → Names (charactersOf s) (contentsOf g) letter
   own g rest e letter (unb, k, n) =
       let (h, more, split, same) = first-is unb .0 k in
       let first : h ≡ g = head-eq-of-cons-eq (sym split ∙ e) in
-      subst (λ (c : List (List Bytes)). Names c letter) (sym same ∙ ap contentsOf first) n
+      subst (λ (c : Elements). Names (charactersOf s) c letter) (sym same ∙ ap contentsOf first) n
 
   -- ---- 7
 
@@ -97,7 +97,7 @@ module _ (s : List ℕ) where
       by [] e = absurd (begun e)
       by (g ∷ rest) e =
           let exactly = seven-at s p g rest e in
-          let named : (letter : ℕ) → Names (contentsOf g) letter → Level s letter =
+          let named : (letter : ℕ) → Names (charactersOf s) (contentsOf g) letter → Level s letter =
           λ letter n. (contentsOf g, first-is (contentsOf g) .1 (g, rest, e, refl), n)
           in (
             λ m.
@@ -110,7 +110,7 @@ module _ (s : List ℕ) where
 
   -- by the level that UNB names
   outside : (p m : ℕ) (Holds : ℕ → Type 0) → ((b : ℕ) → Says (inLevel m b) (Holds b))
-      → (g : Segment) (rest : List Segment) → segmentsOf s ≡ g ∷ rest → levelOf g ≡ some m
+      → (g : Segment) (rest : List Segment) → segmentsOf s ≡ g ∷ rest → levelOf (charactersOf s) g ≡ some m
       → List·Memᴰ p (outsideLevel s) ↔ ((b : ℕ) × (from : ℕ) × List·Memᴰ (byte b from p) (bodyTokens s) × (Holds b → ⊥))
   outside p m Holds says g rest e named =
       let exactly = eight-at s p g rest e m named in (
@@ -125,31 +125,31 @@ module _ (s : List ℕ) where
     where
       there : (gs : List Segment) → segmentsOf s ≡ gs → List·Memᴰ p (outsideLevel s) → Meant s OutsideLevel p
       there [] e m = absurd (List·Memᴰ·not-nil (subst (λ (ts : List Token). List·Memᴰ p (gather (placeOutside s) ts)) (no-tokens e) m))
-      there (g ∷ rest) e m = by (levelOf g) refl
+      there (g ∷ rest) e m = by (levelOf (charactersOf s) g) refl
         where
           first : at (contents s) 0 ≡ some (contentsOf g)
           first = first-is (contentsOf g) .1 (g, rest, e, refl)
 
-          by : (o : Option ℕ) → levelOf g ≡ o → Meant s OutsideLevel p
+          by : (o : Option ℕ) → levelOf (charactersOf s) g ≡ o → Meant s OutsideLevel p
           by none h =
-              let (a, b) = level-none g .0 h in
+              let (a, b) = level-none (charactersOf s) g .0 h in
               absurd (List·Memᴰ·not-nil (subst (List·Memᴰ (bodyStart s)) clear (seven-at s (bodyStart s) g rest e .1 (a, b, refl))))
           by (some l) h =
               ⊎-elim
-              (λ (k : (l ≡ 2) × Names (contentsOf g) 65).
+              (λ (k : (l ≡ 2) × Names (charactersOf s) (contentsOf g) 65).
               inl ((contentsOf g, first, k .1), outside p 2 LevelA (λ b. in-level-says b .0) g rest e (h ∙ ap some (k .0)) .0 m))
-              (λ (k : (l ≡ 1) × Names (contentsOf g) 66).
+              (λ (k : (l ≡ 1) × Names (charactersOf s) (contentsOf g) 66).
               inr ((contentsOf g, first, k .1), outside p 1 LevelB (λ b. in-level-says b .1) g rest e (h ∙ ap some (k .0)) .0 m))
-              (level-names g l h)
+              (level-names (charactersOf s) g l h)
 
       level-a : OutsideOf s 65 LevelA p → List·Memᴰ p (outsideLevel s)
       level-a ((unb, e, n), k) =
           let (g, rest, split, own) = first-is unb .0 e in
           outside p 2 LevelA (λ b. in-level-says b .0) g rest split
-          (names-level g .0 (subst (λ (c : List (List Bytes)). Names c 65) (sym own) n)) .1 k
+          (names-level (charactersOf s) g .0 (subst (λ (c : Elements). Names (charactersOf s) c 65) (sym own) n)) .1 k
 
       level-b : OutsideOf s 66 LevelB p → List·Memᴰ p (outsideLevel s)
       level-b ((unb, e, n), k) =
           let (g, rest, split, own) = first-is unb .0 e in
           outside p 1 LevelB (λ b. in-level-says b .1) g rest split
-          (names-level g .1 (subst (λ (c : List (List Bytes)). Names c 66) (sym own) n)) .1 k
+          (names-level (charactersOf s) g .1 (subst (λ (c : Elements). Names (charactersOf s) c 66) (sym own) n)) .1 k

@@ -44,13 +44,13 @@ module _ (before : List Segment) (g : Segment) where
       (header : Kind)
       × (position : ℕ)
       × Closes (kindOf g) header position
-      × ((n : Nearest header (reverse before)) (v : Bytes) → at (contentsOf g) 2 ≡ some (v ∷ [])
-      → at (contentsOf (n .1)) position ≡ some (v ∷ []) → ⊥)
+      × ((n : Nearest header (reverse before)) (v : Bytes) → at (contentsOf g) 2 ≡ some ((v ∷ []) ∷ [])
+      → at (contentsOf (n .1)) position ≡ some ((v ∷ []) ∷ []) → ⊥)
 
   abbrev pub CountFails : Type 0
   CountFails =
       List·Memᴰ (kindOf g) (Unt ∷ Une ∷ Unz ∷ [])
-      × ((v : Bytes) → at (contentsOf g) 1 ≡ some (v ∷ []) → Counts (reverse before) (kindOf g) (decimal v) → ⊥)
+      × ((v : Bytes) → at (contentsOf g) 1 ≡ some ((v ∷ []) ∷ []) → Counts (reverse before) (kindOf g) (decimal v) → ⊥)
 
 -- ---- of an input
 

@@ -102,7 +102,7 @@ six-apart (a ∷ b ∷ c ∷ []) = inl (omega arith)
 six-apart (a ∷ b ∷ c ∷ d ∷ []) = inl (omega arith)
 six-apart (a ∷ b ∷ c ∷ d ∷ e ∷ []) = inl (omega arith)
 six-apart (a ∷ b ∷ c ∷ d ∷ e ∷ f ∷ rest) =
-    inr (record { component = a; element = b; mark = c; release = d; reserved = e; terminator = f }, rest, refl)
+    inr (record { component = a; element = b; mark = c; release = d; repetition = e; terminator = f }, rest, refl)
 
 -- what an input begins with: no advice, one that is too short, or one of six bytes
 data Beginning : List ℕ → Type 0 where

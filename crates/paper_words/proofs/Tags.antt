@@ -6,7 +6,7 @@ use mathlib.Core.Logic.{_⊎_, inl, inr, ⊎-elim, _↔_}
 use mathlib.Core.List.{List, [], _∷_, _++_, map, cons-ne-nil, List·Memᴰ, List·Memᴰ·head, List·Memᴰ·tail, List·Memᴰ·not-nil, List·Memᴰ·cases-cons}
 use native.Mathlib.Omega.{arith}
 use lib.ListN.{length}
-use Rattle.lists.specs.Lists.{text, same, begins, isEmpty, all, any, lastOr}
+use Rattle.lists.specs.Lists.{text, same, begins, isEmpty, isSingle, all, any, lastOr}
 use Rattle.lists.proofs.Texts.{and-left, and-right, and-both}
 use Rattle.lists.proofs.Tests.{Says, says-both, says-either, says-not, says-as, says-same, says-begins, says-any, decides, last-stands, last-is, never-empty}
 use Rattle.refusals.specs.declared.Fault.the-variants.{UnendedSegment, BrokenTag}
@@ -21,11 +21,11 @@ use Rattle.segments.specs.Kinds.{index, is, kindNamed}
 use Rattle.segments.specs.Tags.{isTag, tagRule}
 use Rattle.segments.proofs.Words.{kinds-are, user-kind, is-says, tag-says}
 use Rattle.spelling_laws.specs.Bodies.{wordsOf}
-use Rattle.normal_form_laws.proofs.Tags.{firstValue, isSingle, lone, tagStands, tags-words}
+use Rattle.normal_form_laws.proofs.Tags.{foremost, firstValue, tagStands, tags-words}
 use Rattle.stages.specs.Contents.{bodyTokens}
 use Rattle.stages.specs.Places.{startsWhere, unendedSegment, brokenTags}
 use Rattle.stages.proofs.Words.{five-at, six-at}
-use Rattle.paper_words.specs.PaperWords.{Begins, serviceTags, Tagged}
+use Rattle.paper_words.specs.PaperWords.{Elements, Begins, serviceTags, Tagged}
 use Rattle.paper_words.proofs.Meanings.{TagFails, Meant}
 
 -- ---- 5
@@ -119,35 +119,44 @@ Asked tag figures =
     ((length tag ≡ 3) × ((b : ℕ) → List·Memᴰ b tag → ((65 ≤ b) × (b ≤ 90)) ⊎ ((48 ≤ b) × (b ≤ 57))))
     × (Begins (text "UN") tag → List·Memᴰ tag serviceTags × (figures ≡ []))
 
-apart : {words : List (List Bytes)} → Tagged words
-    → (tag : Bytes) × (figures : List Bytes) × (elements : List (List Bytes)) × (words ≡ (tag ∷ figures) ∷ elements) × Asked tag figures
+apart : {words : Elements} → Tagged words
+    → (tag : Bytes) × (figures : List Bytes) × (elements : Elements) × (words ≡ ((tag ∷ figures) ∷ []) ∷ elements) × Asked tag figures
 apart (Tagged.tagged tag figures elements size bytes service) = (tag, figures, elements, refl, ((size, bytes), service))
 
-asked-says : (tag : Bytes) (figures : List Bytes) (elements : List (List Bytes))
-    → Says (tagStands ((tag ∷ figures) ∷ elements)) (Asked tag figures)
-unfolding tagStands firstValue lone isSingle
+-- of a tag element of one repeat
+asked-says : (tag : Bytes) (figures : List Bytes) (elements : Elements)
+    → Says (tagStands (((tag ∷ figures) ∷ []) ∷ elements)) (Asked tag figures)
+unfolding tagStands firstValue foremost isSingle isEmpty
 asked-says tag figures elements =
     let un : Bool = begins (text "UN") tag in
     let service : Bool = not (is User (kindNamed tag)) in
-    says-both (isTag tag) (not un || (service && isEmpty figures)) (tag-says tag)
+    says-both (isTag tag && true) (not un || (service && isEmpty figures))
+    (λ e. tag-says tag .0 (and-left (isTag tag) true e), λ h. and-both (isTag tag) true (tag-says tag .1 h) refl)
     (says-as
     (says-either (not un) (service && isEmpty figures) (says-not un (says-begins (text "UN") tag))
     (says-both service (isEmpty figures) (service-says tag) (empty-says figures)))
     (λ h b. ⊎-elim (λ n. absurd (n b)) (λ k. k) h)
     (λ h. ⊎-elim (λ b. inr (h b)) inl (decides un (says-begins (text "UN") tag))))
 
-stands-tagged : (words : List (List Bytes)) → (tagStands words ≡ true) ↔ Tagged words
-unfolding tagStands firstValue isTag
+stands-tagged : (words : Elements) → (tagStands words ≡ true) ↔ Tagged words
+unfolding tagStands firstValue foremost isSingle isEmpty isTag
 stands-tagged words = (
   there words,
   λ h. let (tag, figures, elements, e, asked) = apart h in ap tagStands e ∙ asked-says tag figures elements .1 asked,
 )
   where
-    there : (ws : List (List Bytes)) → tagStands ws ≡ true → Tagged ws
+    -- the rule asks for one repeat
+    single : (tag other : Bool) → (tag && false && other) ≡ true → ⊥
+    single true other h = false≢true h
+    single false other h = false≢true h
+
+    there : (ws : Elements) → tagStands ws ≡ true → Tagged ws
     there [] h = absurd (false≢true h)
     there ([] ∷ elements) h = absurd (false≢true h)
-    there ((tag ∷ figures) ∷ elements) h =
+    there (([] ∷ repeats) ∷ elements) h = absurd (false≢true h)
+    there (((tag ∷ figures) ∷ []) ∷ elements) h =
         let ((size, bytes), service) = asked-says tag figures elements .0 h in Tagged.tagged tag figures elements size bytes service
+    there (((tag ∷ figures) ∷ next ∷ repeats) ∷ elements) h = absurd (single (isTag tag) _ h)
 
 -- a finished segment keeps the rule exactly where its values are tagged
 rule-tagged : (g : Segment) → finished g ≡ true → (tagRule g ≡ true) ↔ Tagged (wordsOf g)

@@ -29,7 +29,7 @@ use Rattle.operations.specs.Judge.{shortFor}
 use Rattle.values.specs.Spelling.{spell}
 use Rattle.operations.specs.ValueList.{listedIn, segmentsListed, trimList}
 use Rattle.operations.specs.Write.{badList, unusableBytes, needsRelease, writtenText, writeStages, writeRefusal, write}
-use Rattle.operations.specs.Notions.{BadTable, BadRecord, LacksRelease}
+use Rattle.operations.specs.Notions.{Record, BadTable, BadRecord, LacksRelease}
 use Rattle.operations.proofs.Words.{fifteen-at, six-says, two-at, sixteen-at, text-is}
 use Rattle.operations.proofs.Cases.{write-given, write-refused}
 use Rattle.paper_words.specs.PaperWords.{six, Service, Begins, Meets, WriteMeets, Answers, from3, answer}
@@ -104,10 +104,14 @@ module _ (service bytes table output : List ℕ) where
   said (WriteMeets.bad-record p kind start size r h) = inl (refl, inr (kind, start, size, r, h))
   said (WriteMeets.bad-bytes n) = inr (inl (refl, (λ six. n (six .0) (six .1) (six .2), refl)))
   said (WriteMeets.no-release c e space p kind start size b r m h) =
-      inr (inr (inl (refl, (c, e, (kind, start, size, r, (space, (b, m, lacking h)))))))
+      inr (inr (inl (refl, (c, e, (kind, start, size, r, inl (space, (b, m, lacking h)))))))
     where
-      lacking : Service c b → (b ≡ c .component) ⊎ (b ≡ c .element) ⊎ (b ≡ c .terminator)
-      lacking = ⊎-elim inl (⊎-elim (λ k. inr (inl k)) (⊎-elim (λ k. inr (inr k)) (λ k. absurd (k .0 space))))
+      lacking : Service c b
+          → (b ≡ c .component) ⊎ (b ≡ c .element) ⊎ (b ≡ c .terminator) ⊎ ((c .repetition ≡ 32 → ⊥) × (b ≡ c .repetition))
+      lacking =
+          ⊎-elim inl (⊎-elim (λ k. inr (inl k))
+          (⊎-elim (λ k. inr (inr (inl k))) (⊎-elim (λ k. inr (inr (inr k))) (λ k. absurd (k .0 space)))))
+  said (WriteMeets.no-repetition c e space p start size r) = inr (inr (inl (refl, (c, e, (3, start, size, r, inr (refl, space))))))
   said (WriteMeets.too-short h) = inr (inr (inr (inl (refl, (h, refl)))))
   said (WriteMeets.as-judged n p h) = inr (inr (inr (inr h)))
 
@@ -119,7 +123,7 @@ module _ (service bytes table output : List ℕ) where
   begins-so c e = (
     spell c (trimList (segmentsListed (listedIn bytes table))),
     ap (λ (l : List ℕ). writtenText l bytes table) e
-        ∙ text-is (c .component) (c .element) (c .mark) (c .release) (c .reserved) (c .terminator) bytes table,
+        ∙ text-is (c .component) (c .element) (c .mark) (c .release) (c .repetition) (c .terminator) bytes table,
   )
 
   unusable-text : {p : ℕ} → Meets written 2 p → (SixUsable → ⊥) × (p ≡ 0)
@@ -154,23 +158,26 @@ module _ (service bytes table output : List ℕ) where
 
   module _ (c : Characters) (e : service ≡ six c) where
     six-bytes : sixBytes service ≡ c
-    six-bytes = ap sixBytes e ∙ six-are (c .component) (c .element) (c .mark) (c .release) (c .reserved) (c .terminator)
+    six-bytes = ap sixBytes e ∙ six-are (c .component) (c .element) (c .mark) (c .release) (c .repetition) (c .terminator)
+
+    lacks : {p : ℕ} → LacksRelease c bytes table p → Meeting 16 p
+    lacks {p} (kind, start, size, r, inl (space, (b, among, h))) =
+        WriteMeets.no-release c e space p kind start size b r among
+        (⊎-elim inl (⊎-elim (λ k. inr (inl k)) (⊎-elim (λ k. inr (inr (inl k))) (λ k. inr (inr (inr (inl k)))))) h)
+    lacks {p} (kind, start, size, r, inr (k, space)) =
+        WriteMeets.no-repetition c e space p start size (subst (λ (n : ℕ). Record table p n start size) k r)
 
     sixteen-met : (p : ℕ) → List·Memᴰ p (needsRelease service bytes table) ↔ Meeting 16 p
     sixteen-met p =
         let exactly = sixteen-at service bytes table p in (
-          λ m.
-              let (kind, start, size, r, (space, (b, among, h))) =
-              subst (λ (d : Characters). LacksRelease d bytes table p) six-bytes (exactly .0 m)
-              in
-              WriteMeets.no-release c e space p kind start size b r among (⊎-elim inl (⊎-elim (λ k. inr (inl k)) (λ k. inr (inr (inl k)))) h),
+          λ m. lacks (subst (λ (d : Characters). LacksRelease d bytes table p) six-bytes (exactly .0 m)),
           λ k.
               ⊎-elim (λ h. absurd (omega arith))
               (⊎-elim (λ h. absurd (omega arith))
               (⊎-elim
               (λ (n, (d, own, h)).
               let same : d ≡ sixBytes service =
-              sym (ap sixBytes own ∙ six-are (d .component) (d .element) (d .mark) (d .release) (d .reserved) (d .terminator))
+              sym (ap sixBytes own ∙ six-are (d .component) (d .element) (d .mark) (d .release) (d .repetition) (d .terminator))
               in
               exactly .1 (subst (λ (x : Characters). LacksRelease x bytes table p) same h))
               (⊎-elim (λ h. absurd (omega arith)) (λ h. absurd (meant written NeedsRelease h)))))

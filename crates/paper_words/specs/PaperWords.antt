@@ -1,7 +1,8 @@
--- Paper 01, heading by heading, with requests 2026-01 (line breaks) and 2026-03 (sections), to be read with the paper beside it. Assumes nothing.
+-- Paper 01, heading by heading, with requests 2026-01 (line breaks), 2026-03 (sections) and 2026-10 (version 4), to be read with the paper beside it.
+-- Assumes nothing.
 -- A name with a capital letter is a notion of the paper, in its letters and numbers; it goes through no definition that it is held against. Those not
--- declared here stand in `specs/Notions.antt`: `Usable` of `characters`, `LeadsBreak`, `Unended` of `values`, `LevelA`, `LevelB`, `Names` of `levels`,
--- `Reference`, `Count`, `Nearest` of `control_elements`, `Record` of `operations`. A name in small letters is a definition that computes;
+-- declared here stand in `specs/Notions.antt`: `Usable` of `characters`, `LeadsBreak`, `Unended` of `values`, `LevelA`, `LevelB`, `Names`,
+-- `FourthVersion` of `levels`, `Reference`, `Count`, `Nearest` of `control_elements`, `Record` of `operations`. A name in small letters is a definition that computes;
 -- `PaperWords/Imports.antt` has its file. The fields of a record are theorems: the definitions say what the notions say.
 -- `×` is "and", `⊎` "or", `¬` "not", `∈` "is one of", `↔` "exactly where". Of whole operations `crates/theorems/specs/Demands.antt` says the rest:
 -- trimming (part 2), Judge's figures (3), lent buffers (5, 7), Write's output (7), Locate (8), Compare and Keep (9), value lists there and back (10).
@@ -12,15 +13,21 @@ infix 40 _∈_
 abbrev pub _∈_ : {A : Type 0} → A → List A → Type 0
 x ∈ xs = List·Memᴰ x xs
 
+-- a segment's elements, each a list of repeats, each a list of values
+abbrev pub Elements : Type 0
+Elements = List (List (List Bytes))
+
 -- ---- "Service characters"
 
--- "component separator, element separator, decimal mark, release character, reserved byte, segment terminator"
+-- "component separator, element separator, decimal mark, release character, reserved byte, segment terminator"; 2026-10: "In version 4 the advice's
+-- fifth byte is the repetition separator"
 abbrev pub six : Characters → List ℕ
-six c = c .component ∷ c .element ∷ c .mark ∷ c .release ∷ c .reserved ∷ c .terminator ∷ []
+six c = c .component ∷ c .element ∷ c .mark ∷ c .release ∷ c .repetition ∷ c .terminator ∷ []
 
--- "one of these four (three)": "A release character that is a space means "none""
+-- "one of these four (three)": "A release character that is a space means "none""; 2026-10: the fifth byte "is a space (none), or a service character"
 abbrev pub Service : Characters → ℕ → Type 0
-Service c b = (b ≡ c .component) ⊎ (b ≡ c .element) ⊎ (b ≡ c .terminator) ⊎ (¬ (c .release ≡ 32) × (b ≡ c .release))
+Service c b =
+    (b ≡ c .component) ⊎ (b ≡ c .element) ⊎ (b ≡ c .terminator) ⊎ (¬ (c .repetition ≡ 32) × (b ≡ c .repetition)) ⊎ (¬ (c .release ≡ 32) × (b ≡ c .release))
 
 -- the bytes begin so
 abbrev pub Begins : List ℕ → List ℕ → Type 0
@@ -38,8 +45,10 @@ pub record ServiceCharacters : Type 0 where
       → let s : List ℕ = text "UNA" ++ six c ++ (gap ++ rest) in
       (charactersOf s ≡ c) × (bodyStart s ≡ 9 + length gap) × (body s ≡ rest)
   pub without-advice : (s : List ℕ) → ¬ Begins (text "UNA") s → (bodyStart s ≡ 0) × (body s ≡ s)
-  -- "`UNB+` uses `:` `+` `.` `?` `'`"; "`UNB` and byte 29 uses 31, 29, `.`, no release, terminator 28"
-  pub with-plus : (rest : List ℕ) → six (charactersOf (text "UNB+" ++ rest)) ≡ text ":+.? '"
+  -- "`UNB+` uses `:` `+` `.` `?` `'`"; 2026-10: "Input beginning `UNB+UNOA:4` or `UNB+UNOB:4` has `*`."
+  pub with-plus : (rest : List ℕ) → ¬ Begins (text "UNOA:4") rest → ¬ Begins (text "UNOB:4") rest → six (charactersOf (text "UNB+" ++ rest)) ≡ text ":+.? '"
+  pub with-star : (rest : List ℕ) (level : ℕ) → level ∈ text "AB" → six (charactersOf (text "UNB+UNO" ++ level ∷ text ":4" ++ rest)) ≡ text ":+.?*'"
+  -- "`UNB` and byte 29 uses 31, 29, `.`, no release, terminator 28"
   pub with-control : (rest : List ℕ) → six (charactersOf (text "UNB" ++ 29 ∷ rest)) ≡ 31 ∷ 29 ∷ 46 ∷ 32 ∷ 32 ∷ 28 ∷ []
 
 -- ---- "From bytes to values"
@@ -47,11 +56,13 @@ pub record ServiceCharacters : Type 0 where
 -- bytes from a place on, as tokens: a byte of a value, with where it is spelled from and where it stands; a separator of a rank; a fault
 pub record Reading (c : Characters) (place : ℕ) : Type 0 where
   pub nothing : tokens c place [] ≡ []
-  -- "An unreleased terminator ends a segment, an element separator an element, a component separator a component.": ranks 0, 1, 2
+  -- "An unreleased terminator ends a segment, an element separator an element, a component separator a component.": ranks 0, 1, 3; 2026-10: a repetition
+  -- separator a repeat: rank 2
   pub terminator : (gap more : List ℕ) → Gap gap more
       → tokens c place (c .terminator ∷ (gap ++ more)) ≡ separator 0 place ∷ tokens c (place + 1 + length gap) more
   pub element : (more : List ℕ) → tokens c place (c .element ∷ more) ≡ separator 1 place ∷ tokens c (place + 1) more
-  pub component : (more : List ℕ) → tokens c place (c .component ∷ more) ≡ separator 2 place ∷ tokens c (place + 1) more
+  pub repetition : ¬ (c .repetition ≡ 32) → (more : List ℕ) → tokens c place (c .repetition ∷ more) ≡ separator 2 place ∷ tokens c (place + 1) more
+  pub component : (more : List ℕ) → tokens c place (c .component ∷ more) ≡ separator 3 place ∷ tokens c (place + 1) more
   pub plain : (b : ℕ) (more : List ℕ) → ¬ Service c b → tokens c place (b ∷ more) ≡ byte b place place ∷ tokens c (place + 1) more
   -- "The release character takes the next byte with it."; 4: "release followed by no service character, or by the end"
   pub release : ¬ (c .release ≡ 32) → (b : ℕ) (more : List ℕ)
@@ -74,44 +85,53 @@ pub record BytesToValues : Type 0 where
   pub segment-unended : (t : Token) (ts : List Token) → Unended (t ∷ ts) → segments (t ∷ ts) ≡ (t ∷ ts) ∷ []
   pub starts : (ts : List Token) (b from place rank : ℕ)
       → (start (byte b from place ∷ ts) ≡ from) × (start (separator rank place ∷ ts) ≡ place) × (start (fault place ∷ ts) ≡ place)
-  -- "A segment is one or more elements, an element one or more values"; "Values keep every byte"
+  -- "A segment is one or more elements, an element one or more values"; 2026-10: "An element is now a list of repeats, one in the older versions"; "Values
+  -- keep every byte"
   pub value-ended : (u : List Token) (rank q : ℕ) (rest : List Token) → ((k p : ℕ) → ¬ (separator k p ∈ u))
-      → (rank ≤ 1 → wordsOf (u ++ separator rank q ∷ rest) ≡ (bytesOf u ∷ []) ∷ wordsOf rest)
-      × ((values : List Bytes) (elements : List (List Bytes)) → wordsOf rest ≡ values ∷ elements
-      → wordsOf (u ++ separator 2 q ∷ rest) ≡ (bytesOf u ∷ values) ∷ elements)
+      → (rank ≤ 1 → wordsOf (u ++ separator rank q ∷ rest) ≡ ((bytesOf u ∷ []) ∷ []) ∷ wordsOf rest)
+      × ((values : List Bytes) (repeats : List (List Bytes)) (elements : Elements) → wordsOf rest ≡ (values ∷ repeats) ∷ elements
+      → (wordsOf (u ++ separator 2 q ∷ rest) ≡ ((bytesOf u ∷ []) ∷ values ∷ repeats) ∷ elements)
+      × (wordsOf (u ++ separator 3 q ∷ rest) ≡ ((bytesOf u ∷ values) ∷ repeats) ∷ elements))
   pub value-bytes : (b from place : ℕ) (ts : List Token) → bytesOf (byte b from place ∷ ts) ≡ b ∷ bytesOf ts
-  -- "The contents are the trimmed list."
+  -- "The contents are the trimmed list."; 2026-10: "empty components at the end of every repeat, .. then empty repeats at an element's end, .. then elements"
   pub contents-trimmed : (g : Segment) → contentsOf g ≡ trimSegment isEmpty (wordsOf g)
-  pub trimmed : contents (text "UNB+A::B::+:+C:+::+':+'")
-      ≡ ((text "UNB" ∷ []) ∷ (text "A" ∷ [] ∷ text "B" ∷ []) ∷ ([] ∷ []) ∷ (text "C" ∷ []) ∷ []) ∷ (([] ∷ []) ∷ []) ∷ []
+  pub trimmed : contents (text "UNB+UNOA:4+A::B:**C:*:+:*+D+*:+'*+'")
+      ≡ (((text "UNB" ∷ []) ∷ []) ∷ ((text "UNOA" ∷ text "4" ∷ []) ∷ []) ∷ ((text "A" ∷ [] ∷ text "B" ∷ []) ∷ ([] ∷ []) ∷ (text "C" ∷ []) ∷ [])
+      ∷ (([] ∷ []) ∷ []) ∷ ((text "D" ∷ []) ∷ []) ∷ []) ∷ ((([] ∷ []) ∷ []) ∷ []) ∷ []
   -- "The first element is the tag": it names the kind of segment
-  pub kind : (g : Segment) (tag : Bytes) (figures : List Bytes) (elements : List (List Bytes)) → wordsOf g ≡ (tag ∷ figures) ∷ elements
-      → kindOf g ≡ kindNamed tag
+  pub kind : (g : Segment) (tag : Bytes) (figures : List Bytes) (repeats : List (List Bytes)) (elements : Elements)
+      → wordsOf g ≡ ((tag ∷ figures) ∷ repeats) ∷ elements → kindOf g ≡ kindNamed tag
   pub service-kinds : map kindNamed serviceTags ≡ Unb ∷ Ung ∷ Unh ∷ Uns ∷ Unt ∷ Une ∷ Unz ∷ []
   pub user-kind : (tag : Bytes) → ¬ (tag ∈ serviceTags) → kindNamed tag ≡ User
   pub levels : (b : ℕ) → ((inLevelA b ≡ true) ↔ LevelA b) × ((inLevelB b ≡ true) ↔ LevelB b)  -- "Level A: ..", "Level B adds `a`-`z`."
 
--- "three bytes, each `A`-`Z` or `0`-`9`"; "A tag beginning `UN` must be [one of these], and no component separator may follow it."
-pub data Tagged : List (List Bytes) → Type 0 where
-  tagged : (tag : Bytes) (figures : List Bytes) (elements : List (List Bytes))
+-- "three bytes, each `A`-`Z` or `0`-`9`"; "A tag beginning `UN` must be [one of these], and no component separator may follow it."; 2026-10: "6 also when a
+-- repetition separator follows within a tag element": the tag element has one repeat
+pub data Tagged : Elements → Type 0 where
+  tagged : (tag : Bytes) (figures : List Bytes) (elements : Elements)
       → length tag ≡ 3 → ((b : ℕ) → b ∈ tag → ((65 ≤ b) × (b ≤ 90)) ⊎ ((48 ≤ b) × (b ≤ 57)))
-      → (Begins (text "UN") tag → (tag ∈ serviceTags) × (figures ≡ [])) → Tagged ((tag ∷ figures) ∷ elements)
+      → (Begins (text "UN") tag → (tag ∈ serviceTags) × (figures ≡ [])) → Tagged (((tag ∷ figures) ∷ []) ∷ elements)
 
--- UNB, the first segment, names the level of this letter
+-- UNB, the first segment, names the level of this letter; 2026-10: 7 "also when UNB's first element has more, or the fifth byte isn't a space and the
+-- version isn't 4"
 abbrev pub Level : List ℕ → ℕ → Type 0
-Level s letter = (unb : List (List Bytes)) × (at (contents s) 0 ≡ some unb) × Names unb letter
+Level s letter = (unb : Elements) × (at (contents s) 0 ≡ some unb) × Names (charactersOf s) unb letter
+
+-- UNB names version 4
+abbrev pub Fourth : List ℕ → Type 0
+Fourth s = (unb : Elements) × (at (contents s) 0 ≡ some unb) × FourthVersion unb
 
 -- a header, what stands inside, and a trailer
 pub data Framed (header trailer : Kind) (Within : List Segment → Type 0) : List Segment → Type 0 where
   framed : (head tail : Segment) (inside : List Segment) → kindOf head ≡ header → Within inside → kindOf tail ≡ trailer
       → Framed header trailer Within (head ∷ (inside ++ tail ∷ []))
 
--- "any number of user segments and UNS"; 2026-03: "a single component `D` or `S`, each at most once in a message, D before S", by the letters to come
+-- "any number of user segments and UNS"; 2026-03: "a single component `D` or `S`, each at most once in a message, D before S", by the letters to come; 2026-10: "one repeat"
 pub data Inside : List ℕ → List Segment → Type 0 where
   end : (letters : List ℕ) → Inside letters []
   user : (letters : List ℕ) (g : Segment) (gs : List Segment) → kindOf g ≡ User → Inside letters gs → Inside letters (g ∷ gs)
   marker : (letter : ℕ) (letters : List ℕ) (g : Segment) (gs : List Segment) → kindOf g ≡ Uns
-      → at (contentsOf g) 1 ≡ some ((letter ∷ []) ∷ []) → Inside letters gs → Inside (letter ∷ letters) (g ∷ gs)
+      → at (contentsOf g) 1 ≡ some (((letter ∷ []) ∷ []) ∷ []) → Inside letters gs → Inside (letter ∷ letters) (g ∷ gs)
   without : (letter : ℕ) (letters : List ℕ) (gs : List Segment) → Inside letters gs → Inside (letter ∷ letters) gs
 
 abbrev pub Message : List Segment → Type 0
@@ -127,7 +147,7 @@ Interchange = Framed Unb Unz (λ gs. OneOrMore Group gs ⊎ OneOrMore Message gs
 -- ---- "Control elements"
 
 -- "where its count and its reference stand"; "UNS has neither."
-abbrev pub Controlled : Kind → List (List Bytes) → Type 0
+abbrev pub Controlled : Kind → Elements → Type 0
 Controlled kind contents =
     (kind ∈ (Unb ∷ Ung ∷ []) → Reference contents 5)
     × (kind ≡ Unh → Reference contents 1)
@@ -163,14 +183,16 @@ pub record NormalForm (c : Characters) : Type 0 where
       → (spellValue c [] ≡ [])
       × (Service c b → spellValue c (b ∷ more) ≡ c .release ∷ b ∷ spellValue c more)
       × (¬ Service c b → spellValue c (b ∷ more) ≡ b ∷ spellValue c more)
-  pub spelled : (u v : Bytes) (vs e : List Bytes) (es : List (List Bytes)) (gs : SegmentList)
+  pub spelled : (u v : Bytes) (vs r : List Bytes) (rs e : List (List Bytes)) (es : Elements) (gs : SegmentList)
       → (spell c [] ≡ [])
-      × (spell c (((u ∷ []) ∷ []) ∷ gs) ≡ spellValue c u ++ c .terminator ∷ spell c gs)
-      × (spell c (((u ∷ v ∷ vs) ∷ es) ∷ gs) ≡ spellValue c u ++ c .component ∷ spell c (((v ∷ vs) ∷ es) ∷ gs))
-      × (spell c (((u ∷ []) ∷ e ∷ es) ∷ gs) ≡ spellValue c u ++ c .element ∷ spell c ((e ∷ es) ∷ gs))
-  -- "`UNA:+`, the mark, `? '`, then the contents spelled with those characters."
-  pub byte-by-byte : (s : List ℕ) → six c ≡ text ":+" ++ charactersOf s .mark ∷ text "? '"
-      → normalForm s ≡ text "UNA:+" ++ charactersOf s .mark ∷ text "? '" ++ spell c (contents s)
+      × (spell c ((((u ∷ []) ∷ []) ∷ []) ∷ gs) ≡ spellValue c u ++ c .terminator ∷ spell c gs)
+      × (spell c ((((u ∷ v ∷ vs) ∷ rs) ∷ es) ∷ gs) ≡ spellValue c u ++ c .component ∷ spell c ((((v ∷ vs) ∷ rs) ∷ es) ∷ gs))
+      × (spell c ((((u ∷ []) ∷ r ∷ rs) ∷ es) ∷ gs) ≡ spellValue c u ++ c .repetition ∷ spell c (((r ∷ rs) ∷ es) ∷ gs))
+      × (spell c ((((u ∷ []) ∷ []) ∷ e ∷ es) ∷ gs) ≡ spellValue c u ++ c .element ∷ spell c ((e ∷ es) ∷ gs))
+  -- "`UNA:+`, the mark, `? '`, then the contents spelled with those characters."; 2026-10: "A version 4 normal form has `*` in the fifth place"
+  pub byte-by-byte : (s : List ℕ)
+      → (¬ Fourth s → six c ≡ text ":+" ++ charactersOf s .mark ∷ text "? '") → (Fourth s → six c ≡ text ":+" ++ charactersOf s .mark ∷ text "?*'")
+      → normalForm s ≡ text "UNA" ++ six c ++ spell c (contents s)
 
 -- ---- "Operations"
 
@@ -194,12 +216,23 @@ pub record Told : Type 0 where
       × (toldCompared (compared.FirstRefused r) ≡ answer n (1 ∷ r .place ∷ []))
       × (toldCompared (compared.SecondRefused r) ≡ answer n (2 ∷ r .place ∷ []))
 
+abbrev pub item : ℕ → Bytes → Item
+item kind value = record { kind = kind; value = value }
+
+-- the list with this kind for its first value's
+abbrev pub begun : ℕ → List Item → List Item
+begun kind [] = []
+begun kind (l ∷ ls) = item kind (l .value) ∷ ls
+
 -- what a value list means, trimmed or not
 pub record ValueLists : Type 0 where
-  -- "kind (0 new segment, 1 new element, 2 next component)": of `u:v+w'x'`
-  pub kinds : (u v w x : Bytes)
-      → listOf (((u ∷ v ∷ []) ∷ (w ∷ []) ∷ []) ∷ ((x ∷ []) ∷ []) ∷ [])
-      ≡ record { kind = 0; value = u } ∷ record { kind = 2; value = v } ∷ record { kind = 1; value = w } ∷ record { kind = 0; value = x } ∷ []
+  -- "kind (0 new segment, 1 new element, 2 next component)"; 2026-10: "kind 3 (a next repeat's first value)"
+  pub kinds : (u v : Bytes) (vs : List Bytes) (rs : List (List Bytes)) (es : Elements) (gs : SegmentList)
+      → (listOf [] ≡ [])
+      × (listOf ((((u ∷ []) ∷ []) ∷ []) ∷ gs) ≡ item 0 u ∷ listOf gs)
+      × (listOf ((((u ∷ v ∷ vs) ∷ rs) ∷ es) ∷ gs) ≡ item 0 u ∷ begun 2 (listOf ((((v ∷ vs) ∷ rs) ∷ es) ∷ gs)))
+      × (listOf ((((u ∷ []) ∷ (v ∷ vs) ∷ rs) ∷ es) ∷ gs) ≡ item 0 u ∷ begun 3 (listOf ((((v ∷ vs) ∷ rs) ∷ es) ∷ gs)))
+      × (listOf ((((u ∷ []) ∷ []) ∷ ((v ∷ vs) ∷ rs) ∷ es) ∷ gs) ≡ item 0 u ∷ begun 1 (listOf ((((v ∷ vs) ∷ rs) ∷ es) ∷ gs)))
   -- "values .. end to end"; "three 32-bit numbers a value: kind .., start, length": each starts where those before it end
   pub bytes : (l : Item) (ls : List Item) → (listBytes [] ≡ []) × (listBytes (l ∷ ls) ≡ l .value ++ listBytes ls)
   pub table : (items : List Item) (n : ℕ) (l : Item) → at items n ≡ some l
@@ -224,11 +257,11 @@ pub data Fails (before : List Segment) (g : Segment) : ℕ → Type 0 where
   control : ¬ Controlled (kindOf g) (contentsOf g) → Fails before g 10  -- "control element of a service segment not as above"
   -- "trailer's reference differs from its header's": no value is both
   reference : (header : Kind) (position : ℕ) → Closes (kindOf g) header position
-      → ((n : Nearest header (reverse before)) (v : Bytes) → at (contentsOf g) 2 ≡ some (v ∷ [])
-      → ¬ (at (contentsOf (n .1)) position ≡ some (v ∷ []))) → Fails before g 11
+      → ((n : Nearest header (reverse before)) (v : Bytes) → at (contentsOf g) 2 ≡ some ((v ∷ []) ∷ [])
+      → ¬ (at (contentsOf (n .1)) position ≡ some ((v ∷ []) ∷ []))) → Fails before g 11
   -- "trailer's count wrong"
   count : kindOf g ∈ (Unt ∷ Une ∷ Unz ∷ [])
-      → ((v : Bytes) → at (contentsOf g) 1 ≡ some (v ∷ []) → ¬ Counts (reverse before) (kindOf g) (decimal v)) → Fails before g 12
+      → ((v : Bytes) → at (contentsOf g) 1 ≡ some ((v ∷ []) ∷ []) → ¬ Counts (reverse before) (kindOf g) (decimal v)) → Fails before g 12
 
 -- 1 to 13: the input meets the number at the place
 pub data Meets (s : List ℕ) : ℕ → ℕ → Type 0 where
@@ -255,13 +288,15 @@ module _ (service bytes table output : List ℕ) where
   pub data WriteMeets : ℕ → ℕ → Type 0 where
     -- "table over 96,000 numbers or not a multiple of 3; first kind not 0": 0
     bad-table : (96000 < length table) ⊎ ¬ (length table % 3 ≡ 0) ⊎ ((kind : ℕ) × (at table 0 ≡ some kind) × ¬ (kind ≡ 0)) → WriteMeets 15 0
-    -- "kind above 2; start plus length above the number of bytes"; "No segment of a list may begin with a break"
+    -- 2026-10: "kind above 3"; "start plus length above the number of bytes"; 2026-01: "No segment of a list may begin with a break"
     bad-record : (p kind start size : ℕ) → Record table p kind start size
-        → (2 < kind) ⊎ (length bytes < start + size) ⊎ ((kind ≡ 0) × LeadsBreak (take size (drop start bytes))) → WriteMeets 15 p
+        → (3 < kind) ⊎ (length bytes < start + size) ⊎ ((kind ≡ 0) × LeadsBreak (take size (drop start bytes))) → WriteMeets 15 p
     bad-bytes : ((c : Characters) → service ≡ six c → ¬ Usable c) → WriteMeets 2 0  -- "not six usable bytes": 0
     -- "a value holds a service character and there is no release"
     no-release : (c : Characters) → service ≡ six c → c .release ≡ 32
         → (p kind start size b : ℕ) → Record table p kind start size → b ∈ take size (drop start bytes) → Service c b → WriteMeets 16 p
+    -- 2026-10: "also at a kind 3 record where the writer's fifth byte is a space"
+    no-repetition : (c : Characters) → service ≡ six c → c .repetition ≡ 32 → (p start size : ℕ) → Record table p 3 start size → WriteMeets 16 p
     -- "lent buffer too short": "bytes .. needed"
     too-short : length output < length (writtenText service bytes table) → WriteMeets 14 (length (writtenText service bytes table))
     as-judged : (n p : ℕ) → Meets (writtenText service bytes table) n p → WriteMeets n p  -- "as Judge would answer for the text"

@@ -3,20 +3,24 @@
 use Prim.Native.Nat.{ℕ, zero, suc, _+_, _≤_}
 use native.Mathlib.Omega.{arith}
 use mathlib.Core.Path.{_≡_, refl, sym, ap, subst, _∙_}
-use mathlib.Core.Bool.{true, false, not, false≢true}
+use mathlib.Core.Bool.{true, false, false≢true}
 use mathlib.Core.List.{List, [], _∷_, _++_, map, append-nil, append-assoc}
 use lib.Dec.{leb}
 use lib.ListN.{replicate}
 use borrow.Author.Tests.{not-false, leb-true}
 use Rattle.lists.specs.Lists.{isEmpty, all, lastOr, eachLedBy, joined, gather}
 use Rattle.lists.proofs.Texts.{and-left, and-right}
+use Rattle.nesting.specs.Nesting.{Nest, shaped, spelled, flat}
+use Rattle.nesting_laws.proofs.Shape.{shaped-some, shaped-first, shaped-rest}
+use Rattle.nesting_laws.proofs.Flat.{flat-last, flat-next}
 use Rattle.values.specs.Tokens.{Token, byte, separator, fault, ends, segments}
 use Rattle.values.specs.Values.{byteOf, bytesOf, endedBy, endsInside}
 use Rattle.values.specs.Trimming.{contentsOf}
 use Rattle.values.proofs.Ends.{ended-next}
-use Rattle.values.specs.Spelling.{Bytes, SegmentList, spellByte, spellValue, spellElement, spellSegment, spell}
-use Rattle.operations.specs.ValueList.{Item, listElement, listSegment, listOf, listBytes, tableFrom, listTable}
+use Rattle.values.specs.Spelling.{Bytes, SegmentList, spellByte, spellValue, spellRepeat, spellElement, spellSegment, spell}
+use Rattle.operations.specs.ValueList.{Item, listSegment, listOf, listBytes, tableFrom, listTable}
 use Rattle.spelling_laws.specs.Bodies.{shapedSegment, Shaped}
+use Rattle.trimming_laws.proofs.Nesting.{item, kindOf, segment-flat}
 use Rattle.emission_laws.specs.declared.Held.{Held}
 use Rattle.emission_laws.specs.Emission.{nothing, separated, heldNext, spelledNext, emitted}
 use Rattle.emission_laws.proofs.Steps.{let-out-runs, byte-first}
@@ -25,9 +29,6 @@ use Rattle.emission_laws.proofs.Spelled.{spelled-emitted}
 use Rattle.read_counts.specs.Marks.{marks, readMarks, itemOut, itemNext, itemGrow, itemsFrom}
 use Rattle.read_counts.specs.Tally.{tableRest, tableOf}
 use Rattle.read_counts.proofs.Marks.{read-byte, read-mark, table-read}
-
-abbrev item : ℕ → Bytes → Item
-item kind value = record { kind = kind; value = value }
 
 byte-item : (l : Item) (b : ℕ) (rest : List ℕ) → itemsFrom l false (spellByte marks b ++ rest) ≡ itemsFrom (itemGrow b l) false rest
 unfolding itemsFrom
@@ -49,49 +50,44 @@ value-item l (b ∷ bs) rest =
 abbrev Closes : List ℕ → List Item → Type 0
 Closes text items = (l : Item) → itemsFrom l false text ≡ l ∷ items
 
--- the components after the first
-values-close : (vs : List Bytes) (rest : List ℕ) {items : List Item} → Closes rest items
-    → Closes (eachLedBy 2 (map (spellValue marks) vs) ++ rest) (map (item 2) vs ++ items)
-unfolding eachLedBy itemsFrom readMarks
-values-close [] rest h l = h l
-values-close (v ∷ vs) rest h l =
-    ap (λ (ls : List Item). l ∷ ls)
-    (ap (itemsFrom (item 2 []) false) (append-assoc (spellValue marks v) (eachLedBy 2 (map (spellValue marks) vs)) rest)
-    ∙ value-item (item 2 []) v (eachLedBy 2 (map (spellValue marks) vs) ++ rest)
-    ∙ values-close vs rest h (item 2 v))
+-- each kind is a mark
+kind-low : (depth : ℕ) → leb (kindOf depth) 3 ≡ true
+kind-low zero = refl
+kind-low (suc zero) = refl
+kind-low (suc (suc zero)) = refl
+kind-low (suc (suc (suc depth))) = refl
 
-element-items : (kind : ℕ) (v : Bytes) (vs : List Bytes) (rest : List ℕ) {items : List Item} → Closes rest items
-    → itemsFrom (item kind []) false (spellElement marks (v ∷ vs) ++ rest) ≡ listElement kind (v ∷ vs) ++ items
-unfolding spellElement joined listElement marks
-element-items kind v vs rest h =
-    ap (itemsFrom (item kind []) false) (append-assoc (spellValue marks v) (eachLedBy 2 (map (spellValue marks) vs)) rest)
-    ∙ value-item (item kind []) v (eachLedBy 2 (map (spellValue marks) vs) ++ rest)
-    ∙ values-close vs rest h (item kind v)
+-- a part of any depth, spelled with the marks
+abbrev marked : (n : ℕ) → Nest Bytes n → List ℕ
+marked = spelled kindOf (spellValue marks)
 
--- the elements after the tag
-elements-close : (es : List (List Bytes)) → all (λ e. not (isEmpty e)) es ≡ true → (rest : List ℕ) {items : List Item} → Closes rest items
-    → Closes (eachLedBy 1 (map (spellElement marks) es) ++ rest) (gather (listElement 1) es ++ items)
-unfolding eachLedBy gather all isEmpty itemsFrom readMarks
-elements-close [] s rest h l = h l
-elements-close ([] ∷ es) s rest h l = absurd (false≢true s)
-elements-close ((v ∷ vs) ∷ es) s rest {items} h l =
-    ap (λ (ls : List Item). l ∷ ls)
-    (ap (itemsFrom (item 1 []) false) (append-assoc (spellElement marks (v ∷ vs)) (eachLedBy 1 (map (spellElement marks) es)) rest)
-    ∙ element-items 1 v vs (eachLedBy 1 (map (spellElement marks) es) ++ rest) (elements-close es s rest h)
-    ∙ sym (append-assoc (listElement 1 (v ∷ vs)) (gather (listElement 1) es) items))
+part-items : (n kind : ℕ) (x : Nest Bytes n) → shaped Bytes n x ≡ true → (rest : List ℕ) {items : List Item} → Closes rest items
+    → itemsFrom (item kind []) false (marked n x ++ rest) ≡ flat kindOf item n kind x ++ items
+unfolding joined eachLedBy itemsFrom
+part-items zero kind v s rest h = value-item (item kind []) v rest ∙ h (item kind v)
+part-items (suc n) kind [] s rest h = absurd (shaped-some Bytes n s)
+part-items (suc n) kind (x ∷ []) s rest {items} h =
+    ap (λ (text : List ℕ). itemsFrom (item kind []) false (text ++ rest)) (append-nil (marked n x))
+    ∙ part-items n kind x (shaped-first Bytes n x [] s) rest h
+    ∙ ap (λ (ls : List Item). ls ++ items) (sym (flat-last kindOf item n kind x))
+part-items (suc n) kind (x ∷ y ∷ ys) s rest {items} h =
+    let others = marked (suc n) (y ∷ ys) in
+    let following = flat kindOf item (suc n) (kindOf n) (y ∷ ys) in
+    ap (itemsFrom (item kind []) false) (append-assoc (marked n x) (kindOf n ∷ others) rest)
+    ∙ part-items n kind x (shaped-first Bytes n x (y ∷ ys) s) (kindOf n ∷ others ++ rest)
+    (λ l. read-mark itemOut itemNext itemGrow l (kindOf n) (others ++ rest) (kind-low n)
+    ∙ ap (λ (ls : List Item). l ∷ ls) (part-items (suc n) (kindOf n) (y ∷ ys) (shaped-rest Bytes n x y ys s) rest h))
+    ∙ sym (append-assoc (flat kindOf item n kind x) following items)
+    ∙ ap (λ (ls : List Item). ls ++ items) (sym (flat-next kindOf item n kind x y ys))
 
-segment-items : (segment : List (List Bytes)) → shapedSegment segment ≡ true → (rest : List ℕ)
+segment-items : (segment : List (List (List Bytes))) → shapedSegment segment ≡ true → (rest : List ℕ)
     → itemsFrom (item 0 []) false (spellSegment marks segment ++ rest) ≡ listSegment segment ++ itemsFrom (item 0 []) false rest
-unfolding shapedSegment all isEmpty spellSegment joined listSegment itemsFrom readMarks marks
-segment-items [] s rest = absurd (false≢true s)
-segment-items ([] ∷ es) s rest = absurd (false≢true s)
-segment-items ((v ∷ vs) ∷ es) s rest =
-    let others = eachLedBy 1 (map (spellElement marks) es) in
+unfolding shapedSegment spellSegment spellElement spellRepeat itemsFrom readMarks marks
+segment-items segment s rest =
     let following = itemsFrom (item 0 []) false rest in
-    ap (itemsFrom (item 0 []) false)
-    (append-assoc (spellElement marks (v ∷ vs) ++ others) (0 ∷ []) rest ∙ append-assoc (spellElement marks (v ∷ vs)) others (0 ∷ rest))
-    ∙ element-items 0 v vs (others ++ 0 ∷ rest) (elements-close es s (0 ∷ rest) (λ l. refl))
-    ∙ sym (append-assoc (listElement 0 (v ∷ vs)) (gather (listElement 1) es) following)
+    ap (itemsFrom (item 0 []) false) (append-assoc (marked 3 segment) (0 ∷ []) rest)
+    ∙ part-items 3 0 segment s (0 ∷ rest) (λ l. refl)
+    ∙ ap (λ (ls : List Item). ls ++ following) (sym (segment-flat segment))
 
 pub list-items : (list : SegmentList) → Shaped list → itemsFrom (item 0 []) false (spell marks list) ≡ listOf list
 unfolding Shaped all spell listOf gather itemsFrom readMarks
@@ -115,7 +111,7 @@ abbrev Holds : List ℕ → List ℕ → Type 0
 Holds text bytes = (l : Item) → listBytes (itemsFrom l false text) ≡ l .value ++ bytes
 
 -- a mark adds no byte
-marks-hold : (kind : ℕ) → leb kind 2 ≡ true → (count : ℕ) (text bytes : List ℕ) → Holds text bytes → Holds (replicate count kind ++ text) bytes
+marks-hold : (kind : ℕ) → leb kind 3 ≡ true → (count : ℕ) (text bytes : List ℕ) → Holds text bytes → Holds (replicate count kind ++ text) bytes
 unfolding itemsFrom listBytes gather
 marks-hold kind k zero text bytes h l = h l
 marks-hold kind k (suc count) text bytes h l =
@@ -132,14 +128,16 @@ tokens-hold (byte b from place ∷ ts) h a k =
     let value = byte-holds b (emitted marks nothing ts) (bytesOf ts) (tokens-hold ts (ended-next 0 (byte b from place) ts refl h) a nothing) in
     let text = spellByte marks b ++ emitted marks nothing ts in
     subst (λ (t : List ℕ). Holds t (b ∷ bytesOf ts)) (sym (byte-first marks k b from place ts ∙ let-out-runs marks k text))
-    (marks-hold 1 refl (k .elements) (replicate (k .components) 2 ++ text) (b ∷ bytesOf ts) (marks-hold 2 refl (k .components) text (b ∷ bytesOf ts) value))
+    (marks-hold 1 refl (k .elements) (replicate (k .repeats) 3 ++ (replicate (k .components) 2 ++ text)) (b ∷ bytesOf ts)
+    (marks-hold 3 refl (k .repeats) (replicate (k .components) 2 ++ text) (b ∷ bytesOf ts) (marks-hold 2 refl (k .components) text (b ∷ bytesOf ts) value)))
 tokens-hold (separator zero place ∷ []) h a k = λ l. refl
 tokens-hold (separator zero place ∷ t ∷ ts) h a k =
     λ l. ap (λ (bs : Bytes). l .value ++ bs) (tokens-hold (t ∷ ts) h a nothing (item 0 []))
 tokens-hold (separator (suc zero) place ∷ ts) h a k = tokens-hold ts (ended-next 0 (separator 1 place) ts refl h) a (separated k 1)
 tokens-hold (separator (suc (suc zero)) place ∷ ts) h a k = tokens-hold ts (ended-next 0 (separator 2 place) ts refl h) a (separated k 2)
-tokens-hold (separator (suc (suc (suc n))) place ∷ ts) h a k =
-    let low : suc (suc (suc n)) ≤ 2 = leb-true (suc (suc (suc n))) 2 (and-left (leb (suc (suc (suc n))) 2) (all known ts) a) in
+tokens-hold (separator (suc (suc (suc zero))) place ∷ ts) h a k = tokens-hold ts (ended-next 0 (separator 3 place) ts refl h) a (separated k 3)
+tokens-hold (separator (suc (suc (suc (suc n)))) place ∷ ts) h a k =
+    let low : suc (suc (suc (suc n))) ≤ 3 = leb-true (suc (suc (suc (suc n)))) 3 (and-left (leb (suc (suc (suc (suc n)))) 3) (all known ts) a) in
     absurd (omega arith)
 tokens-hold (fault place ∷ ts) h a k = tokens-hold ts (ended-next 0 (fault place) ts refl h) a k
 

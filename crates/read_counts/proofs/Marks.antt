@@ -9,28 +9,33 @@ use lib.ListN.{length, replicate, length-append}
 use borrow.Author.Tests.{eqb-false, lt-leb}
 use Rattle.lists.specs.Lists.{if_then_else_, member}
 use Rattle.lists.proofs.Texts.{or-none-left, or-none-right, if-true, if-false}
-use Rattle.characters.specs.Characters.{isService, serviceCharacters, hasRelease}
+use Rattle.characters.specs.Characters.{isService, serviceCharacters, hasRepetition, hasRelease}
 use Rattle.values.specs.Spelling.{spellByte}
 use Rattle.operations.specs.ValueList.{Item, tableFrom}
 use Rattle.read_counts.specs.Marks.{marks, readMarks, runOut, runNext, itemNext, itemGrow, itemsFrom, numbersFrom}
 
 -- a byte that is no mark and no release character
-plain : (b : ℕ) → isService marks b ≡ false → (leb b 2 ≡ false) × (eqb b 3 ≡ false)
-unfolding isService serviceCharacters member hasRelease marks
+plain : (b : ℕ) → isService marks b ≡ false → (leb b 3 ≡ false) × (eqb b 4 ≡ false)
+unfolding isService serviceCharacters member hasRepetition hasRelease marks
 plain b h =
-    let two = or-none-left (eqb b 2) (eqb b 1 || (eqb b 0 || (eqb b 3 || false))) h in
-    let others = or-none-right (eqb b 2) (eqb b 1 || (eqb b 0 || (eqb b 3 || false))) h in
-    let one = or-none-left (eqb b 1) (eqb b 0 || (eqb b 3 || false)) others in
-    let last = or-none-right (eqb b 1) (eqb b 0 || (eqb b 3 || false)) others in
-    let zeroth = or-none-left (eqb b 0) (eqb b 3 || false) last in
-    let three = or-none-left (eqb b 3) false (or-none-right (eqb b 0) (eqb b 3 || false) last) in
-    (lt-leb b 2 (above b (eqb-false b 0 zeroth) (eqb-false b 1 one) (eqb-false b 2 two)), three)
+    let fourth = eqb b 4 || false in
+    let third = eqb b 3 || fourth in
+    let zeroth = eqb b 0 || third in
+    let first = eqb b 1 || zeroth in
+    let past = or-none-right (eqb b 2) first h in
+    let last = or-none-right (eqb b 1) zeroth past in
+    let lost = or-none-right (eqb b 0) third last in (
+      lt-leb b 3 (above b (eqb-false b 0 (or-none-left (eqb b 0) third last)) (eqb-false b 1 (or-none-left (eqb b 1) zeroth past))
+          (eqb-false b 2 (or-none-left (eqb b 2) first h)) (eqb-false b 3 (or-none-left (eqb b 3) fourth lost))),
+      or-none-left (eqb b 4) false (or-none-right (eqb b 3) fourth lost),
+    )
   where
-    above : (n : ℕ) → (n ≡ 0 → ⊥) → (n ≡ 1 → ⊥) → (n ≡ 2 → ⊥) → 2 < n
-    above zero a o t = absurd (a refl)
-    above (suc zero) a o t = absurd (o refl)
-    above (suc (suc zero)) a o t = absurd (t refl)
-    above (suc (suc (suc n))) a o t = omega arith
+    above : (n : ℕ) → (n ≡ 0 → ⊥) → (n ≡ 1 → ⊥) → (n ≡ 2 → ⊥) → (n ≡ 3 → ⊥) → 3 < n
+    above zero a o t r = absurd (a refl)
+    above (suc zero) a o t r = absurd (o refl)
+    above (suc (suc zero)) a o t r = absurd (t refl)
+    above (suc (suc (suc zero))) a o t r = absurd (r refl)
+    above (suc (suc (suc (suc n)))) a o t r = omega arith
 
 module _ {S B : Type 0} (out : S → List B) (next grow : ℕ → S → S) where
   abbrev read : S → List ℕ → List B
@@ -41,18 +46,18 @@ module _ {S B : Type 0} (out : S → List B) (next grow : ℕ → S → S) where
   unfolding readMarks spellByte marks
   read-byte current b rest = step (isService marks b) refl
     where
-      step : (t : Bool) → isService marks b ≡ t → read current ((if t then 3 ∷ b ∷ [] else b ∷ []) ++ rest) ≡ read (grow b current) rest
+      step : (t : Bool) → isService marks b ≡ t → read current ((if t then 4 ∷ b ∷ [] else b ∷ []) ++ rest) ≡ read (grow b current) rest
       step true h = refl
       step false h =
-          if-false (leb b 2) _ _ (plain b h .0) ∙ if-false (eqb b 3) (readMarks out next grow current true rest) (read (grow b current) rest) (plain b h .1)
+          if-false (leb b 3) _ _ (plain b h .0) ∙ if-false (eqb b 4) (readMarks out next grow current true rest) (read (grow b current) rest) (plain b h .1)
 
   -- a mark writes out the open value
-  pub read-mark : (current : S) (kind : ℕ) (rest : List ℕ) → leb kind 2 ≡ true → read current (kind ∷ rest) ≡ out current ++ read (next kind current) rest
+  pub read-mark : (current : S) (kind : ℕ) (rest : List ℕ) → leb kind 3 ≡ true → read current (kind ∷ rest) ≡ out current ++ read (next kind current) rest
   unfolding readMarks
-  read-mark current kind rest h = if-true (leb kind 2) (out current ++ read (next kind current) rest) _ h
+  read-mark current kind rest h = if-true (leb kind 3) (out current ++ read (next kind current) rest) _ h
 
   -- a run of marks of one kind
-  pub read-run : (kind : ℕ) → leb kind 2 ≡ true → (count : ℕ) (current : S) (rest : List ℕ)
+  pub read-run : (kind : ℕ) → leb kind 3 ≡ true → (count : ℕ) (current : S) (rest : List ℕ)
       → read current (replicate count kind ++ rest) ≡ runOut out next grow kind count current ++ read (runNext out next grow kind count current) rest
   unfolding runOut runNext
   read-run kind h zero current rest = refl
@@ -69,7 +74,7 @@ table-read start l released [] = refl
 table-read start l true (x ∷ xs) =
     table-read start (itemGrow x l) false xs
     ∙ ap (λ (n : ℕ). numbersFrom (record { kind = l .kind; start = start; size = n }) false xs) (length-append (l .value) (x ∷ []))
-table-read start l false (x ∷ xs) = step (leb x 2) (eqb x 3) (table-read (start + length (l .value)) (itemNext x l) false xs) (table-read start l true xs)
+table-read start l false (x ∷ xs) = step (leb x 3) (eqb x 4) (table-read (start + length (l .value)) (itemNext x l) false xs) (table-read start l true xs)
     (table-read start (itemGrow x l) false xs
     ∙ ap (λ (n : ℕ). numbersFrom (record { kind = l .kind; start = start; size = n }) false xs) (length-append (l .value) (x ∷ [])))
   where

@@ -13,11 +13,11 @@ use Rattle.values.specs.Values.{byteOf, bytesOf}
 use Rattle.values.specs.Spelling.{spellByte}
 use Rattle.operations.specs.ValueList.{Entry}
 use Rattle.emission_laws.specs.declared.Held.{Held}
-use Rattle.emission_laws.specs.Emission.{nothing, separated, heldNext, spelledNext, emitted}
+use Rattle.emission_laws.specs.Emission.{nothing, waiting, separated, heldNext, spelledNext, emitted}
 use Rattle.emission_laws.proofs.Steps.{by-rank, let-out-runs, byte-first}
 use Rattle.read_counts.specs.declared.Listing.{Listing}
 use Rattle.read_counts.specs.Marks.{marks, readMarks, runOut, runNext, numbersOut, entryNext, entryGrow, numbersFrom}
-use Rattle.read_counts.specs.Tally.{entryOf, listing, fresh, values, end, marksOut, entryAfter, afterMarks, afterByte, byteNumbers, afterSeparator, separatorNumbers, tableRest, tableOf}
+use Rattle.read_counts.specs.Tally.{entryOf, listing, fresh, values, end, marksOut, entryAfter, afterMarks, pastElements, pastRepeats, pastHeld, afterByte, byteNumbers, afterSeparator, separatorNumbers, tableRest, tableOf}
 use Rattle.read_counts.proofs.Marks.{read-byte, read-run}
 
 -- ---- marks that are let out
@@ -56,29 +56,53 @@ unfolding afterMarks
 after-some kind count l h =
     ap (λ (e : Entry). listing (l .records + count) e (l .held)) (sym (entry-after kind count (entryOf l) h))
 
-pub records-marks : (kind count : ℕ) (l : Listing) → afterMarks kind count l .records ≡ l .records + count
-unfolding afterMarks
-records-marks kind count l = refl
-
 pub end-marks : (kind count : ℕ) (l : Listing) → end (afterMarks kind count l) ≡ end l
 unfolding afterMarks
 end-marks kind count l = end-after kind count (entryOf l)
+
+-- how far they move the places
+pub marks-moved : (kind count : ℕ) (l : Listing) {m : Listing} → m ≡ afterMarks kind count l → (m .records ≡ l .records + count) × (end m ≡ end l)
+unfolding afterMarks
+marks-moved kind count l e = (ap (λ (m : Listing). m .records) e, ap (λ (m : Listing). end m) e ∙ end-marks kind count l)
+
+-- all that is held back
+module _ (l : Listing) where
+  pub held-none : waiting (l .held) ≡ 0 → l ≡ pastHeld l
+  unfolding pastHeld afterMarks
+  held-none e =
+      after-none 1 (l .held .elements) l (omega arith)
+      ∙ after-none 3 (l .held .repeats) (pastElements l) (omega arith)
+      ∙ after-none 2 (l .held .components) (pastRepeats l) (omega arith)
+
+  pub end-held : end (pastHeld l) ≡ end l
+  unfolding pastHeld
+  end-held =
+      end-marks 2 (l .held .components) (pastRepeats l) ∙ end-marks 3 (l .held .repeats) (pastElements l) ∙ end-marks 1 (l .held .elements) l
 
 -- ---- what is written out
 
 module _ (l : Listing) (ts : List Token) where
   pub table-byte : (b from place : ℕ) → tableRest l (byte b from place ∷ ts) ≡ byteNumbers l ++ tableRest (afterByte l) ts
-  unfolding tableRest numbersFrom marks byteNumbers afterByte afterMarks
+  unfolding tableRest numbersFrom marks byteNumbers pastHeld afterMarks
   table-byte b from place =
-      let o : Entry = entryAfter 1 (l .held .elements) (entryOf l) in
-      let p : Entry = entryAfter 2 (l .held .components) o in
+      let h : Held = l .held in
+      let o : Entry = entryOf (pastElements l) in
+      let p : Entry = entryOf (pastRepeats l) in
+      let q : Entry = entryOf (pastHeld l) in
+      let elements : List ℕ = marksOut 1 (h .elements) (entryOf l) in
+      let repeats : List ℕ = marksOut 3 (h .repeats) o in
+      let components : List ℕ = marksOut 2 (h .components) p in
       let text : List ℕ = spellByte marks b ++ emitted marks nothing ts in
-      ap (numbersFrom (entryOf l) false) (byte-first marks (l .held) b from place ts ∙ let-out-runs marks (l .held) text)
-      ∙ read-run numbersOut entryNext entryGrow 1 refl (l .held .elements) (entryOf l) (replicate (l .held .components) 2 ++ text)
-      ∙ ap (λ (ns : List ℕ). marksOut 1 (l .held .elements) (entryOf l) ++ ns)
-      (read-run numbersOut entryNext entryGrow 2 refl (l .held .components) o text
-      ∙ ap (λ (ns : List ℕ). marksOut 2 (l .held .components) o ++ ns) (read-byte numbersOut entryNext entryGrow p b (emitted marks nothing ts)))
-      ∙ sym (append-assoc (marksOut 1 (l .held .elements) (entryOf l)) (marksOut 2 (l .held .components) o) (numbersFrom (entryGrow b p) false (emitted marks nothing ts)))
+      let rest : List ℕ = numbersFrom (entryGrow b q) false (emitted marks nothing ts) in
+      ap (numbersFrom (entryOf l) false) (byte-first marks h b from place ts ∙ let-out-runs marks h text)
+      ∙ read-run numbersOut entryNext entryGrow 1 refl (h .elements) (entryOf l) (replicate (h .repeats) 3 ++ (replicate (h .components) 2 ++ text))
+      ∙ ap (λ (ns : List ℕ). elements ++ ns)
+      (read-run numbersOut entryNext entryGrow 3 refl (h .repeats) o (replicate (h .components) 2 ++ text)
+      ∙ ap (λ (ns : List ℕ). repeats ++ ns)
+      (read-run numbersOut entryNext entryGrow 2 refl (h .components) p text
+      ∙ ap (λ (ns : List ℕ). components ++ ns) (read-byte numbersOut entryNext entryGrow q b (emitted marks nothing ts)))
+      ∙ sym (append-assoc repeats components rest))
+      ∙ sym (append-assoc elements (repeats ++ components) rest)
 
   pub table-separator : (rank place : ℕ)
       → tableRest l (separator rank place ∷ ts) ≡ separatorNumbers l rank ++ tableRest (afterSeparator l rank) ts
@@ -98,42 +122,49 @@ module _ (l : Listing) (ts : List Token) where
 
 module _ (l : Listing) where
   pub records-byte : 3 * afterByte l .records ≡ 3 * l .records + length (byteNumbers l)
-  unfolding afterByte afterMarks byteNumbers
+  unfolding pastHeld afterMarks byteNumbers
   records-byte =
-      let o : Entry = entryAfter 1 (l .held .elements) (entryOf l) in
-      let both = length-append (marksOut 1 (l .held .elements) (entryOf l)) (marksOut 2 (l .held .components) o) in
-      omega (arith, both, marks-length 1 (l .held .elements) (entryOf l), marks-length 2 (l .held .components) o)
+      let h : Held = l .held in
+      let elements : List ℕ = marksOut 1 (h .elements) (entryOf l) in
+      let repeats : List ℕ = marksOut 3 (h .repeats) (entryOf (pastElements l)) in
+      let components : List ℕ = marksOut 2 (h .components) (entryOf (pastRepeats l)) in
+      omega (
+        arith,
+        length-append elements (repeats ++ components),
+        length-append repeats components,
+        marks-length 1 (h .elements) (entryOf l),
+        marks-length 3 (h .repeats) (entryOf (pastElements l)),
+        marks-length 2 (h .components) (entryOf (pastRepeats l)),
+      )
 
   pub end-byte : end (afterByte l) ≡ end l + 1
-  unfolding afterByte afterMarks
-  end-byte =
-      let o : Entry = entryAfter 1 (l .held .elements) (entryOf l) in
-      omega (arith, end-after 1 (l .held .elements) (entryOf l), end-after 2 (l .held .components) o)
+  end-byte = omega (arith, end-held l)
 
   pub values-byte : values (afterByte l) ≡ values l
-  unfolding afterByte afterMarks
+  unfolding pastHeld afterMarks
   values-byte = omega arith
 
   module _ (rank : ℕ) where
-    -- what holds of each of the three listings holds after a separator
+    -- what holds of each of the four listings holds after a separator
     by-separator : (P : Listing → List ℕ → Type 0) → P (listing (l .records + 1) (entryNext 0 (entryOf l)) nothing) (numbersOut (entryOf l))
-        → P (listing (l .records) (entryOf l) (record { elements = l .held .elements + 1; components = 0 })) []
-        → P (listing (l .records) (entryOf l) (record { elements = l .held .elements; components = l .held .components + 1 })) []
+        → P (listing (l .records) (entryOf l) (record { elements = l .held .elements + 1; repeats = 0; components = 0 })) []
+        → P (listing (l .records) (entryOf l) (record { elements = l .held .elements; repeats = l .held .repeats + 1; components = 0 })) []
+        → P (listing (l .records) (entryOf l) (record { elements = l .held .elements; repeats = l .held .repeats; components = l .held .components + 1 })) []
         → P (afterSeparator l rank) (separatorNumbers l rank)
     unfolding afterSeparator separatorNumbers
-    by-separator P p q r =
+    by-separator P p q r s =
         by-rank
         (λ t h. P (if t then listing (l .records + 1) (entryNext 0 (entryOf l)) h else listing (l .records) (entryOf l) h) (if t then numbersOut (entryOf l) else []))
-        (l .held) rank p q r
+        (l .held) rank p q r s
 
     pub records-separator : 3 * afterSeparator l rank .records ≡ 3 * l .records + length (separatorNumbers l rank)
-    records-separator = by-separator (λ m ns. 3 * m .records ≡ 3 * l .records + length ns) (omega arith) (omega arith) (omega arith)
+    records-separator = by-separator (λ m ns. 3 * m .records ≡ 3 * l .records + length ns) (omega arith) (omega arith) (omega arith) (omega arith)
 
     pub end-separator : end (afterSeparator l rank) ≡ end l
-    end-separator = by-separator (λ m ns. end m ≡ end l) (omega arith) refl refl
+    end-separator = by-separator (λ m ns. end m ≡ end l) (omega arith) refl refl refl
 
     pub values-separator : values (afterSeparator l rank) ≤ values l + 1
-    values-separator = by-separator (λ m ns. values m ≤ values l + 1) (omega arith) (omega arith) (omega arith)
+    values-separator = by-separator (λ m ns. values m ≤ values l + 1) (omega arith) (omega arith) (omega arith) (omega arith)
 
 -- ---- room
 

@@ -8,9 +8,10 @@ use Rattle.lists.specs.Lists.{if_then_else_}
 use Rattle.characters.specs.declared.Characters.{Characters}
 use Rattle.operations.specs.ValueList.{Item, Entry}
 
--- The marks are the three separators, each spelled by its rank; a value's byte that is one of these numbers is released.
+-- The marks are the four separators, each spelled by the kind of what it begins; a value's byte that is one of these numbers, or the
+-- release character, is released.
 unfoldable pub marks : Characters
-marks = record { component = 2; element = 1; mark = 46; release = 3; reserved = 32; terminator = 0 }
+marks = record { component = 2; element = 1; mark = 46; release = 4; repetition = 3; terminator = 0 }
 
 -- A mark writes out the open value and names the kind of the next one; a byte makes the open value longer.
 module _ {S B : Type 0} (out : S → List B) (next grow : ℕ → S → S) where
@@ -19,8 +20,8 @@ module _ {S B : Type 0} (out : S → List B) (next grow : ℕ → S → S) where
   readMarks current released [] = []
   readMarks current true (x ∷ xs) = readMarks (grow x current) false xs
   readMarks current false (x ∷ xs) =
-      if leb x 2 then out current ++ readMarks (next x current) false xs
-      else if eqb x 3 then readMarks current true xs else readMarks (grow x current) false xs
+      if leb x 3 then out current ++ readMarks (next x current) false xs
+      else if eqb x 4 then readMarks current true xs else readMarks (grow x current) false xs
 
   -- what a run of marks of one kind writes out, and what is open after it
   unfoldable pub runOut : ℕ → ℕ → S → List B

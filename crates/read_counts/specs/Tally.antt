@@ -47,6 +47,16 @@ entryAfter kind count e = runNext numbersOut entryNext entryGrow kind count e
 unfoldable pub afterMarks : ℕ → ℕ → Listing → Listing
 afterMarks kind count l = listing (l .records + count) (entryAfter kind count (entryOf l)) (l .held)
 
+-- what is held back is let out: the separators of elements, those of repeats, and those of components
+abbrev pub pastElements : Listing → Listing
+pastElements l = afterMarks 1 (l .held .elements) l
+
+abbrev pub pastRepeats : Listing → Listing
+pastRepeats l = afterMarks 3 (l .held .repeats) (pastElements l)
+
+unfoldable pub pastHeld : Listing → Listing
+pastHeld l = afterMarks 2 (l .held .components) (pastRepeats l)
+
 -- ---- one step
 
 -- one byte more in the open value, after which nothing is held back
@@ -54,11 +64,13 @@ abbrev pub grown : Listing → Listing
 grown l = record { records = l .records; kind = l .kind; start = l .start; size = l .size + 1; held = nothing }
 
 -- a byte of a value lets out what is held back
-unfoldable pub afterByte : Listing → Listing
-afterByte l = grown (afterMarks 2 (l .held .components) (afterMarks 1 (l .held .elements) l))
+abbrev pub afterByte : Listing → Listing
+afterByte l = grown (pastHeld l)
 
 unfoldable pub byteNumbers : Listing → List ℕ
-byteNumbers l = marksOut 1 (l .held .elements) (entryOf l) ++ marksOut 2 (l .held .components) (entryAfter 1 (l .held .elements) (entryOf l))
+byteNumbers l =
+    marksOut 1 (l .held .elements) (entryOf l)
+    ++ (marksOut 3 (l .held .repeats) (entryOf (pastElements l)) ++ marksOut 2 (l .held .components) (entryOf (pastRepeats l)))
 
 -- after a terminator the next value begins a segment; another separator is held back
 unfoldable pub afterSeparator : Listing → ℕ → Listing

@@ -5,7 +5,7 @@ ghost use mathlib.Core.Path.{_≡_};
 ghost use Prim.Native.Nat.{_+_, _≤_};
 ghost use lib.ListN.{length};
 ghost use Rattle.values.specs.Tokens.{tokensAt};
-ghost use Rattle.read_counts.specs.Tally.{fresh, values, end, afterMarks, grown, afterByte, afterSeparator, Tallies};
+ghost use Rattle.read_counts.specs.Tally.{fresh, values, end, afterMarks, pastHeld, grown, afterByte, afterSeparator, Tallies};
 ghost use Rattle.refusals.specs.Limits.{mostBytes};
 use characters::Characters;
 use emission_laws::Held;
@@ -61,6 +61,20 @@ pub fn after_marks(l: Listing, kind: u32, count: usize) -> Listing
     }
 }
 
+// What is held back is let out.
+fn past_held(l: Listing) -> Listing
+    requires { ⌜ (values l ≤ mostBytes) × (end l ≤ mostBytes) ⌝ }
+    ensures { λ r. ⌜ r ≡ pastHeld l ⌝ }
+{
+    let h = l.held;
+    if h.elements + h.repeats + h.components == 0 {
+        return l;
+    }
+    let elements = after_marks(l, 1, h.elements);
+    let repeats = after_marks(elements, 3, h.repeats);
+    after_marks(repeats, 2, h.components)
+}
+
 // With one byte more in the open value.
 pub fn with_one_more(l: Listing) -> Listing
     requires { ⌜ l .size ≤ mostBytes ⌝ }
@@ -75,13 +89,11 @@ pub fn with_one_more(l: Listing) -> Listing
     }
 }
 
-pub fn with_byte(l: Listing) -> Listing
+fn with_byte(l: Listing) -> Listing
     requires { ⌜ (values l ≤ mostBytes) × (end l ≤ mostBytes) ⌝ }
     ensures { λ r. ⌜ r ≡ afterByte l ⌝ }
 {
-    let h = l.held;
-    let elements = after_marks(l, 1, h.elements);
-    with_one_more(after_marks(elements, 2, h.components))
+    with_one_more(past_held(l))
 }
 
 pub fn with_separator(l: Listing, rank: u8) -> Listing

@@ -5,7 +5,7 @@ use mathlib.Core.List.{List, [], _∷_, _++_}
 use native.Mathlib.Omega.{arith}
 use native.Mathlib.Numerals.{add-one, add-two}
 use lib.Dec.{leb}
-use lib.ListN.{length, set}
+use lib.ListN.{length, set, drop-of-length-le}
 use lib.Seq.{sets, length-sets}
 use borrow.Author.Tests.{le-leb, lt-leb}
 use Rattle.lists.specs.Lists.{gather}
@@ -13,11 +13,11 @@ use Rattle.lists.proofs.Texts.{if-true, if-false}
 use Rattle.values.specs.Tokens.{Token, byte, separator, fault}
 use Rattle.values.specs.Values.{byteOf, bytesOf}
 use Rattle.operations.specs.ValueList.{Entry}
-use Rattle.emission_laws.specs.Emission.{heldNext, spelledNext, emitted}
+use Rattle.emission_laws.specs.Emission.{waiting, heldNext, spelledNext, emitted}
 use Rattle.storing.proofs.Stores.{stored-after, Goes, goes-step, front-fits}
 use Rattle.read_counts.specs.declared.Listing.{Listing}
 use Rattle.read_counts.specs.Marks.{runOut, runNext, numbersOut, entryNext, readMarks, numbersFrom}
-use Rattle.read_counts.specs.Tally.{entryOf, listing, fresh, values, end, marksOut, entryAfter, afterMarks, afterByte, byteNumbers, afterSeparator, separatorNumbers, tableRest, tableOf}
+use Rattle.read_counts.specs.Tally.{entryOf, listing, fresh, values, end, marksOut, entryAfter, afterMarks, pastElements, pastRepeats, pastHeld, afterByte, byteNumbers, afterSeparator, separatorNumbers, tableRest, tableOf}
 use Rattle.read_counts.proofs.Steps.{after-none, marks-length, end-marks, table-byte, table-separator, records-byte, end-byte, records-separator, end-separator, Room, room-start, room-byte, room-separator, room-fault}
 
 -- ---- records
@@ -114,18 +114,37 @@ no-numbers l kind z = if-false (leb kind 0) (numbersOut (entryOf l)) [] (lt-leb 
 
 -- ---- a byte of a value
 
--- the records that it lets out: those of elements, and after them those of components
-pub byte-stored : (t₀ : List ℕ) {t₁ t₂ : List ℕ} (l o : Listing) → t₁ ≡ sets t₀ (l .records * 3) (marksOut 1 (l .held .elements) (entryOf l))
-    → o ≡ afterMarks 1 (l .held .elements) l → t₂ ≡ sets t₁ (o .records * 3) (marksOut 2 (l .held .components) (entryOf o))
-    → t₂ ≡ sets t₀ (l .records * 3) (byteNumbers l)
+-- where nothing is held back it lets out no record
+pub no-held : (l : Listing) → waiting (l .held) ≡ 0 → byteNumbers l ≡ []
+unfolding pastHeld afterMarks
+no-held l e = drop-of-length-le (byteNumbers l) {i = 0} (omega (arith, records-byte l))
+
+-- the records that it lets out: those of elements, after them those of repeats, and after them those of components
+pub held-stored : (t₀ : List ℕ) {t₁ t₂ t₃ : List ℕ} (l o p : Listing) → t₁ ≡ sets t₀ (l .records * 3) (marksOut 1 (l .held .elements) (entryOf l))
+    → o ≡ pastElements l → t₂ ≡ sets t₁ (o .records * 3) (marksOut 3 (l .held .repeats) (entryOf o))
+    → p ≡ afterMarks 3 (l .held .repeats) o → t₃ ≡ sets t₂ (p .records * 3) (marksOut 2 (l .held .components) (entryOf p))
+    → t₃ ≡ sets t₀ (l .records * 3) (byteNumbers l)
 unfolding afterMarks byteNumbers
-byte-stored t₀ {t₁} l o p d q =
-    let components = marksOut 2 (l .held .components) (entryAfter 1 (l .held .elements) (entryOf l)) in
-    stored-after t₀ (l .records * 3) (marksOut 1 (l .held .elements) (entryOf l)) components p next
-    (q ∙ ap (λ (x : Listing). sets t₁ (x .records * 3) (marksOut 2 (l .held .components) (entryOf x))) d)
+held-stored t₀ {t₁} {t₂} {t₃} l o p a d b f g =
+    stored-after t₀ (l .records * 3) (marksOut 1 (l .held .elements) (entryOf l)) (repeats o ++ components (pastRepeats l))
+    a
+    (ap (λ (x : Listing). x .records * 3) d ∙ omega (arith, marks-length 1 (l .held .elements) (entryOf l)))
+    rest
+    ∙ ap (λ (x : Listing). sets t₀ (l .records * 3) (marksOut 1 (l .held .elements) (entryOf l) ++ (repeats x ++ components (pastRepeats l)))) d
   where
-    next : (l .records + l .held .elements) * 3 ≡ l .records * 3 + length (marksOut 1 (l .held .elements) (entryOf l))
-    next = omega (arith, marks-length 1 (l .held .elements) (entryOf l))
+    repeats : Listing → List ℕ
+    repeats x = marksOut 3 (l .held .repeats) (entryOf x)
+
+    components : Listing → List ℕ
+    components x = marksOut 2 (l .held .components) (entryOf x)
+
+    -- those of repeats and of components
+    rest : t₃ ≡ sets t₁ (o .records * 3) (repeats o ++ components (pastRepeats l))
+    rest =
+        stored-after t₁ (o .records * 3) (repeats o) (components p) b
+        (ap (λ (x : Listing). x .records * 3) f ∙ omega (arith, marks-length 3 (l .held .repeats) (entryOf o)))
+        g
+        ∙ ap (λ (x : Listing). sets t₁ (o .records * 3) (repeats o ++ components x)) (f ∙ ap (afterMarks 3 (l .held .repeats)) d)
 
 -- ---- the whole list
 
@@ -160,7 +179,7 @@ module _ {b₀ b₁ t₀ t₁ : List ℕ} {whole : List Token} (l : Listing) {ts
     byte-fits = omega (arith, front-fits (g .bytes) (b ∷ []) (bytesOf rest) bytes-first)
 
     pub records-fit : values l * 3 ≤ length t₁
-    unfolding afterByte afterMarks
+    unfolding pastHeld afterMarks
     records-fit = omega (arith, front-fits (g .table) (byteNumbers l) (tableRest (afterByte l) rest) table-first, records-byte l)
 
     pub stored-byte : {b₂ t₂ : List ℕ} {m : Listing} {less : ℕ} → b₂ ≡ sets b₁ (end l) (b ∷ []) → t₂ ≡ sets t₁ (l .records * 3) (byteNumbers l)

@@ -9,7 +9,7 @@ ghost use lib.Seq.{sets};
 ghost use Rattle.values.specs.Values.{bytesOf};
 ghost use Rattle.values.specs.Tokens.{tokensAt};
 ghost use Rattle.read_counts.specs.Marks.{numbersOut};
-ghost use Rattle.read_counts.specs.Tally.{entryOf, values, end, marksOut, afterMarks, afterByte, byteNumbers, afterSeparator, separatorNumbers, tableOf};
+ghost use Rattle.read_counts.specs.Tally.{entryOf, values, end, marksOut, afterMarks, pastHeld, afterByte, byteNumbers, afterSeparator, separatorNumbers, tableOf};
 ghost use Rattle.refusals.specs.Limits.{mostBytes};
 use characters::Characters;
 use read_counts::Listing;
@@ -46,6 +46,20 @@ fn put_marks(table: &mut [u32], l: Listing, kind: u32, count: usize) -> Listing
     m
 }
 
+// Stores the records of what is held back, which is let out.
+fn put_held(table: &mut [u32], l: Listing) -> Listing
+    requires { ⌜ (values l * 3 ≤ length (now table)) × (values l ≤ mostBytes) × (end l ≤ mostBytes) ⌝ }
+    ensures { λ r. ⌜ (now (table .exit) ≡ sets (now (table .entry)) (l .records * 3) (byteNumbers l)) × (r ≡ pastHeld l) ⌝ }
+{
+    let h = l.held;
+    if h.elements + h.repeats + h.components == 0 {
+        return l;
+    }
+    let elements = put_marks(table, l, 1, h.elements);
+    let repeats = put_marks(table, elements, 3, h.repeats);
+    put_marks(table, repeats, 2, h.components)
+}
+
 // Stores a byte of a value, and the records that it lets out.
 fn put_value_byte(buffer: &mut [u8], table: &mut [u32], l: Listing, b: u8) -> Listing
     requires { ⌜ (end l < length (now buffer)) × (values l * 3 ≤ length (now table)) × (values l ≤ mostBytes) × (end l ≤ mostBytes) ⌝ }
@@ -53,9 +67,7 @@ fn put_value_byte(buffer: &mut [u8], table: &mut [u32], l: Listing, b: u8) -> Li
 {
     let at = l.start + l.size;
     buffer[at] = b;
-    let h = l.held;
-    let elements = put_marks(table, l, 1, h.elements);
-    with_one_more(put_marks(table, elements, 2, h.components))
+    with_one_more(put_held(table, l))
 }
 
 // A terminator stores the record of the value that it ends; another separator is held back.

@@ -7,15 +7,16 @@ use mathlib.Core.List.{List, [], _∷_, _++_, append-assoc}
 use native.Mathlib.Omega.{arith}
 use lib.ListN.{length, take, drop, length-append}
 use lib.Seq.{drop-drop, take-at, drop-append-seam}
-use borrow.Author.Tests.{not-false}
+use borrow.Author.Tests.{le-leb, not-false}
 use Rattle.lists.specs.Lists.{isEmpty, lastOr, through, gather}
 use Rattle.characters.specs.declared.Characters.{Characters}
 use Rattle.characters.specs.Characters.{usable}
 use Rattle.nesting_laws.proofs.Positions.{Place, PieceAt, piece-parted}
-use Rattle.values.specs.Tokens.{Token, byte, separator, fault, tokensFrom, tokens, ends, placeOf, start}
+use Rattle.values.specs.Tokens.{Token, byte, separator, fault, tokensFrom, tokens, ends, endsPart, placeOf, start}
 use Rattle.values.specs.Values.{byteOf, bytesOf, endPlace, valueOf, endedBy, endsInside}
 use Rattle.values.specs.Spelling.{Bytes, spellByte, spellValue}
-use Rattle.spelling_laws.specs.Bodies.{endsPart, Sound, Passes}
+use Rattle.spelling_laws.specs.Bodies.{Sound, Passes}
+use Rattle.spelling_laws.proofs.Service.{separable-low}
 use Rattle.spelling_laws.proofs.Tokens.{spellable, spellToken, sayable, Lexed, nothing, passed, next, byte-stands, lexed-inside}
 use Rattle.spelling_laws.proofs.Laws.{read-tokens}
 use Rattle.round_trip_laws.specs.Trips.{NamesValue}
@@ -118,26 +119,26 @@ module _ (c : Characters) (u : usable c ≡ true) (s : List ℕ) where
 
   -- the first value of tokens that stand in the input, with no break in front, and end in a terminator
   first-value : {after : Bool} {p : ℕ} {body : Bytes} {ts : List Token} → Lexed c after p body ts → after ≡ false → drop p s ≡ body
-      → endedBy 0 ts ≡ true → ValueAt p (through (ends 2) ts)
+      → endedBy 0 ts ≡ true → ValueAt p (through (ends 3) ts)
   unfolding endedBy lastOr through ends sayable placeOf spellToken
   first-value nothing n e h = absurd (false≢true h)
   first-value (passed k l) n e h = absurd (true≢false n)
-  first-value {p = p} (next {t = separator rank q} {ts = ts} st l) n e h = rw (st .said, st .placed) (value-alone p rank)
+  first-value {p = p} (next {t = separator rank q} {ts = ts} st l) n e h = rw (le-leb rank 3 (separable-low c rank (st .said)), st .placed) (value-alone p rank)
   first-value (next {t = byte b from place} {ts = []} st l) n e h = absurd (false≢true h)
   first-value {p = p} (next {t = byte b from place} {rest = rest} {ts = v ∷ vs} st l) n e h =
       let more : drop (p + length (spellByte c b)) s ≡ rest = drop-more p (spellByte c b) rest e in
       rw (st .placed)
-      (value-further p b place (through (ends 2) (v ∷ vs)) (st .said, e ∙ ap (λ (r : Bytes). spellByte c b ++ r) (sym more))
+      (value-further p b place (through (ends 3) (v ∷ vs)) (st .said, e ∙ ap (λ (r : Bytes). spellByte c b ++ r) (sym more))
       (first-value l refl more h))
   first-value (next {t = fault place} st l) n e h = absurd (false≢true (st .said))
 
   -- every value of a body that passes names its spelling
-  pub named-piece : (p : ℕ) (body : Bytes) → Passes c p body → drop p s ≡ body → (spot : Place 3) (piece : List Token)
-      → PieceAt endsPart 3 spot (tokens c p body) piece → NamesValue c s (valueOf piece)
+  pub named-piece : (p : ℕ) (body : Bytes) → Passes c p body → drop p s ≡ body → (spot : Place 4) (piece : List Token)
+      → PieceAt endsPart 4 spot (tokens c p body) piece → NamesValue c s (valueOf piece)
   unfolding Passes Sound
   named-piece p body h e spot piece k =
-      let d = piece-parted endsPart ends-value 2 spot (tokens c p body) piece k in
+      let d = piece-parted endsPart ends-value 3 spot (tokens c p body) piece k in
       let l = lexed-rest (d .before) (d .rest) (rw (d .parts) at (read-tokens c u p body h)) e in
       subst (λ (ts : List Token). NamesValue c s (valueOf ts)) (d .begins)
-      (value-named (l .0) (through (ends 2) (d .rest))
+      (value-named (l .0) (through (ends 3) (d .rest))
       (first-value (l .2) refl (l .3) (ended-rest (d .before) (d .rest) (d .there) (sym (ap endsInside (d .parts)) ∙ h .1))))

@@ -1,14 +1,14 @@
 -- The theorems of this crate. Assumes nothing.
 use Prim.Native.Nat.{ℕ, _≤_}
 use mathlib.Core.Path.{_≡_, refl, sym, ap, subst, _∙_}
-use mathlib.Core.Bool.{true, true≢false}
+use mathlib.Core.Bool.{true, false, true≢false}
 use mathlib.Core.List.{List, [], _∷_, map, map-map}
 use mathlib.Core.Option.{Option, none, some, Option·map, map-eq-none-iff}
 use mathlib.Core.Logic.{_↔_}
 use lib.ListN.{length, take, drop}
 use Rattle.lists.specs.Lists.{maybe}
 use Rattle.characters.specs.declared.Characters.{Characters}
-use Rattle.characters.specs.Characters.{sixBytes, hasRelease, charactersOf, bodyStart, body}
+use Rattle.characters.specs.Characters.{sixBytes, hasRelease, hasRepetition, charactersOf, bodyStart, body}
 use Rattle.values.specs.Values.{Value}
 use Rattle.values.specs.Trimming.{trimmed, contentsOf}
 use Rattle.values.specs.Spelling.{SegmentList, spellValue}
@@ -20,14 +20,17 @@ use Rattle.operations.specs.ValueList.{listOf, listBytes, listTable, listedIn, 
 use Rattle.operations.specs.Locate.{located, partOffset, partLength, part}
 use Rattle.operations.specs.Write.{writtenText, writeRefusal, write}
 use Rattle.operations.proofs.Answered.{judge-by, read-given, read-passes}
-use Rattle.spelling_laws.specs.Bodies.{Releasable}
+use Rattle.spelling_laws.specs.Bodies.{Spellable}
 use Rattle.trimming_laws.proofs.Nesting.{listOf-listed}
-use Rattle.normal_form_laws.proofs.Normal.{accepted-usable, accepted-passes}
+use Rattle.normal_form_laws.specs.Forms.{Suits}
+use Rattle.normal_form_laws.proofs.Accepted.{accepted-exactly}
+use Rattle.normal_form_laws.proofs.Versions.{own-suits}
+use Rattle.normal_form_laws.proofs.Normal.{accepted-usable, accepted-passes, contents-spellable}
 use Rattle.normal_form_laws.proofs.Theorems.{same-exactly}
 use Rattle.round_trip_laws.specs.Trips.{listGiven, standingAt, WrittenBack, Rewritable, ReadBack, NamesValue, Placed}
 use Rattle.round_trip_laws.proofs.Values.{kinds-sound}
 use Rattle.stages.proofs.Stages.{later-none}
-use Rattle.round_trip_laws.proofs.Written.{write-passed, text-accepted, text-contents, text-characters, text-stored, list-read, list-sound, list-releasable, list-text, six-usable, short-enough, read-accepted, bytes-stand, table-stands}
+use Rattle.round_trip_laws.proofs.Written.{write-passed, text-accepted, text-contents, text-characters, text-stored, list-read, list-sound, list-spellable, list-text, six-usable, short-enough, read-accepted, bytes-stand, table-stands}
 use Rattle.round_trip_laws.proofs.Positions.{standing-map, spotAt, standing-piece}
 use Rattle.round_trip_laws.proofs.Places.{named-piece}
 use Rattle.round_trip_laws.proofs.Placed.{standing-placed}
@@ -92,8 +95,16 @@ module _ (s service : List ℕ) (h : refusalOf s ≡ none) where
   unfolding listGiven
   rewritten-contents output w = written-contents service (valueBytes s) (valueTable s) output w ∙ list-read s h
 
-  -- Write is refused for nothing but its six bytes (2), a service character that they cannot release (16), a text over 32,000
-  -- bytes (1), and a buffer that is too short for it (14): never for the list (15), and the text is never refused by 3 to 13.
+  -- its fifth byte suits the version,
+  text-suits : (output : List ℕ) → writeRefusal service (valueBytes s) (valueTable s) output ≡ none → Suits (sixBytes service) (contents s)
+  text-suits output w =
+      let own = own-suits rewritten (accepted-exactly rewritten .0 (written-accepted service (valueBytes s) (valueTable s) output w)) in
+      subst (Suits (sixBytes service)) (rewritten-contents output w)
+      (subst (λ (c : Characters). Suits c (contents rewritten)) (text-characters service (valueBytes s) (valueTable s) output) own)
+
+  -- Write is refused for nothing but its six bytes (2), a service character that they cannot release or a repeat that they cannot separate
+  -- (16), a text over 32,000 bytes (1), a buffer that is too short for it (14), and a fifth byte that is no space where the version is not 4
+  -- (7): never for the list (15), and the text is never refused by another of 3 to 13.
   pub rewritten-exactly : (output : List ℕ) → (writeRefusal service (valueBytes s) (valueTable s) output ≡ none) ↔ Rewritable s service output
   rewritten-exactly output =
       let c : Characters = sixBytes service in
@@ -104,28 +115,33 @@ module _ (s service : List ℕ) (h : refusalOf s ≡ none) where
             record {
               six = six .0;
               usable-bytes = six .1;
-              releasable = list-releasable s h service .0 (p .releases);
+              spellable = list-spellable s h service .0 (p .releases);
+              suits = text-suits output w;
               short = rw (← rewritten-text) (short-enough rewritten .0 (p .short));
               fits = rw (← rewritten-text) (p .fits);
             },
         λ k.
             let text-short : length rewritten ≤ mostBytes = rw rewritten-text (k .short) in
-            let respelled = respelled-accepted s h c (k .usable-bytes) (k .releasable) (k .short) in
+            let respelled = respelled-accepted s h c (k .usable-bytes) (k .spellable) (k .suits) (k .short) in
             let passes : refusalOf rewritten ≡ none = ap refusalOf rewritten-text ∙ respelled in
             passed .1 (record {
               list = list-sound s h;
               characters = six-usable service .1 (k .six, k .usable-bytes);
-              releases = list-releasable s h service .1 (k .releasable);
+              releases = list-spellable s h service .1 (k .spellable);
               short = short-enough rewritten .1 text-short;
               fits = rw rewritten-text (k .fits);
               later = later-none rewritten passes;
             }),
       )
 
-  -- Every list can be spelled where there is a release character, so that with one, 16 does not refuse either.
-  pub rewritten-released : hasRelease (sixBytes service) ≡ true → Releasable (sixBytes service) (contents s)
-  unfolding Releasable
-  rewritten-released r n = absurd (true≢false (sym r ∙ n))
+  -- The contents can be spelled where there is a release character, and a repetition separator if s has one, so that 16 does not refuse
+  -- either.
+  pub rewritten-released : hasRelease (sixBytes service) ≡ true → (hasRepetition (sixBytes service) ≡ false → hasRepetition (charactersOf s) ≡ false)
+      → Spellable (sixBytes service) (contents s)
+  rewritten-released r p = record {
+    released = λ n. absurd (true≢false (sym r ∙ n));
+    repeated = λ n. contents-spellable s h .repeated (p n);
+  }
 
 -- Whoever gets the number 0 from Read, and then from Write, can rely on this.
 pub read-back : (s buffer numbers service output : List ℕ) → read buffer numbers s .number ≡ 0
@@ -155,33 +171,33 @@ read-back s buffer numbers service output n m =
 
 -- ---- Locate, and what Read gives
 
-module _ (s : List ℕ) (segment element component : ℕ) where
+module _ (s : List ℕ) (segment element repeat component : ℕ) where
   abbrev found : Option Value
-  found = located s segment element component
+  found = located s segment element repeat component
 
   -- What Locate finds at a position is what stands there in the contents, of any input:
-  pub located-contents : standingAt (contents s) segment element component ≡ Option·map (λ v. v .bytes) found
+  pub located-contents : standingAt (contents s) segment element repeat component ≡ Option·map (λ v. v .bytes) found
   unfolding contents contentsOf located standingAt
   located-contents =
-      ap (λ (list : SegmentList). standingAt list segment element component)
-      (sym (map-map (map (map (λ v. v .bytes))) trimmed (segmentsOf s)))
-      ∙ standing-map (λ v. v .bytes) (map trimmed (segmentsOf s)) segment element component
+      ap (λ (list : SegmentList). standingAt list segment element repeat component)
+      (sym (map-map (map (map (map (λ v. v .bytes)))) trimmed (segmentsOf s)))
+      ∙ standing-map (λ v. v .bytes) (map trimmed (segmentsOf s)) segment element repeat component
 
   -- the same bytes,
-  pub located-value : (v : Value) → found ≡ some v → standingAt (contents s) segment element component ≡ some (v .bytes)
+  pub located-value : (v : Value) → found ≡ some v → standingAt (contents s) segment element repeat component ≡ some (v .bytes)
   located-value v e = located-contents ∙ ap (Option·map (λ v. v .bytes)) e
 
   -- and nothing exactly where the contents have no such position.
-  pub located-none : (found ≡ none) ↔ (standingAt (contents s) segment element component ≡ none)
+  pub located-none : (found ≡ none) ↔ (standingAt (contents s) segment element repeat component ≡ none)
   located-none =
       let nothing = map-eq-none-iff (λ (v : Value). v .bytes) found in
       (λ e. located-contents ∙ nothing .1 e, λ e. nothing .0 (sym located-contents ∙ e))
 
   -- It stands at that position in the body, of any input.
   pub located-placed : (v : Value) → found ≡ some v
-      → Placed (bodyTokens s) (record { segment = segment; element = element; component = component }) v
+      → Placed (bodyTokens s) (record { segment = segment; element = element; repeat = repeat; component = component }) v
   unfolding located standingAt segmentsOf
-  located-placed v e = standing-placed (bodyTokens s) segment element component v e
+  located-placed v e = standing-placed (bodyTokens s) segment element repeat component v e
 
   module _ (h : refusalOf s ≡ none) where
     -- In an accepted input, the part that Locate names is the value's spelling, and read alone it is the value.
@@ -190,12 +206,12 @@ module _ (s : List ℕ) (segment element component : ℕ) where
     located-named v e =
         let c : Characters = charactersOf s in
         let u = accepted-usable s h in
-        let q = standing-piece segment element component (bodyTokens s) v e in
-        subst (NamesValue c s) (q .2) (named-piece c u s (bodyStart s) (body s) (accepted-passes s h) refl (spotAt segment element component) (q .0) (q .1))
+        let q = standing-piece segment element repeat component (bodyTokens s) v e in
+        subst (NamesValue c s) (q .2) (named-piece c u s (bodyStart s) (body s) (accepted-passes s h) refl (spotAt segment element repeat component) (q .0) (q .1))
 
     -- So Locate's companion hands back the spelling of what Read gives there, and zero bytes where there is nothing.
-    pub part-spelled : part s segment element component
-        ≡ maybe [] (spellValue (charactersOf s)) (standingAt (contents s) segment element component)
+    pub part-spelled : part s segment element repeat component
+        ≡ maybe [] (spellValue (charactersOf s)) (standingAt (contents s) segment element repeat component)
     unfolding part partLength partOffset maybe
     part-spelled = rw (h, located-contents) (step found refl)
       where

@@ -18,7 +18,7 @@ use Rattle.refusals.specs.Refusals.{Stage, met, placeIf, lowest, orElse, answer
 use Rattle.refusals.proofs.Lowest.{lowest-none}
 use Rattle.refusals.proofs.Stages.{met-none, orElse-neither, answering-append, place-none, place-none-not}
 use Rattle.values.specs.Spelling.{SegmentList, spell}
-use Rattle.stages.specs.Contents.{contents, interchange, normalCharacters, normalForm}
+use Rattle.stages.specs.Contents.{contents, interchange, normalForm}
 use Rattle.stages.specs.Places.{tooLong, unusableAdvice, normalTooLong}
 use Rattle.stages.specs.Stages.{laterStages, stages, refusalOf}
 use Rattle.stages.proofs.Stages.{later-answers}
@@ -29,14 +29,14 @@ use Rattle.operations.specs.ValueList.{Item, listOf, listBytes, listTable, list
 use Rattle.operations.specs.Write.{badList, unusableBytes, needsRelease, writtenText, writeStages, writeRefusal, writeOutput}
 use Rattle.operations.proofs.Answered.{read-given}
 use Rattle.operations.proofs.Cases.{write-given}
-use Rattle.spelling_laws.specs.Bodies.{Shaped, Releasable}
+use Rattle.spelling_laws.specs.Bodies.{Shaped, Spellable}
 use Rattle.trimming_laws.specs.Kinds.{Kinds}
 use Rattle.trimming_laws.proofs.Nesting.{shaped-listed, kinds-listOf}
 use Rattle.trimming_laws.proofs.Trimmed.{trimList-again, trimList-shaped}
 use Rattle.trimming_laws.proofs.Starts.{unbroken-listed, trim-unbroken}
 use Rattle.trimming_laws.proofs.Tables.{listed-table, segments-table, listOf-sound}
-use Rattle.normal_form_laws.specs.Forms.{markOf}
-use Rattle.normal_form_laws.proofs.Trimmed.{contents-trimmed, trim-releasable}
+use Rattle.normal_form_laws.specs.Forms.{formCharacters}
+use Rattle.normal_form_laws.proofs.Trimmed.{contents-trimmed, trim-spellable}
 use Rattle.normal_form_laws.proofs.Openings.{advice-characters, advice-good, interchange-contents}
 use Rattle.normal_form_laws.proofs.Accepted.{accepted-exactly}
 use Rattle.normal_form_laws.proofs.Normal.{contents-shaped, contents-unbroken}
@@ -168,7 +168,7 @@ module _ (service bytes table output : List ℕ) where
         let list : SegmentList = segmentsListed items in
         interchange-contents (sixBytes service) (trimList list) (six-usable service .0 (p .characters) .1)
         (trimList-shaped list (shaped-listed items kinds))
-        (trim-releasable (sixBytes service) list (release-exactly service bytes table kinds .0 (p .releases)))
+        (trim-spellable (sixBytes service) list (release-exactly service bytes table kinds .0 (p .releases)))
         (trim-unbroken list (unbroken-listed items kinds (starts-sound bytes table (p .list))))
         ∙ trimList-again list
 
@@ -193,7 +193,7 @@ module _ (s : List ℕ) (accepted : refusalOf s ≡ none) where
   values-few : length (listOf (contents s)) ≤ mostBytes
   unfolding normalTooLong normalForm interchange
   values-few =
-      let c : Characters = normalCharacters (markOf s) in
+      let c : Characters = formCharacters s in
       let list : SegmentList = contents s in
       omega (
         arith,
@@ -208,15 +208,15 @@ module _ (s : List ℕ) (accepted : refusalOf s ≡ none) where
   list-sound = listOf-sound (contents s) (contents-shaped s accepted) (contents-unbroken s accepted) values-few
 
   -- 16 is not met exactly where its contents can be spelled
-  pub list-releasable : (service : List ℕ)
-      → (needsRelease service (valueBytes s) (valueTable s) ≡ []) ↔ Releasable (sixBytes service) (contents s)
+  pub list-spellable : (service : List ℕ)
+      → (needsRelease service (valueBytes s) (valueTable s) ≡ []) ↔ Spellable (sixBytes service) (contents s)
   unfolding valueBytes valueTable
-  list-releasable service =
+  list-spellable service =
       let items : List Item = listOf (contents s) in
       let shaped : Shaped (contents s) = contents-shaped s accepted in
       subst
       (λ (list : SegmentList).
-      (needsRelease service (listBytes items) (listTable items) ≡ []) ↔ Releasable (sixBytes service) list)
+      (needsRelease service (listBytes items) (listTable items) ≡ []) ↔ Spellable (sixBytes service) list)
       (segments-table (contents s) shaped)
       (release-exactly service (listBytes items) (listTable items) (rw (listed-table items) (kinds-listOf (contents s) shaped)))
 

@@ -20,7 +20,8 @@ use Rattle.operations.specs.Compare.{compare}
 use Rattle.operations.specs.Read.{valueBytes, valueTable, read, readBytes, readTable}
 use Rattle.operations.specs.ValueList.{listOf, listBytes, listTable, listedIn, segmentsListed, trimList}
 use Rattle.operations.specs.Write.{writeOutput}
-use Rattle.spelling_laws.specs.Bodies.{Releasable}
+use Rattle.spelling_laws.specs.Bodies.{Spellable}
+use Rattle.normal_form_laws.specs.Forms.{Suits}
 use Rattle.refusals.specs.Limits.{mostBytes}
 
 -- the list of segments that a value list stands for, with its empty ends trimmed
@@ -45,12 +46,13 @@ pub record WrittenBack (service bytes table output : List ℕ) (text : List ℕ)
       × (readBytes buffer numbers text ≡ valueBytes text ++ drop (length (valueBytes text)) buffer)
       × (readTable buffer numbers text ≡ valueTable text ++ drop (length (valueTable text)) numbers)
 
--- What lets Write take what Read gave for s: six usable bytes that can spell the contents, a text of 32,000 bytes at most, and
--- room for it.
+-- What lets Write take what Read gave for s: six usable bytes that can spell the contents, and of which the fifth is a space unless the
+-- contents name version 4, a text of 32,000 bytes at most, and room for it.
 pub record Rewritable (s service output : List ℕ) : Type 0 where
   pub six : length service ≡ 6
   pub usable-bytes : usable (sixBytes service) ≡ true
-  pub releasable : Releasable (sixBytes service) (contents s)
+  pub spellable : Spellable (sixBytes service) (contents s)
+  pub suits : Suits (sixBytes service) (contents s)
   pub short : length (interchange (sixBytes service) (contents s)) ≤ mostBytes
   pub fits : length (interchange (sixBytes service) (contents s)) ≤ length output
 
@@ -67,9 +69,9 @@ pub record ReadBack (s buffer numbers service : List ℕ) (text : List ℕ) : Ty
   -- and Compare says "same" where the decimal mark is that of s.
   pub same : sixBytes service .mark ≡ charactersOf s .mark → compare s text ≡ given (1 ∷ [])
 
--- what stands at a position, by segment, element and component
-unfoldable pub standingAt : {A : Type 0} → List (List (List A)) → ℕ → ℕ → ℕ → Option A
-standingAt list segment element component = maybe none (λ elements. valueAt elements element component) (at list segment)
+-- what stands at a position, by segment, element, repeat and component
+unfoldable pub standingAt : {A : Type 0} → List (List (List (List A))) → ℕ → ℕ → ℕ → ℕ → Option A
+standingAt list segment element repeat component = maybe none (λ elements. valueAt elements element repeat component) (at list segment)
 
 -- The part of the input that a value names is the value's spelling; and that part alone, its release characters taken off, is the value.
 pub record NamesValue (c : Characters) (s : List ℕ) (v : Value) : Type 0 where
@@ -78,20 +80,27 @@ pub record NamesValue (c : Characters) (s : List ℕ) (v : Value) : Type 0 where
 
 -- ---- where a value stands among the tokens of the body
 
--- by segment, element and component, each from 0
+-- by segment, element, repeat and component, each from 0
 pub record Position : Type 0 where
   pub segment : ℕ
   pub element : ℕ
+  pub repeat : ℕ
   pub component : ℕ
 
--- After a terminator the next segment begins, after an element separator the next element, after a component separator the next
--- component. There is no separator of another rank.
+abbrev pub origin : Position
+origin = record { segment = 0; element = 0; repeat = 0; component = 0 }
+
+-- After a terminator the next segment begins, after an element separator the next element, after a repetition separator the next repeat,
+-- after a component separator the next component. There is no separator of another rank.
 unfoldable pub passed : Position → Token → Position
 passed p (byte b from place) = p
-passed p (separator zero place) = record { segment = suc (p .segment); element = 0; component = 0 }
-passed p (separator (suc zero) place) = record { segment = p .segment; element = suc (p .element); component = 0 }
-passed p (separator (suc (suc zero)) place) = record { segment = p .segment; element = p .element; component = suc (p .component) }
-passed p (separator (suc (suc (suc k))) place) = p
+passed p (separator zero place) = record { segment = suc (p .segment); element = 0; repeat = 0; component = 0 }
+passed p (separator (suc zero) place) = record { segment = p .segment; element = suc (p .element); repeat = 0; component = 0 }
+passed p (separator (suc (suc zero)) place) =
+    record { segment = p .segment; element = p .element; repeat = suc (p .repeat); component = 0 }
+passed p (separator (suc (suc (suc zero))) place) =
+    record { segment = p .segment; element = p .element; repeat = p .repeat; component = suc (p .component) }
+passed p (separator (suc (suc (suc (suc k)))) place) = p
 passed p (fault place) = p
 
 -- the position after tokens, from left to right
@@ -105,9 +114,9 @@ pub record Placed (ts : List Token) (p : Position) (v : Value) : Type 0 where
   pub before : List Token
   pub rest : List Token
   pub parts : ts ≡ before ++ rest
-  pub reaches : reached (record { segment = 0; element = 0; component = 0 }) before ≡ p
-  pub separated : (before ≡ []) ⊎ (endedBy 2 before ≡ true)
+  pub reaches : reached origin before ≡ p
+  pub separated : (before ≡ []) ⊎ (endedBy 3 before ≡ true)
   pub there : isEmpty rest ≡ false
-  pub bytes : v .bytes ≡ bytesOf (through (ends 2) rest)
+  pub bytes : v .bytes ≡ bytesOf (through (ends 3) rest)
   pub offset : v .offset ≡ start rest
-  pub spelled : v .spelled ≡ endPlace (through (ends 2) rest) - start rest
+  pub spelled : v .spelled ≡ endPlace (through (ends 3) rest) - start rest

@@ -1,8 +1,8 @@
-// Locates a value: `locate SEGMENT ELEMENT COMPONENT [FILE ..]` looks in each file, or in standard input
+// Locates a value: `locate SEGMENT ELEMENT REPEAT COMPONENT [FILE ..]` looks in each file, or in standard input
 // where none is named, for the value with these numbers, each from 0 in the contents (element 0 is the
 // tag). It prints a line for each, `at OFFSET LENGTH VALUE` with the value as it is spelled there;
 // `absent`; or `refused NUMBER PLACE`. The line of an input that cannot be read is `unreadable`, and
-// standard error says why. It also says how the program is used where the three are not numbers of up
+// standard error says why. It also says how the program is used where the four are not numbers of up
 // to nine digits. A program in Rattle ends with status 0 whatever it says.
 use answers::Located;
 use inputs::Number;
@@ -14,10 +14,11 @@ use printing::print_line;
 use printing::print_refused;
 use printing::print_value;
 
-// The numbers of a segment, an element and a component.
+// The numbers of a segment, an element, a repeat and a component.
 struct Numbers {
     segment: usize,
     element: usize,
+    repeat: usize,
     component: usize,
 }
 
@@ -30,11 +31,11 @@ fn print_at(offset: usize, value: &[u8]) -> bool {
 }
 
 fn print_located(input: &[u8], v: Numbers) -> bool {
-    match locate::locate(input, v.segment, v.element, v.component) {
+    match locate::locate(input, v.segment, v.element, v.repeat, v.component) {
         Located::At { offset, length: _ } => {
             print_at(
                 offset,
-                locate::part(input, v.segment, v.element, v.component),
+                locate::part(input, v.segment, v.element, v.repeat, v.component),
             )
         }
         Located::Absent => print_line(b"absent"),
@@ -54,7 +55,7 @@ fn locate_input(v: Numbers, source: Source) {
 }
 
 fn locate_arguments(v: Numbers, count: usize) {
-    let mut i = 4;
+    let mut i = 5;
     while i < count {
         locate_input(v, Source::Argument(i));
         i += 1;
@@ -71,7 +72,7 @@ fn argument(i: usize) -> Number {
 fn say_usage() {
     io::write_all(
         STDERR_FILENO,
-        b"usage: run_locate SEGMENT ELEMENT COMPONENT [FILE ..]\n",
+        b"usage: run_locate SEGMENT ELEMENT REPEAT COMPONENT [FILE ..]\n",
     );
 }
 
@@ -84,17 +85,22 @@ fn main() {
         say_usage();
         return;
     };
-    let Number::Is(component) = argument(3) else {
+    let Number::Is(repeat) = argument(3) else {
+        say_usage();
+        return;
+    };
+    let Number::Is(component) = argument(4) else {
         say_usage();
         return;
     };
     let v = Numbers {
         segment,
         element,
+        repeat,
         component,
     };
     let count = os::arg_count();
-    if count < 5 {
+    if count < 6 {
         locate_input(v, Source::StandardInput);
         return;
     }

@@ -14,7 +14,7 @@ use Rattle.lists.proofs.Texts.{if-true, if-false}
 use Rattle.characters.specs.declared.Characters.{Characters}
 use Rattle.characters.specs.declared.Role.{Role}
 use Rattle.characters.specs.declared.Role.the-variants as role
-use Rattle.characters.specs.Characters.{role as roleIn, hasRelease, afterBreaks}
+use Rattle.characters.specs.Characters.{role as roleIn, hasRelease, hasRepetition, afterBreaks}
 use Rattle.values.specs.Tokens.{Token, byte, separator, fault, tokensAt}
 use Rattle.values.proofs.Steps.{at-end, at-plain, at-terminator, at-separator, at-last-release, at-stray-release, at-released-release, at-released-separator}
 use Rattle.scanner.specs.declared.Lexed.{Lexed}
@@ -22,9 +22,9 @@ use Rattle.scanner.specs.declared.Lexed.the-variants.{Byte, Separator, S
 use Rattle.line_breaks.proofs.Passing.{after-least, after-most}
 use Rattle.scanner.specs.Scanner.{lexSeparator, lexTaken, lexRole, lexAt}
 
--- there are three ranks of separators
+-- there are four ranks of separators
 abbrev Known : Role → Type 0
-Known (role.Separator rank) = rank ≤ 2
+Known (role.Separator rank) = rank ≤ 3
 Known role.Release = Unit {0}
 Known role.Plain = Unit {0}
 
@@ -33,8 +33,9 @@ unfolding roleIn
 role-known c b =
     either (eqb b (c .terminator)) (role.Separator 0) _ (lit≤ tt)
     (either (eqb b (c .element)) (role.Separator 1) _ (lit≤ tt)
-    (either (eqb b (c .component)) (role.Separator 2) _ (lit≤ tt)
-    (either (hasRelease c && eqb b (c .release)) role.Release role.Plain tt tt)))
+    (either (hasRepetition c && eqb b (c .repetition)) (role.Separator 2) _ (lit≤ tt)
+    (either (eqb b (c .component)) (role.Separator 3) _ (lit≤ tt)
+    (either (hasRelease c && eqb b (c .release)) role.Release role.Plain tt tt))))
   where
     either : (t : Bool) (a o : Role) → Known a → Known o → Known (if t then a else o)
     either true a o k l = k
@@ -102,7 +103,7 @@ module _ (c : Characters) (s : List ℕ) (at : ℕ) where
   abbrev pub Lexes : Lexed → Type 0
   Lexes (Byte b place next) = (tokensAt c s at ≡ byte b at place ∷ tokensAt c s next) × (at < next) × (next ≤ length s)
   Lexes (Separator rank next) =
-      (tokensAt c s at ≡ separator rank at ∷ tokensAt c s next) × (at < next) × (next ≤ length s) × (rank ≤ 2)
+      (tokensAt c s at ≡ separator rank at ∷ tokensAt c s next) × (at < next) × (next ≤ length s) × (rank ≤ 3)
   Lexes (Stray next) = (tokensAt c s at ≡ fault at ∷ tokensAt c s next) × (at < next) × (next ≤ length s)
   Lexes End = (tokensAt c s at ≡ []) × (length s ≤ at)
 

@@ -2,11 +2,14 @@
 use Prim.Native.Nat.{ℕ, _≤_, _<_}
 use mathlib.Core.Path.{_≡_}
 use mathlib.Core.List.{List, [], _∷_}
-use mathlib.Core.Bool.{Bool}
-use lib.ListN.{length}
-use lib.Dec.{leb}
+use mathlib.Core.Bool.{Bool, false, _||_}
+use mathlib.Core.Logic.{_⊎_}
+use lib.ListN.{length, getD}
+use lib.Dec.{eqb, leb}
 use Rattle.lists.specs.Lists.{if_then_else_, through, beyond}
 use Rattle.characters.specs.declared.Characters.{Characters}
+use Rattle.characters.specs.declared.Role.{Role}
+use Rattle.characters.specs.declared.Role.the-variants as role
 use Rattle.values.specs.Tokens.{Token, byte, separator, fault, Segment, ends, tokensAt}
 use Rattle.scanner.specs.declared.Scanned.{Scanned}
 use Rattle.scanner.specs.declared.Scanned.the-variants.{Ended, Stray, Unended}
@@ -29,6 +32,22 @@ module _ (c : Characters) (s : List ℕ) (from : ℕ) where
   Scans (Ended next) = (scanned (tokensAt c s from) ≡ ended (tokensAt c s next)) × (from < next) × (next ≤ length s)
   Scans (Stray place) = scanned (tokensAt c s from) ≡ stray place
   Scans Unended = scanned (tokensAt c s from) ≡ unended
+
+-- the byte that takes the next one with it, by what the release character is; the terminator where none does
+abbrev pub releasing : Characters → Role → ℕ
+releasing c (role.Separator rank) = c .terminator
+releasing c role.Release = c .release
+releasing c role.Plain = c .terminator
+
+-- the bytes from a place up to another are there, and none of them is one of the two
+abbrev pub Others : ℕ → ℕ → List ℕ → ℕ → ℕ → Type 0
+Others a b s from to = (k : ℕ) → from ≤ k → k < to → (k < length s) × ((eqb (getD s k 0) a || eqb (getD s k 0) b) ≡ false)
+
+-- how the segment ends is told from the next place on; or, where that is no other place, a fault there tells it
+abbrev pub Passes : Characters → List ℕ → ℕ → ℕ → Type 0
+Passes c s at next =
+    ((next ≡ at) × (scanned (tokensAt c s at) ≡ stray at))
+    ⊎ ((at < next) × (next ≤ length s) × (scanned (tokensAt c s at) ≡ scanned (tokensAt c s next)))
 
 -- the segment that begins at a place
 unfoldable pub segmentAt : Characters → List ℕ → ℕ → Segment

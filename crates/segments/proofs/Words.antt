@@ -8,8 +8,8 @@ use native.Mathlib.Omega.{arith}
 use lib.Dec.{eqb, ltb}
 use lib.ListN.{length, getD, length-append}
 use borrow.Author.Tests.{eqb-true, eq-eqb}
-use Rattle.lists.specs.Lists.{if_then_else_, text, same, begins, all, those}
-use Rattle.lists.proofs.Tests.{Says, says-eq, says-lt, says-both, says-either, says-not, says-same, says-begins, says-all, fails, through-is}
+use Rattle.lists.specs.Lists.{if_then_else_, text, same, begins, all, those, through}
+use Rattle.lists.proofs.Tests.{Says, says-eq, says-lt, says-both, says-either, says-not, says-same, says-begins, says-all, says-as, fails, through-is}
 use Rattle.characters.specs.Characters.{upper, digit}
 use Rattle.characters.proofs.Words.{upper-says, digit-says}
 use Rattle.values.specs.Tokens.{Token, separator, Segment, ends}
@@ -20,7 +20,7 @@ use Rattle.segments.specs.declared.Kind.the-variants.{Unb, Ung, Unh, Uns
 use Rattle.segments.specs.declared.Standing.the-variants.{BeforeInterchange, BetweenGroups, InGroup, InGroupMessage, InMessage, AfterInterchange}
 use Rattle.segments.specs.declared.Section.{Section}
 use Rattle.segments.specs.Kinds.{index, is, kindNamed}
-use Rattle.segments.specs.Tags.{tagPiece, tagOf, kindOf, isTag, tagRule}
+use Rattle.segments.specs.Tags.{tagPiece, tagRepeat, tagOf, kindOf, isTag, tagRule}
 use Rattle.segments.specs.Order.{segmentsIn, messagesIn, groupsIn, segmentsSinceHeader, messagesSinceGroup, isOpen, standing, allowedAt, walkOver}
 pub use Rattle.segments.specs.Notions.{Open}
 
@@ -84,33 +84,53 @@ tag-says tag =
     says-both (eqb (length tag) 3) (all (λ b. upper b || digit b) tag) (says-eq (length tag) 3)
     (says-all (λ b. upper b || digit b) (λ b. says-either (upper b) (digit b) (upper-says b) (digit-says b)) tag)
 
+-- a piece ends with the first separator that ends it
+module _ (rank : ℕ) (inside : List Token) (kind place : ℕ) (rest : List Token) (low : kind ≤ rank)
+    (none : (k q : ℕ) → List·Memᴰ (separator k q) inside → k ≤ rank → ⊥) where
+  piece-is : through (ends rank) (inside ++ separator kind place ∷ rest) ≡ inside ++ separator kind place ∷ []
+  piece-is =
+      through-is (ends rank) inside (separator kind place) rest
+      (λ t m. fails (ends rank t) (ends-says rank t) .1 (λ h. none (h .0) (h .1) (Memᴰ·cast (sym (h .2)) m) (h .3)))
+      (ends-says rank (separator kind place) .1 (kind, place, refl, low))
+
 -- the tag is the bytes before the first separator of any kind, and its piece ends with that
-pub tag-is : (inside : List Token) (kind place : ℕ) (rest : List Token) → kind ≤ 2
-    → ((k q : ℕ) → List·Memᴰ (separator k q) inside → k ≤ 2 → ⊥)
+pub tag-is : (inside : List Token) (kind place : ℕ) (rest : List Token) → kind ≤ 3
+    → ((k q : ℕ) → List·Memᴰ (separator k q) inside → k ≤ 3 → ⊥)
     → (tagPiece (inside ++ separator kind place ∷ rest) ≡ inside ++ separator kind place ∷ [])
     × (tagOf (inside ++ separator kind place ∷ rest) ≡ bytesOf (inside ++ separator kind place ∷ []))
 unfolding tagOf tagPiece
 tag-is inside kind place rest low none =
-    let piece = through-is (ends 2) inside (separator kind place) rest
-    (λ t m. fails (ends 2 t) (ends-says 2 t) .1 (λ h. none (h .0) (h .1) (Memᴰ·cast (sym (h .2)) m) (h .3)))
-    (ends-says 2 (separator kind place) .1 (kind, place, refl, low))
-    in
+    let piece = piece-is 3 inside kind place rest low none in
     (piece, ap bytesOf piece)
 
--- "A tag beginning `UN` must be UNB, UNG, UNH, UNS, UNT, UNE or UNZ, and no component separator may follow it."
+-- the first repeat of the tag element ends with the first separator that is no component separator
+pub tag-repeat-is : (inside : List Token) (kind place : ℕ) (rest : List Token) → kind ≤ 2
+    → ((k q : ℕ) → List·Memᴰ (separator k q) inside → k ≤ 2 → ⊥)
+    → tagRepeat (inside ++ separator kind place ∷ rest) ≡ inside ++ separator kind place ∷ []
+unfolding tagRepeat
+tag-repeat-is inside kind place rest low none = piece-is 2 inside kind place rest low none
+
+-- "A tag beginning `UN` must be UNB, UNG, UNH, UNS, UNT, UNE or UNZ, and no component separator may follow it."; "6 also when a repetition
+-- separator follows within a tag element"
 pub rule-says : (g : Segment)
     → Says (tagRule g)
     ((isTag (tagOf g) ≡ true)
+    × ((before : List Token) × (k : ℕ) × (q : ℕ) × (tagRepeat g ≡ before ++ separator k q ∷ []) × (k ≤ 1))
     × (((rest : List ℕ) × (tagOf g ≡ 85 ∷ 78 ∷ rest) → ⊥)
-    ⊎ ((kindOf g ≡ User → ⊥) × ((before : List Token) × (k : ℕ) × (q : ℕ) × (tagPiece g ≡ before ++ separator k q ∷ []) × (k ≤ 1)))))
+    ⊎ ((kindOf g ≡ User → ⊥) × ((before : List Token) × (k : ℕ) × (q : ℕ) × (tagPiece g ≡ before ++ separator k q ∷ []) × (k ≤ 2)))))
 unfolding tagRule
 rule-says g =
     let un : Bool = begins (text "UN") (tagOf g) in
     let service : Bool = not (is User (kindOf g)) in
-    let alone : Bool = endedBy 1 (tagPiece g) in
-    says-both (isTag (tagOf g)) (not un || (service && alone)) (λ h. h, λ h. h)
+    let alone : Bool = endedBy 2 (tagPiece g) in
+    let first : Bool = isTag (tagOf g) && endedBy 1 (tagRepeat g) in
+    says-as
+    (says-both first (not un || (service && alone))
+    (says-both (isTag (tagOf g)) (endedBy 1 (tagRepeat g)) (λ h. h, λ h. h) (ended-says 1 (tagRepeat g)))
     (says-either (not un) (service && alone) (says-not un (says-begins (text "UN") (tagOf g)))
-    (says-both service alone (says-not (is User (kindOf g)) (is-says User (kindOf g))) (ended-says 1 (tagPiece g))))
+    (says-both service alone (says-not (is User (kindOf g)) (is-says User (kindOf g))) (ended-says 2 (tagPiece g)))))
+    (λ h. (h .0 .0, h .0 .1, h .1))
+    (λ h. ((h .0, h .1), h .2))
 
 -- ---- counts
 

@@ -1,10 +1,10 @@
--- Requests 2026-06 and 2026-13: shelves of version 2 written out byte by byte, what the operations do to the two sums, and a shelf that has room for
--- either of two texts and not for both. Assumes nothing.
+-- Requests 2026-06, 2026-10 and 2026-13: shelves of version 2 written out byte by byte, what the operations do to the two sums, texts of syntax
+-- version 4 on them, and a shelf that has room for either of two texts and not for both. Assumes nothing.
 use Prim.Native.Nat.{ℕ}
 use mathlib.Core.List.{List, [], _∷_, _++_}
 use lib.ListN.{length, take, replicate}
 use lib.Dec.{T, eqb}
-use Rattle.lists.specs.Lists.{isEmpty}
+use Rattle.lists.specs.Lists.{isEmpty, text}
 use Rattle.stages.specs.Contents.{normalForm}
 use Rattle.operations.specs.Compare.{isAccepted}
 use Rattle.shelves.specs.Layout.{versionTwo, occupied}
@@ -34,15 +34,39 @@ oneTwo duplicates = shelfTwo 93 duplicates 1 (pair 2 21 93) none none long 60
 abbrev two : (duplicates : List ℕ) → List ℕ
 two duplicates = shelfTwo 145 duplicates 5 (pair 2 114 52) none (pair 2 21 93) (long ++ short) 8
 
+-- Request 2026-10: a normal form of syntax version 4 with two repeats, the second a released `*` (55 bytes); and a text that names version 4 with a
+-- space in the fifth place: it is accepted, and its normal form, which is as long, has `*` there (52 bytes)
+abbrev fourth : List ℕ
+fourth = text "UNA:+.?*'UNB+UNOA:4+A*?*+B+1+R'UNH+1+M'UNT+2+1'UNZ+1+R'"
+
+abbrev named4 : (fifth : ℕ) → List ℕ
+named4 fifth = text "UNA:+.?" ++ fifth ∷ text "'UNB+UNOA:4+A+B+1+R'UNH+1+M'UNT+2+1'UNZ+1+R'"
+
+-- a text of syntax version 1 and one of version 4, which begins at 585 (2 * 256 + 73)
+abbrev bothVersions : (duplicates : List ℕ) → List ℕ
+bothVersions duplicates = shelfTwo 107 duplicates 3 (pair 2 21 52) (pair 2 73 55) none (short ++ fourth) 52
+
+abbrev oneNamed4 : (fifth : ℕ) → List ℕ
+oneNamed4 fifth = shelfTwo 52 (figure 0 0) 1 (pair 2 21 52) none none (named4 fifth) 60
+
 -- the duplicates figure may be anything
 unfoldable pub soundTwo : List (List ℕ)
-soundTwo = empty 0 ∷ shelfTwo 0 ceiling 0 none none none [] 0 ∷ oneTwo (figure 0 0) ∷ oneTwo ceiling ∷ two (figure 3 7) ∷ []
+soundTwo =
+    empty 0
+    ∷ shelfTwo 0 ceiling 0 none none none [] 0
+    ∷ oneTwo (figure 0 0)
+    ∷ oneTwo ceiling
+    ∷ two (figure 3 7)
+    ∷ bothVersions (figure 0 0)
+    ∷ oneNamed4 42
+    ∷ []
 
 -- a shelf of version 1, and one byte too few
 unfoldable pub damagedTwo : List (List ℕ)
 damagedTwo = one ∷ take 532 (empty 0) ∷ []
 
--- each of these fails one of the things that soundness asks: the text bytes held are wrong by one, or in another byte; and version 1's number
+-- each of these fails one of the things that soundness asks: the text bytes held are wrong by one, or in another byte; version 1's number; and a text
+-- that is no normal form by its fifth byte alone
 unfoldable pub damagedTwoOnce : List (List ℕ)
 damagedTwoOnce =
     shelfTwo 92 (figure 0 0) 1 (pair 2 21 93) none none long 60
@@ -50,6 +74,7 @@ damagedTwoOnce =
     ∷ shelfTwo 1 (figure 0 0) 0 none none none [] 0
     ∷ summed "EDS" 2 1 (1 ∷ 0 ∷ 0 ∷ 93 ∷ figure 0 0) (pair 2 21 93) none none long 60
     ∷ summed "EDS" 1 1 (0 ∷ 0 ∷ 0 ∷ 93 ∷ figure 0 0) (pair 2 21 93) none none long 60
+    ∷ oneNamed4 32
     ∷ []
 
 abbrev puts : List ℕ → List ℕ → ℕ → List ℕ → List ℕ → Row
@@ -112,4 +137,10 @@ rowsTwo =
     ∷ sums (oneTwo ceiling) 0 (93 ∷ 4294967295 ∷ [])
     ∷ sums one 19 (0 ∷ [])
     ∷ row (slotsOf versionTwo (two ceiling)) 0 (2 ∷ 1 ∷ []) [] []
+    -- request 2026-10: a text of version 4 beside one of version 1, and its copy under another repetition separator
+    ∷ puts (shelfTwo 52 (figure 0 0) 1 (pair 2 21 52) none none short 107) fourth 0 (1 ∷ 1 ∷ []) (bothVersions (figure 0 0))
+    ∷ puts (bothVersions (figure 0 0)) (text "UNA:+.?!'UNB+UNOA:4+A!*+B+1+R'UNH+1+M'UNT+2+1'UNZ+1+R'") 0 (1 ∷ 0 ∷ []) (bothVersions (figure 0 1))
+    -- with a space in the fifth place it is kept with `*` there; a shelf that keeps the space is 19 at 0
+    ∷ puts (empty 112) (named4 32) 0 (0 ∷ 1 ∷ []) (oneNamed4 42)
+    ∷ puts (oneNamed4 32) x 19 (0 ∷ []) (oneNamed4 32)
     ∷ []

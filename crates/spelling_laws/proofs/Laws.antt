@@ -1,34 +1,46 @@
 -- The laws of reading and spelling under usable service characters (paper 01, "From bytes to values"). Assumes nothing.
 use Prim.Native.Nat.{ℕ, _+_}
 use mathlib.Core.Path.{_≡_, refl, sym, ap, ap₂, _∙_, subst}
-use mathlib.Core.Bool.{Bool, true, false, not, _||_, true≢false, false≢true}
+use mathlib.Core.Bool.{Bool, true, false, not, true≢false, false≢true}
 use mathlib.Core.List.{List, [], _∷_, _++_, map, append-nil, nil≢cons, head-eq-of-cons-eq, tail-eq-of-cons-eq}
 use mathlib.Core.Logic.{_↔_}
 use native.Mathlib.Omega.{arith}
 use lib.ListN.{length}
-use Rattle.lists.specs.Lists.{isEmpty, all, those, at, maybe, gather, joined, eachLedBy}
+use Rattle.lists.specs.Lists.{isEmpty, isSingle, all, those, at, maybe, gather, joined, eachLedBy}
 use Rattle.lists.proofs.Texts.{and-left, and-right, and-both}
 use Rattle.nesting.specs.Nesting.{every}
-use Rattle.nesting_laws.proofs.Shape.{every-true}
 use Rattle.characters.specs.declared.Characters.{Characters}
-use Rattle.characters.specs.Characters.{hasRelease, isService, usable, isBreak}
+use Rattle.characters.specs.Characters.{isService, usable, isBreak}
 use Rattle.values.specs.Tokens.{Token, inside, tokensFrom, tokens, ends}
 use Rattle.values.specs.Values.{endsInside}
 use Rattle.values.specs.Trimming.{valueAt}
-use Rattle.values.specs.Spelling.{Bytes, SegmentList, spellValue, spellElement, spellSegment, spell, leadsBreak, beginsBroken, spellApart}
-use Rattle.spelling_laws.specs.Bodies.{listed, readList, Sound, Passes, shapedSegment, Shaped, Releasable, Unbroken, Breaks, Spelled}
-use Rattle.spelling_laws.proofs.Tokens.{readingAfter, placeless, unbrokenFrom, unbroken-inside, unbroken-placeless, ended-placeless, afterAll, spellable, spellTokens, sayable, Lexed, Standing, lexed-tokens, lexed-said, lexed-unbroken, lexed-apart, lexed-alone, lexed-start, passing-inside, spelled-placeless, said-placeless, said-faultless, spelled-lexed, spelled-leads, read-lexed}
-use Rattle.spelling_laws.proofs.Listing.{listed-placeless, listed-append, tokensOf, listed-tokens, tokens-ended, all-tokens, apart-tokens, ended-tokens, unbroken-tokens, inside-placeless, tokens-listed}
+use Rattle.values.specs.Spelling.{Bytes, SegmentList, spellValue, spellRepeat, spellElement, spellSegment, spell, leadsBreak, beginsBroken, spellApart}
+use Rattle.spelling_laws.specs.Bodies.{listed, readList, Sound, Passes, shapedSegment, Shaped, Spellable, Unbroken, Breaks, Spelled}
+use Rattle.spelling_laws.proofs.Tokens.{readingAfter, placeless, unbrokenFrom, unbroken-inside, unbroken-placeless, ended-placeless, afterAll, spellTokens, sayable, Lexed, Standing, lexed-tokens, lexed-said, lexed-unbroken, lexed-apart, lexed-alone, lexed-start, passing-inside, spelled-placeless, said-placeless, said-faultless, spelled-lexed, spelled-leads, read-lexed}
+use Rattle.spelling_laws.proofs.Listing.{listed-placeless, listed-append, tokensOf, listed-tokens, tokens-ended, spellable-exactly, apart-tokens, ended-tokens, unbroken-tokens, inside-placeless, tokens-listed}
 
--- a list can be spelled exactly where each of its bytes can stand in a value
-releasable-exactly : (c : Characters) (list : SegmentList) → Releasable c list ↔ (every (all (spellable c)) 3 list ≡ true)
-unfolding Releasable
-releasable-exactly c list = step (hasRelease c) refl
+-- where a list can be spelled, its first segment can, and the others
+spellable-first : (c : Characters) (g : List (List (List Bytes))) (list : SegmentList) → Spellable c (g ∷ list) → Spellable c (g ∷ [])
+unfolding all
+spellable-first c g list h =
+    record {
+      released = λ e. first (every (all (λ b. not (isService c b))) 3) (h .released e);
+      repeated = λ e. first (all isSingle) (h .repeated e);
+    }
   where
-    step : (r : Bool) → hasRelease c ≡ r
-        → (r ≡ false → every (all (λ b. not (isService c b))) 3 list ≡ true) ↔ (every (all (λ b. r || not (isService c b))) 3 list ≡ true)
-    step true e = (λ h. every-true (λ b. true || not (isService c b)) (λ b. refl) 4 list, λ h k. absurd (true≢false k))
-    step false e = (λ h. h refl, λ h k. h)
+    first : (t : List (List (List Bytes)) → Bool) → all t (g ∷ list) ≡ true → all t (g ∷ []) ≡ true
+    first t e = and-both (t g) true (and-left (t g) (all t list) e) refl
+
+pub spellable-rest : (c : Characters) (g : List (List (List Bytes))) (list : SegmentList) → Spellable c (g ∷ list) → Spellable c list
+unfolding all
+spellable-rest c g list h =
+    record {
+      released = λ e. rest (every (all (λ b. not (isService c b))) 3) (h .released e);
+      repeated = λ e. rest (all isSingle) (h .repeated e);
+    }
+  where
+    rest : (t : List (List (List Bytes)) → Bool) → all t (g ∷ list) ≡ true → all t list ≡ true
+    rest t e = and-right (t g) (all t list) e
 
 -- spelled with nothing between, a list is spelled
 pub apart-nothing : (c : Characters) (list : SegmentList) → spellApart c list [] ≡ spell c list
@@ -62,9 +74,9 @@ ended (x ∷ xs) t ys e = nil≢cons e
 module _ (c : Characters) (u : usable c ≡ true) where
   -- ---- reading what was spelled
 
-  module _ (place : ℕ) (list : SegmentList) (s : Shaped list) (r : Releasable c list) (n : Unbroken list) where
+  module _ (place : ℕ) (list : SegmentList) (s : Shaped list) (r : Spellable c list) (n : Unbroken list) where
     tokens-said : all (sayable c) (tokensOf list) ≡ true
-    tokens-said = all-tokens c list ∙ releasable-exactly c list .0 r
+    tokens-said = spellable-exactly c list s .0 r
 
     tokens-unbroken : unbrokenFrom true (tokensOf list) ≡ true
     unfolding Unbroken
@@ -148,11 +160,10 @@ module _ (c : Characters) (u : usable c ≡ true) where
               ∙ a .spelled,
         )
 
-    pub read-releasable : Releasable c (readList c place body)
-    read-releasable =
-        releasable-exactly c (readList c place body) .1
-        (sym (all-tokens c (readList c place body))
-        ∙ ap (all (sayable c)) (read-listed .0)
+    pub read-spellable : Spellable c (readList c place body)
+    read-spellable =
+        spellable-exactly c (readList c place body) read-shaped .1
+        (ap (all (sayable c)) (read-listed .0)
         ∙ said-placeless c (tokens c place body)
         ∙ lexed-said c read-tokens)
 
@@ -183,7 +194,7 @@ module _ (c : Characters) (u : usable c ≡ true) where
         record {
           list = readList c place body;
           shaped = read-shaped place body (h .0);
-          releasable = read-releasable place body (h .0);
+          spellable = read-spellable place body (h .0);
           unbroken = read-unbroken place body (h .0) (h .1);
           between = back .0;
           breaks = back .1;
@@ -191,9 +202,9 @@ module _ (c : Characters) (u : usable c ≡ true) where
         },
     λ s. (
       subst (Passes c place) (s .spelled)
-          (apart-passes place (s .list) (s .shaped) (s .releasable) (s .unbroken) (s .between) (s .breaks .only-breaks)),
+          (apart-passes place (s .list) (s .shaped) (s .spellable) (s .unbroken) (s .between) (s .breaks .only-breaks)),
       sym (ap leadsBreak (s .spelled))
-          ∙ apart-leads place (s .list) (s .shaped) (s .releasable) (s .unbroken) (s .between) (s .breaks .only-breaks),
+          ∙ apart-leads place (s .list) (s .shaped) (s .spellable) (s .unbroken) (s .between) (s .breaks .only-breaks),
     ),
   )
 
@@ -201,15 +212,15 @@ module _ (c : Characters) (u : usable c ≡ true) where
   pub list-read : (place : ℕ) (body : Bytes) (x : Spelled c body) → readList c place body ≡ x .list
   list-read place body x =
       ap (readList c place) (sym (x .spelled))
-      ∙ read-apart place (x .list) (x .shaped) (x .releasable) (x .unbroken) (x .between) (x .breaks .only-breaks)
+      ∙ read-apart place (x .list) (x .shaped) (x .spellable) (x .unbroken) (x .between) (x .breaks .only-breaks)
 
   pub only-one : (body : Bytes) (x y : Spelled c body) → x .list ≡ y .list
   only-one body x y = sym (list-read 0 body x) ∙ list-read 0 body y
 
   -- and so are the breaks after each segment
-  between-one : (list : SegmentList) → Shaped list → Releasable c list → Unbroken list → (x y : List Bytes) → Breaks list x → Breaks list y
+  between-one : (list : SegmentList) → Shaped list → Spellable c list → Unbroken list → (x y : List Bytes) → Breaks list x → Breaks list y
       → spellApart c list x ≡ spellApart c list y → x ≡ y
-  unfolding Shaped Releasable Unbroken all spellApart
+  unfolding Shaped Unbroken all spellApart
   between-one [] s r n [] [] k l e = refl
   between-one [] s r n (gap ∷ x) y k l e = absurd (omega (arith, k .each))
   between-one [] s r n [] (gap ∷ y) k l e = absurd (omega (arith, l .each))
@@ -217,7 +228,7 @@ module _ (c : Characters) (u : usable c ≡ true) where
   between-one (g ∷ list) s r n (gap ∷ x) [] k l e = absurd (omega (arith, l .each))
   between-one (g ∷ list) s r n (gap ∷ x) (hap ∷ y) k l e =
       let s′ : Shaped list = and-right (shapedSegment g) (all shapedSegment list) s in
-      let r′ : Releasable c list = λ f. and-right (every (all (λ b. not (isService c b))) 2 g) (every (all (λ b. not (isService c b))) 3 list) (r f) in
+      let r′ : Spellable c list = spellable-rest c g list r in
       let n′ : Unbroken list = and-right (not (beginsBroken g)) (all (λ segment. not (beginsBroken segment)) list) n in
       let gaps = and-left (all isBreak gap) (all (all isBreak) x) (k .only-breaks) in
       let haps = and-left (all isBreak hap) (all (all isBreak) y) (l .only-breaks) in
@@ -232,7 +243,7 @@ module _ (c : Characters) (u : usable c ≡ true) where
   pub only-breaks-one : (body : Bytes) (x y : Spelled c body) → x .between ≡ y .between
   only-breaks-one body x y =
       let same : x .list ≡ y .list = only-one body x y in
-      between-one (y .list) (y .shaped) (y .releasable) (y .unbroken) (x .between) (y .between)
+      between-one (y .list) (y .shaped) (y .spellable) (y .unbroken) (x .between) (y .between)
       (subst (λ (list : SegmentList). Breaks list (x .between)) same (x .breaks))
       (y .breaks)
       (ap (λ (list : SegmentList). spellApart c list (x .between)) (sym same) ∙ x .spelled ∙ sym (y .spelled))
@@ -240,13 +251,13 @@ module _ (c : Characters) (u : usable c ≡ true) where
   -- ---- two different lists are never spelled alike, be there segments that begin with a break or not
 
   -- a segment, whatever follows it: behind an empty element it does not begin with a break, and is then the first that is read
-  first-read : (g : List (List Bytes)) → Shaped (g ∷ []) → Releasable c (g ∷ []) → (more : Bytes)
-      → (rest : SegmentList) × (readList c 0 (c .element ∷ (spellSegment c g ++ more)) ≡ (([] ∷ []) ∷ g) ∷ rest)
-  unfolding Shaped shapedSegment Releasable Unbroken all isEmpty spellApart spellSegment spellElement spellValue gather joined eachLedBy beginsBroken leadsBreak valueAt at maybe readList tokens
+  first-read : (g : List (List (List Bytes))) → Shaped (g ∷ []) → Spellable c (g ∷ []) → (more : Bytes)
+      → (rest : SegmentList) × (readList c 0 (c .element ∷ (spellSegment c g ++ more)) ≡ ((([] ∷ []) ∷ []) ∷ g) ∷ rest)
+  unfolding Shaped shapedSegment Unbroken all isEmpty isSingle spellApart spellSegment spellElement spellRepeat spellValue gather joined eachLedBy beginsBroken leadsBreak valueAt at maybe readList tokens
   first-read [] s r more = absurd (false≢true s)
   first-read (e ∷ es) s r more =
-      let list : SegmentList = (([] ∷ []) ∷ e ∷ es) ∷ [] in
-      let l = apart-lexed 0 list s r refl [] refl in
+      let list : SegmentList = ((([] ∷ []) ∷ []) ∷ e ∷ es) ∷ [] in
+      let l = apart-lexed 0 list s (record { released = r .released; repeated = r .repeated }) refl [] refl in
       let own : List Token = l .own in
       let after : List Token = tokensFrom c (readingAfter (afterAll false own)) (0 + length (spellApart c list [])) more in
       let whole : listed own ≡ list = sym (listed-placeless own) ∙ ap listed (l .alike) ∙ listed-placeless (tokensOf list) ∙ listed-tokens list s in
@@ -258,25 +269,16 @@ module _ (c : Characters) (u : usable c ≡ true) where
             ∙ ap (λ (front : SegmentList). front ++ listed after) whole,
       )
 
-  pub spelling-unique : (a b : SegmentList) → Shaped a → Releasable c a → Shaped b → Releasable c b → spell c a ≡ spell c b → a ≡ b
-  unfolding Shaped Releasable all spell spellSegment gather
+  pub spelling-unique : (a b : SegmentList) → Shaped a → Spellable c a → Shaped b → Spellable c b → spell c a ≡ spell c b → a ≡ b
+  unfolding Shaped all spell spellSegment gather
   spelling-unique [] [] s r s′ r′ e = refl
   spelling-unique [] (h ∷ b) s r s′ r′ e = absurd (ended (joined (c .element) (map (spellElement c) h)) (c .terminator) (spell c b) e)
   spelling-unique (g ∷ a) [] s r s′ r′ e = absurd (ended (joined (c .element) (map (spellElement c) g)) (c .terminator) (spell c a) (sym e))
   spelling-unique (g ∷ a) (h ∷ b) s r s′ r′ e =
-      let first = first-read g (and-both (shapedSegment g) true (and-left (shapedSegment g) (all shapedSegment a) s) refl) (alone g a r) (spell c a) in
-      let other = first-read h (and-both (shapedSegment h) true (and-left (shapedSegment h) (all shapedSegment b) s′) refl) (alone h b r′) (spell c b) in
+      let first = first-read g (and-both (shapedSegment g) true (and-left (shapedSegment g) (all shapedSegment a) s) refl) (spellable-first c g a r) (spell c a) in
+      let other = first-read h (and-both (shapedSegment h) true (and-left (shapedSegment h) (all shapedSegment b) s′) refl) (spellable-first c h b r′) (spell c b) in
       let same : g ≡ h =
       tail-eq-of-cons-eq (head-eq-of-cons-eq (sym (first .1) ∙ ap (λ (bs : Bytes). readList c 0 (c .element ∷ bs)) e ∙ other .1)) in
       ap₂ _∷_ same
-      (spelling-unique a b (and-right (shapedSegment g) (all shapedSegment a) s) (others g a r) (and-right (shapedSegment h) (all shapedSegment b) s′) (others h b r′)
-      (append-cancel (spellSegment c g) (e ∙ ap (λ (k : List (List Bytes)). spellSegment c k ++ spell c b) (sym same))))
-    where
-      test : List (List Bytes) → Bool
-      test k = every (all (λ b. not (isService c b))) 2 k
-
-      alone : (k : List (List Bytes)) (l : SegmentList) → Releasable c (k ∷ l) → Releasable c (k ∷ [])
-      alone k l q f = and-both (test k) true (and-left (test k) (all test l) (q f)) refl
-
-      others : (k : List (List Bytes)) (l : SegmentList) → Releasable c (k ∷ l) → Releasable c l
-      others k l q f = and-right (test k) (all test l) (q f)
+      (spelling-unique a b (and-right (shapedSegment g) (all shapedSegment a) s) (spellable-rest c g a r) (and-right (shapedSegment h) (all shapedSegment b) s′) (spellable-rest c h b r′)
+      (append-cancel (spellSegment c g) (e ∙ ap (λ (k : List (List (List Bytes))). spellSegment c k ++ spell c b) (sym same))))

@@ -16,10 +16,9 @@ use Rattle.characters.specs.declared.Role.the-variants.{Separator, Release, Pla
 use Rattle.characters.specs.Characters.{role, hasRelease, isService, usable, isBreak}
 use Rattle.values.specs.Tokens.{Token, byte, separator, fault, Reading, inside, passing, unreleased, reading, taken, tokensFrom, tokens, ends, placeOf}
 use Rattle.values.specs.Values.{isFault}
-use Rattle.values.specs.Spelling.{Bytes, spellByte, leadsBreak}
+use Rattle.values.specs.Spelling.{Bytes, separatorOf, spellByte, leadsBreak}
 use Rattle.values.proofs.Steps.{ends-yes, ends-no, tokens-role}
-use Rattle.spelling_laws.specs.Bodies.{separatorOf}
-use Rattle.spelling_laws.proofs.Service.{serves, Part, separates, releases, plain, part, service-serves, role-separator, role-release, service-no-break}
+use Rattle.spelling_laws.proofs.Service.{serves, separable, Part, separates, releases, plain, part, service-serves, role-separator, role-release, service-no-break}
 
 -- a token without its places
 unfoldable pub placeless : Token → Token
@@ -97,7 +96,7 @@ module _ (c : Characters) where
   -- how a token is spelled
   unfoldable pub spellToken : Token → Bytes
   spellToken (byte b from place) = spellByte c b
-  spellToken (separator rank place) = separatorOf c (2 - rank) ∷ []
+  spellToken (separator rank place) = separatorOf c (3 - rank) ∷ []
   spellToken (fault place) = []
 
   -- the tokens spelled, with bytes after each terminator, of which there may be fewer, and then none follow
@@ -109,7 +108,7 @@ module _ (c : Characters) where
   -- the token is spelled: it is a byte that can stand in a value, or a separator
   unfoldable pub sayable : Token → Bool
   sayable (byte b from place) = spellable b
-  sayable (separator rank place) = leb rank 2
+  sayable (separator rank place) = separable c rank
   sayable (fault place) = false
 
   -- none of them goes by places
@@ -137,7 +136,7 @@ module _ (c : Characters) where
   unfolding all sayable placeless
   said-placeless [] = refl
   said-placeless (byte b from place ∷ ts) = ap (λ (t : Bool). spellable b && t) (said-placeless ts)
-  said-placeless (separator rank place ∷ ts) = ap (λ (t : Bool). leb rank 2 && t) (said-placeless ts)
+  said-placeless (separator rank place ∷ ts) = ap (λ (t : Bool). separable c rank && t) (said-placeless ts)
   said-placeless (fault place ∷ ts) = refl
 
   -- The token stands at the place, directly after a terminator or not: its spelling there is read as it, and what follows as if that stood
@@ -267,7 +266,7 @@ module _ (c : Characters) where
   unfolding all sayable isFault
   said-faultless [] h = refl
   said-faultless (byte b from place ∷ ts) h = said-faultless ts (and-right (spellable b) (all sayable ts) h)
-  said-faultless (separator rank place ∷ ts) h = said-faultless ts (and-right (leb rank 2) (all sayable ts) h)
+  said-faultless (separator rank place ∷ ts) h = said-faultless ts (and-right (separable c rank) (all sayable ts) h)
   said-faultless (fault place ∷ ts) h = absurd (false≢true h)
 
 module _ (c : Characters) (u : usable c ≡ true) where
@@ -278,8 +277,8 @@ module _ (c : Characters) (u : usable c ≡ true) where
   unfolding leadsBreak at maybe spellToken spellByte sayable breaking
   leads-token (fault place) h more = absurd (false≢true h)
   leads-token (separator rank place) h more =
-      service-no-break c u (separatorOf c (2 - rank))
-      (service-serves c (separatorOf c (2 - rank)) ∙ ap serves (role-separator c u rank (leb-true rank 2 h)))
+      service-no-break c u (separatorOf c (3 - rank))
+      (service-serves c (separatorOf c (3 - rank)) ∙ ap serves (role-separator c u rank h))
   leads-token (byte b from place) h more = step (isService c b) refl (hasRelease c) refl h
     where
       step : (i : Bool) → isService c b ≡ i → (r : Bool) → hasRelease c ≡ r → (r || not i) ≡ true
@@ -315,14 +314,14 @@ module _ (c : Characters) (u : usable c ≡ true) where
   after-separator zero p = ap readingAfter (sym (ends-yes 0 p (omega arith)))
   after-separator (suc rank) p = ap readingAfter (sym (ends-no 0 p (omega arith)))
 
-  stands-separator : (p rank : ℕ) → rank ≤ 2 → Stands c false p (separator rank p)
+  stands-separator : (p rank : ℕ) → separable c rank ≡ true → Stands c false p (separator rank p)
   unfolding tokens unreleased spellToken sayable placeOf
   stands-separator p rank h = record {
-    said = le-leb rank 2 h;
+    said = h;
     placed = refl;
     starts = refl;
     reads = λ more.
-        tokens-role c p (separatorOf c (2 - rank)) more (Separator rank) (role-separator c u rank h)
+        tokens-role c p (separatorOf c (3 - rank)) more (Separator rank) (role-separator c u rank h)
         ∙ ap (λ (r : Reading). separator rank p ∷ tokensFrom c r (p + 1) more) (after-separator rank p);
   }
 
@@ -376,7 +375,7 @@ module _ (c : Characters) (u : usable c ≡ true) where
   stands-inside : (p : ℕ) (t : Token) → sayable c t ≡ true → (s : Token) × Stands c false p s × (placeless s ≡ placeless t)
   unfolding placeless sayable
   stands-inside p (fault place) h = absurd (false≢true h)
-  stands-inside p (separator rank place) h = (separator rank p, stands-separator p rank (leb-true rank 2 h), refl)
+  stands-inside p (separator rank place) h = (separator rank p, stands-separator p rank h, refl)
   stands-inside p (byte b from place) h = let s = byte-stands p b h in (byte b p (s .0), s .1, refl)
 
   -- the body is that of these tokens, with places of their own

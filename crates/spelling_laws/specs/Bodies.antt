@@ -1,35 +1,23 @@
 -- Paper 01, "From bytes to values": what a body reads as, when it passes refusals 4 and 5, and which lists can be spelled.
 -- Assumes nothing.
-use Prim.Native.Nat.{ℕ, zero, suc}
+use Prim.Native.Nat.{ℕ}
 use mathlib.Core.Path.{_≡_}
 use mathlib.Core.Bool.{Bool, true, false, not}
 use mathlib.Core.List.{List, map}
 use lib.ListN.{length}
-use Rattle.lists.specs.Lists.{all}
-use Rattle.nesting.specs.Nesting.{shaped, every, byDepth}
+use Rattle.lists.specs.Lists.{isSingle, all}
+use Rattle.nesting.specs.Nesting.{shaped, every}
 use Rattle.characters.specs.declared.Characters.{Characters}
-use Rattle.characters.specs.Characters.{hasRelease, isService, isBreak}
-use Rattle.values.specs.Tokens.{Token, Segment, ends, segments, tokens}
+use Rattle.characters.specs.Characters.{hasRelease, hasRepetition, isService, isBreak}
+use Rattle.values.specs.Tokens.{Token, Segment, segments, tokens}
 use Rattle.values.specs.Values.{elementsOf, isFault, endsInside}
 use Rattle.values.specs.Spelling.{Bytes, SegmentList, beginsBroken, spellApart}
-
--- ---- by depth: a value is of depth 0, an element of depth 1, a segment of depth 2
-
--- the token ends a part of this depth
-abbrev pub endsPart : ℕ → Token → Bool
-endsPart depth t = byDepth 2 ends depth t
-
--- the character that ends a part of this depth
-abbrev pub separatorOf : Characters → ℕ → ℕ
-separatorOf c zero = c .component
-separatorOf c (suc zero) = c .element
-separatorOf c (suc (suc depth)) = c .terminator
 
 -- ---- lists of segments
 
 -- the values of a segment, untrimmed and without places
-unfoldable pub wordsOf : Segment → List (List Bytes)
-wordsOf segment = map (map (λ v. v .bytes)) (elementsOf segment)
+unfoldable pub wordsOf : Segment → List (List (List Bytes))
+wordsOf segment = map (map (map (λ v. v .bytes))) (elementsOf segment)
 
 -- the list of segments that the tokens hold
 unfoldable pub listed : List Token → SegmentList
@@ -47,16 +35,18 @@ Sound ts = (all (λ t. not (isFault t)) ts ≡ true) × (endsInside ts ≡ false
 unfoldable pub Passes : Characters → ℕ → Bytes → Type 0
 Passes c place body = Sound (tokens c place body)
 
--- "A segment is one or more elements, an element one or more values"
-unfoldable pub shapedSegment : List (List Bytes) → Bool
-shapedSegment segment = shaped Bytes 2 segment
+-- "A segment is one or more elements, an element one or more" repeats, a repeat one or more "values"
+unfoldable pub shapedSegment : List (List (List Bytes)) → Bool
+shapedSegment segment = shaped Bytes 3 segment
 
 unfoldable pub Shaped : SegmentList → Type 0
 Shaped list = all shapedSegment list ≡ true
 
--- where there is no release character, no value of the list holds a service character
-unfoldable pub Releasable : Characters → SegmentList → Type 0
-Releasable c list = hasRelease c ≡ false → every (all (λ b. not (isService c b))) 3 list ≡ true
+-- where there is no release character, no value of the list holds a service character; where there is no repetition separator, each
+-- element has one repeat
+pub record Spellable (c : Characters) (list : SegmentList) : Type 0 where
+  pub released : hasRelease c ≡ false → every (all (λ b. not (isService c b))) 4 list ≡ true
+  pub repeated : hasRepetition c ≡ false → every isSingle 2 list ≡ true
 
 -- "No segment of a list may begin with a break."
 unfoldable pub Unbroken : SegmentList → Type 0
@@ -73,7 +63,7 @@ pub record Breaks (list : SegmentList) (between : List Bytes) : Type 0 where
 pub record Spelled (c : Characters) (body : Bytes) : Type 0 where
   pub list : SegmentList
   pub shaped : Shaped list
-  pub releasable : Releasable c list
+  pub spellable : Spellable c list
   pub unbroken : Unbroken list
   pub between : List Bytes
   pub breaks : Breaks list between

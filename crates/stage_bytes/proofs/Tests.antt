@@ -1,7 +1,7 @@
 -- The tests as the code makes them, without a branch, and over the bytes from a place on. Assumes nothing.
 use Prim.Native.Nat.{ℕ, _+_, _≤_, _<_}
 use mathlib.Core.Path.{_≡_, refl, sym, ap, ap₂, subst, _∙_}
-use mathlib.Core.Bool.{Bool, true, false, not, _&&_, _||_, and-assoc, and-true}
+use mathlib.Core.Bool.{Bool, true, false, not, _&&_, _||_, and-assoc, and-true, and-false}
 use mathlib.Core.List.{List, [], _∷_}
 use native.Mathlib.Omega.{arith}
 use lib.Dec.{eqb}
@@ -10,76 +10,110 @@ use borrow.Author.Tests.{eqb-true}
 use Rattle.lists.specs.Lists.{if_then_else_}
 use Rattle.lists.proofs.Numbers.{drop-next}
 use Rattle.characters.specs.declared.Characters.{Characters}
+use Rattle.characters.specs.declared.Role.{Role}
 use Rattle.characters.specs.declared.Role.the-variants.{Separator, Release, Plain}
-use Rattle.characters.specs.Characters.{hasRelease, isService, isBreak, role}
+use Rattle.characters.specs.Characters.{hasRelease, hasRepetition, isService, isBreak, role}
 use Rattle.levels.specs.Levels.{inLevel}
 use Rattle.stage_bytes.specs.Orderly.{isRelease, isTerminator, releases, mayBreak, orderly, serviceApart, orderlyAfter, openingOrderly, allOrderly}
 
 -- ---- one byte
 
 module _ (c : Characters) where
+  -- the part of a byte, by the tests for the five characters in their order
+  abbrev played : (terminator element repetition component release : Bool) → Role
+  played t e p k r =
+      if t then Separator 0
+      else if e then Separator 1
+      else if p then Separator 2
+      else if k then Separator 3
+      else if r then Release else Plain
+
+  played-release : (t e p k r : Bool) → (r && not (t || (e || (p || k)))) ≡ isRelease (played t e p k r)
+  played-release true e p k true = refl
+  played-release true e p k false = refl
+  played-release false true p k true = refl
+  played-release false true p k false = refl
+  played-release false false true k true = refl
+  played-release false false true k false = refl
+  played-release false false false true true = refl
+  played-release false false false true false = refl
+  played-release false false false false true = refl
+  played-release false false false false false = refl
+
+  played-terminator : (t e p k r : Bool) → t ≡ isTerminator (played t e p k r)
+  played-terminator true e p k r = refl
+  played-terminator false true p k r = refl
+  played-terminator false false true k r = refl
+  played-terminator false false false true r = refl
+  played-terminator false false false false true = refl
+  played-terminator false false false false false = refl
+
+  -- where the release character is there, it is the repetition separator only if that is there too
+  both-there : (t e k : Bool)
+      → (hasRelease c && not (t || (e || (eqb (c .release) (c .repetition) || k))))
+      ≡ (hasRelease c && not (t || (e || (hasRepetition c && eqb (c .release) (c .repetition) || k))))
+  unfolding hasRelease hasRepetition
+  both-there t e k = step (eqb (c .release) (c .repetition)) refl
+    where
+      step : (q : Bool) → eqb (c .release) (c .repetition) ≡ q
+          → (not (eqb (c .release) 32) && not (t || (e || (q || k))))
+          ≡ (not (eqb (c .release) 32) && not (t || (e || (not (eqb (c .repetition) 32) && q || k))))
+      step false d = ap (λ (x : Bool). not (eqb (c .release) 32) && not (t || (e || (x || k)))) (sym (and-false (not (eqb (c .repetition) 32))))
+      step true d =
+          there (not (eqb (c .release) 32))
+          ∙ ap (λ (n : ℕ). not (eqb (c .release) 32) && not (t || (e || (not (eqb n 32) && true || k)))) (eqb-true (c .release) (c .repetition) d)
+        where
+          there : (r : Bool) → (r && not (t || (e || true))) ≡ (r && not (t || (e || (r && true || k))))
+          there true = refl
+          there false = refl
+
   -- the release character, unless there is none or it is one of the separators
   pub releases-tests : (b : ℕ)
       → (eqb b (c .release)
       && (not (eqb (c .release) 32)
-      && not (eqb (c .release) (c .terminator) || (eqb (c .release) (c .element) || eqb (c .release) (c .component)))))
+      && not
+      (eqb (c .release) (c .terminator)
+      || (eqb (c .release) (c .element) || (eqb (c .release) (c .repetition) || eqb (c .release) (c .component))))))
       ≡ releases c b
   unfolding releases role hasRelease
   releases-tests b = step (eqb b (c .release)) refl
     where
-      no-release : (t e k r : Bool)
-          → false ≡ isRelease (if t then Separator 0 else if e then Separator 1 else if k then Separator 2 else if r && false then Release else Plain)
-      no-release true e k r = refl
-      no-release false true k r = refl
-      no-release false false true r = refl
-      no-release false false false true = refl
-      no-release false false false false = refl
-
-      the-release : (t e k r : Bool)
-          → (r && not (t || (e || k)))
-          ≡ isRelease (if t then Separator 0 else if e then Separator 1 else if k then Separator 2 else if r && true then Release else Plain)
-      the-release true e k true = refl
-      the-release true e k false = refl
-      the-release false true k true = refl
-      the-release false true k false = refl
-      the-release false false true true = refl
-      the-release false false true false = refl
-      the-release false false false true = refl
-      the-release false false false false = refl
+      other : (r : Bool) → false ≡ (r && false)
+      other true = refl
+      other false = refl
 
       step : (f : Bool) → eqb b (c .release) ≡ f
           → (f
           && (not (eqb (c .release) 32)
-          && not (eqb (c .release) (c .terminator) || (eqb (c .release) (c .element) || eqb (c .release) (c .component)))))
+          && not
+          (eqb (c .release) (c .terminator)
+          || (eqb (c .release) (c .element) || (eqb (c .release) (c .repetition) || eqb (c .release) (c .component))))))
           ≡ isRelease
-          (if eqb b (c .terminator) then Separator 0
-          else if eqb b (c .element) then Separator 1
-          else if eqb b (c .component) then Separator 2
-          else if not (eqb (c .release) 32) && f then Release else Plain)
-      step false e = no-release (eqb b (c .terminator)) (eqb b (c .element)) (eqb b (c .component)) (not (eqb (c .release) 32))
+          (played (eqb b (c .terminator)) (eqb b (c .element)) (hasRepetition c && eqb b (c .repetition)) (eqb b (c .component)) (not (eqb (c .release) 32) && f))
+      step false e =
+          ap (λ (x : Bool). x && not
+          (eqb b (c .terminator)
+          || (eqb b (c .element) || (hasRepetition c && eqb b (c .repetition) || eqb b (c .component)))))
+          (other (not (eqb (c .release) 32)))
+          ∙ played-release (eqb b (c .terminator)) (eqb b (c .element)) (hasRepetition c && eqb b (c .repetition)) (eqb b (c .component))
+          (not (eqb (c .release) 32) && false)
       step true e =
-          subst
-          (λ (n : ℕ). (not (eqb (c .release) 32)
-          && not (eqb (c .release) (c .terminator) || (eqb (c .release) (c .element) || eqb (c .release) (c .component))))
-          ≡ isRelease
-          (if eqb n (c .terminator) then Separator 0
-          else if eqb n (c .element) then Separator 1
-          else if eqb n (c .component) then Separator 2
-          else if not (eqb (c .release) 32) && true then Release else Plain))
+          both-there (eqb (c .release) (c .terminator)) (eqb (c .release) (c .element)) (eqb (c .release) (c .component))
+          ∙ ap (λ (n : ℕ). not (eqb (c .release) 32) && not
+          (eqb n (c .terminator) || (eqb n (c .element) || (hasRepetition c && eqb n (c .repetition) || eqb n (c .component)))))
           (sym (eqb-true b (c .release) e))
-          (the-release (eqb (c .release) (c .terminator)) (eqb (c .release) (c .element)) (eqb (c .release) (c .component)) (not (eqb (c .release) 32)))
+          ∙ ap (λ (x : Bool). x && not
+          (eqb b (c .terminator)
+          || (eqb b (c .element) || (hasRepetition c && eqb b (c .repetition) || eqb b (c .component)))))
+          (sym (and-true (not (eqb (c .release) 32))))
+          ∙ played-release (eqb b (c .terminator)) (eqb b (c .element)) (hasRepetition c && eqb b (c .repetition)) (eqb b (c .component))
+          (not (eqb (c .release) 32) && true)
 
   terminator-tests : (b : ℕ) → eqb b (c .terminator) ≡ isTerminator (role c b)
   unfolding role
-  terminator-tests b = step (eqb b (c .terminator)) (eqb b (c .element)) (eqb b (c .component)) (hasRelease c && eqb b (c .release))
-    where
-      step : (t e k r : Bool)
-          → t ≡ isTerminator (if t then Separator 0 else if e then Separator 1 else if k then Separator 2 else if r then Release else Plain)
-      step true e k r = refl
-      step false true k r = refl
-      step false false true r = refl
-      step false false false true = refl
-      step false false false false = refl
+  terminator-tests b =
+      played-terminator (eqb b (c .terminator)) (eqb b (c .element)) (hasRepetition c && eqb b (c .repetition)) (eqb b (c .component))
+      (hasRelease c && eqb b (c .release))
 
   module _ (fourth third second before : ℕ) where
     pub may-break-tests : {two three four broken : Bool} → two ≡ releases c second → three ≡ releases c third → four ≡ releases c fourth

@@ -22,7 +22,8 @@ use storing::is_service;
 fn releases(c: Characters, b: u8) -> bool
     ensures { λ r. ⌜ r ≡ releases c b ⌝ }
 {
-    let separates = (c.release == c.element) | (c.release == c.component);
+    let within = (c.release == c.repetition) | (c.release == c.component);
+    let separates = (c.release == c.element) | within;
     (b == c.release) & ((c.release != 32) & !((c.release == c.terminator) | separates))
 }
 

@@ -1,7 +1,7 @@
 -- How an input begins: a text stands at a place exactly where its bytes stand there, one after another. Assumes nothing.
 use Prim.Native.Nat.{ℕ, _+_, _≤_, _<_, zero-le, suc-le-suc}
-use mathlib.Core.Path.{_≡_, refl, sym, ap, _∙_}
-use mathlib.Core.Bool.{Bool, true, false, not, _&&_, _||_, and-assoc, and-true, false≢true}
+use mathlib.Core.Path.{_≡_, refl, sym, ap, ap₂, _∙_}
+use mathlib.Core.Bool.{Bool, true, false, not, _&&_, _||_, and-assoc, and-true, or-false, or-self, false≢true}
 use mathlib.Core.List.{List, [], _∷_, _++_}
 use native.Mathlib.Nat.{add-zero}
 use native.Mathlib.Omega.{arith}
@@ -11,7 +11,7 @@ use lib.Dec.{eqb, ltb}
 use Rattle.lists.specs.Lists.{if_then_else_, text, begins}
 use Rattle.lists.proofs.Texts.{and-right, if-true}
 use Rattle.characters.specs.declared.Characters.{Characters}
-use Rattle.characters.specs.Characters.{sixBytes, advised, usable, plusCharacters, controlCharacters, charactersOf, afterBreaks, bodyStart, body, badAdvice, opens}
+use Rattle.characters.specs.Characters.{sixBytes, advised, usable, plusCharacters, starCharacters, controlCharacters, beginsVersion4, charactersOf, afterBreaks, bodyStart, body, badAdvice, opens}
 
 -- a text in two parts: the second stands after the first
 pub begins-append : (ps qs xs : List ℕ) → begins (ps ++ qs) xs ≡ (begins ps xs && begins qs (drop (length ps) xs))
@@ -57,7 +57,7 @@ module _ (s : List ℕ) where
   -- the six bytes of an advice stand after `UNA`
   pub characters-advised : {a b m r v t : ℕ} → advised s ≡ true → a ≡ getD s 3 0 → b ≡ getD s 4 0 → m ≡ getD s 5 0 → r ≡ getD s 6 0
       → v ≡ getD s 7 0 → t ≡ getD s 8 0
-      → record { component = a; element = b; mark = m; release = r; reserved = v; terminator = t } ≡ charactersOf s
+      → record { component = a; element = b; mark = m; release = r; repetition = v; terminator = t } ≡ charactersOf s
   unfolding charactersOf sixBytes
   characters-advised e p q x y z w = simp (e, getD-drop, p, q, x, y, z, w)
 
@@ -66,13 +66,43 @@ module _ (s : List ℕ) where
       → begins (text "UNB+") s ≡ t
   begins-plus e f g = cc (begins-append (text "UNB") (text "+") s)
 
-  pub characters-plus : advised s ≡ false → begins (text "UNB+") s ≡ true → plusCharacters ≡ charactersOf s
-  unfolding charactersOf
-  characters-plus e f = simp (e, f)
+  -- `UNO`, a byte for the level and `:4`, each asked for at its own place
+  module _ {tag colon four : Bool} (e : tag ≡ begins (text "UNO") (drop 4 s)) (f : colon ≡ begins (text ":") (drop 8 s))
+      (g : four ≡ begins (text "4") (drop 9 s)) where
+    version4-named : (b : ℕ) {level : Bool} → level ≡ begins (b ∷ []) (drop 7 s)
+        → begins (text "UNO" ++ b ∷ text ":4") (drop 4 s) ≡ (tag && (level && (colon && four)))
+    version4-named b h =
+        cc (begins-at s 4 (text "UNO") (b ∷ text ":4"), begins-at s 7 (b ∷ []) (text ":4"), begins-at s 8 (text ":") (text "4"), e, f, g, h)
+
+    pub version4-tests : {a b : Bool} → a ≡ begins (text "A") (drop 7 s) → b ≡ begins (text "B") (drop 7 s)
+        → (tag && (a || b) && colon && four) ≡ (begins (text "UNOA:4") (drop 4 s) || begins (text "UNOB:4") (drop 4 s))
+    version4-tests {a} {b} p q = either tag a b ∙ sym (ap₂ _||_ (version4-named 65 p) (version4-named 66 q))
+      where
+        either : (t x y : Bool) → (t && (x || y) && colon && four) ≡ ((t && (x && (colon && four))) || (t && (y && (colon && four))))
+        either true true true = sym (or-self (colon && four))
+        either true true false = sym (or-false (colon && four))
+        either true false true = refl
+        either true false false = refl
+        either false x y = refl
+
+  -- after `UNB+` they name version 4
+  module _ {named : Bool} (n : named ≡ (begins (text "UNOA:4") (drop 4 s) || begins (text "UNOB:4") (drop 4 s))) where
+    after-plus : begins (text "UNB+") s ≡ true → beginsVersion4 s ≡ named
+    unfolding beginsVersion4
+    after-plus f =
+        ap₂ _||_ (begins-append (text "UNB+") (text "UNOA:4") s) (begins-append (text "UNB+") (text "UNOB:4") s)
+        ∙ (simp f)
+        ∙ sym n
+
+    pub characters-plus : {c : Characters} → advised s ≡ false → begins (text "UNB+") s ≡ true
+        → c ≡ (if named then starCharacters else plusCharacters) → c ≡ charactersOf s
+    unfolding charactersOf
+    characters-plus e f d = d ∙ sym (simp (e, f, after-plus f))
 
   pub characters-control : advised s ≡ false → begins (text "UNB+") s ≡ false → controlCharacters ≡ charactersOf s
-  unfolding charactersOf
-  characters-control e f = simp (e, f)
+  unfolding charactersOf beginsVersion4
+  characters-control e f =
+      simp (e, begins-append (text "UNB+") (text "UNOA:4") s, begins-append (text "UNB+") (text "UNOB:4") s, f)
 
   pub start-advised : advised s ≡ true → {start : ℕ} → start ≡ afterBreaks s 9 → start ≡ bodyStart s
   unfolding bodyStart

@@ -1,13 +1,13 @@
 -- When six bytes are usable, as the code asks it: the definition's tests, bracketed as the code brackets them. Assumes nothing.
 use Prim.Native.Nat.{ℕ}
-use mathlib.Core.Path.{_≡_, refl}
+use mathlib.Core.Path.{_≡_, refl, sym, ap, ap₂, _∙_}
 use mathlib.Core.Bool.{Bool, true, false, not, _&&_, _||_, and-assoc, and-true, or-assoc, or-false}
-use mathlib.Core.List.{[], _∷_}
+use mathlib.Core.List.{[], _∷_, _++_}
 use lib.Dec.{eqb}
-use borrow.Author.Tests.{eq-eqb, ne-eqb}
-use Rattle.lists.specs.Lists.{member, allDiffer, all}
+use Rattle.lists.specs.Lists.{if_then_else_, member, allDiffer, all}
 use Rattle.characters.specs.declared.Characters.{Characters}
-use Rattle.characters.specs.Characters.{between, upper, lower, digit, separates, hasRelease, serviceCharacters, usable}
+use Rattle.characters.specs.Characters.{between, upper, lower, digit, separates, hasRelease, hasRepetition, serviceCharacters, usable}
+use Rattle.stage_opening.specs.Optional.{optional}
 
 not-or : (a b : Bool) → not (a || b) ≡ (not a && not b)
 not-or true b = refl
@@ -22,25 +22,61 @@ pub differ-tests : (x a b c : ℕ) → not (eqb x a || eqb x b || eqb x c) ≡ n
 unfolding member
 differ-tests x a b c = simp (or-assoc, or-false)
 
--- each is compared with those after it
-pub all-differ-tests : (a b c d : ℕ) {first : Bool} → first ≡ not (member a (b ∷ c ∷ d ∷ []))
-    → (first && not (eqb b c || eqb b d) && not (eqb c d)) ≡ allDiffer (a ∷ b ∷ c ∷ d ∷ [])
-unfolding member allDiffer
-all-differ-tests a b c d f = simp (f, and-assoc, and-true, or-false)
+-- ---- the two that may be none
 
-module _ (c : Characters) {first second third : Bool} (p : first ≡ separates (c .component)) (q : second ≡ separates (c .element))
-    (r : third ≡ separates (c .terminator)) where
-  -- without release: three service characters
-  pub usable-three : {apart : Bool} → c .release ≡ 32 → apart ≡ allDiffer (c .mark ∷ c .component ∷ c .element ∷ c .terminator ∷ [])
-      → (eqb (c .reserved) 32 && (eqb (c .mark) 46 || eqb (c .mark) 44) && (first && second && third) && apart) ≡ usable c
-  unfolding usable serviceCharacters hasRelease member all
-  usable-three e d = simp (eq-eqb (c .release) 32 e, p, q, r, d, and-assoc, and-true, or-false)
+module _ (c : Characters) where
+  pub optional-separate : {repetition release : Bool} → repetition ≡ separates (c .repetition) → release ≡ separates (c .release)
+      → ((eqb (c .repetition) 32 || repetition) && (eqb (c .release) 32 || release)) ≡ all separates (optional c)
+  unfolding hasRepetition hasRelease all
+  optional-separate p q =
+      ap₂ (λ (x y : Bool). (eqb (c .repetition) 32 || x) && (eqb (c .release) 32 || y)) p q
+      ∙ step (eqb (c .repetition) 32) (eqb (c .release) 32)
+    where
+      step : (t u : Bool)
+          → ((t || separates (c .repetition)) && (u || separates (c .release)))
+          ≡ all separates ((if not t then c .repetition ∷ [] else []) ++ (if not u then c .release ∷ [] else []))
+      step true true = refl
+      step true false = sym (and-true (separates (c .release)))
+      step false true = refl
+      step false false = ap (λ (b : Bool). separates (c .repetition) && b) (sym (and-true (separates (c .release))))
 
-  -- with release: four
-  pub usable-four : {fourth marked apart : Bool} → (c .release ≡ 32 → ⊥) → fourth ≡ separates (c .release)
+  pub optional-differ : (eqb (c .repetition) 32 || eqb (c .release) 32 || not (eqb (c .repetition) (c .release))) ≡ allDiffer (optional c)
+  unfolding hasRepetition hasRelease allDiffer member
+  optional-differ = step (eqb (c .repetition) 32) (eqb (c .release) 32)
+    where
+      step : (t u : Bool)
+          → (t || u || not (eqb (c .repetition) (c .release)))
+          ≡ allDiffer ((if not t then c .repetition ∷ [] else []) ++ (if not u then c .release ∷ [] else []))
+      step true true = refl
+      step true false = refl
+      step false true = refl
+      step false false = simp (or-false, and-true)
+
+  pub optional-apart : (x : ℕ)
+      → ((eqb (c .repetition) 32 || not (eqb x (c .repetition))) && (eqb (c .release) 32 || not (eqb x (c .release))))
+      ≡ not (member x (optional c))
+  unfolding hasRepetition hasRelease member
+  optional-apart x = step (eqb (c .repetition) 32) (eqb (c .release) 32)
+    where
+      step : (t u : Bool)
+          → ((t || not (eqb x (c .repetition))) && (u || not (eqb x (c .release))))
+          ≡ not (member x ((if not t then c .repetition ∷ [] else []) ++ (if not u then c .release ∷ [] else [])))
+      step true true = refl
+      step true false = simp or-false
+      step false true = simp (or-false, and-true)
+      step false false = simp (or-false, not-or)
+
+-- ---- all of them
+
+module _ (c : Characters) {first second third others : Bool} (p : first ≡ separates (c .component)) (q : second ≡ separates (c .element))
+    (r : third ≡ separates (c .terminator)) (o : others ≡ all separates (optional c)) where
+  pub usable-tests : {marked mark component element terminator apart : Bool}
       → marked ≡ not (member (c .mark) (c .component ∷ c .element ∷ c .terminator ∷ []))
-      → apart ≡ allDiffer (c .component ∷ c .element ∷ c .terminator ∷ c .release ∷ [])
-      → (eqb (c .reserved) 32 && (eqb (c .mark) 46 || eqb (c .mark) 44) && (first && second && third) && fourth
-      && (marked && not (eqb (c .mark) (c .release))) && apart) ≡ usable c
-  unfolding usable serviceCharacters hasRelease member all allDiffer
-  usable-four e u m d = simp (ne-eqb (c .release) 32 e, p, q, r, u, m, d, not-or, and-assoc, and-true, or-false)
+      → mark ≡ not (member (c .mark) (optional c)) → component ≡ not (member (c .component) (optional c))
+      → element ≡ not (member (c .element) (optional c)) → terminator ≡ not (member (c .terminator) (optional c))
+      → apart ≡ allDiffer (optional c)
+      → ((eqb (c .mark) 46 || eqb (c .mark) 44) && (first && second && third && others) && (marked && mark)
+      && (not (eqb (c .component) (c .element)) && not (eqb (c .component) (c .terminator)) && component)
+      && (not (eqb (c .element) (c .terminator)) && element) && (terminator && apart)) ≡ usable c
+  unfolding usable serviceCharacters member all allDiffer
+  usable-tests m a b d e f = simp (p, q, r, o, m, a, b, d, e, f, not-or, and-assoc, or-false)

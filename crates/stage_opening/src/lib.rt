@@ -3,12 +3,13 @@
 // Judge answer, as `Progress`, in which every run of stages hands on what it found. What the body
 // holds is left to others.
 ghost use mathlib.Core.Path.{_≡_};
-ghost use mathlib.Core.Bool.{not};
+ghost use mathlib.Core.Bool.{not, _||_};
 ghost use mathlib.Core.List.{[], _∷_, _++_};
 ghost use Prim.Native.Nat.{_+_};
 ghost use lib.ListN.{getD, drop};
-ghost use Rattle.lists.specs.Lists.{text, begins, member, allDiffer};
-ghost use Rattle.characters.specs.Characters.{between, separates, usable, advised, charactersOf, bodyStart, badAdvice, opens};
+ghost use Rattle.lists.specs.Lists.{if_then_else_, text, begins, member, allDiffer, all};
+ghost use Rattle.characters.specs.Characters.{between, separates, usable, advised, plusCharacters, starCharacters, charactersOf, bodyStart, badAdvice, opens};
+ghost use Rattle.stage_opening.specs.Optional.{optional};
 ghost use Rattle.stage_opening.specs.Runs.{progress};
 use characters::Characters;
 use line_breaks::after_breaks;
@@ -40,29 +41,44 @@ fn differs(x: u8, a: u8, b: u8, c: u8) -> bool
     !((x == a) | (x == b) | (x == c))
 }
 
-// No two of the four are the same.
-fn all_differ(a: u8, b: u8, c: u8, d: u8) -> bool
-    ensures { λ r. ⌜ r ≡ allDiffer (a ∷ b ∷ c ∷ d ∷ []) ⌝ }
+// The repetition separator and the release character, of which each may be none, may separate.
+fn optional_separate(c: Characters) -> bool
+    ensures { λ r. ⌜ r ≡ all separates (optional c) ⌝ }
 {
-    differs(a, b, c, d) & !((b == c) | (b == d)) & (c != d)
+    let repetition = (c.repetition == b' ') | may_separate(c.repetition);
+    repetition & ((c.release == b' ') | may_separate(c.release))
+}
+
+// The two differ, where both are there.
+fn optional_differ(c: Characters) -> bool
+    ensures { λ r. ⌜ r ≡ allDiffer (optional c) ⌝ }
+{
+    (c.repetition == b' ') | (c.release == b' ') | (c.repetition != c.release)
+}
+
+// A byte differs from those of the two that are there.
+fn is_apart(c: Characters, x: u8) -> bool
+    ensures { λ r. ⌜ r ≡ not (member x (optional c)) ⌝ }
+{
+    let repetition = (c.repetition == b' ') | (x != c.repetition);
+    repetition & ((c.release == b' ') | (x != c.release))
 }
 
 pub fn is_usable(c: Characters) -> bool
     ensures { λ r. ⌜ r ≡ usable c ⌝ }
 {
-    let space_and_mark = (c.reserved == b' ') & ((c.mark == b'.') | (c.mark == b','));
+    let marked = (c.mark == b'.') | (c.mark == b',');
     let separators = may_separate(c.component)
         & may_separate(c.element)
-        & may_separate(c.terminator);
-    if c.release == b' ' {
-        return space_and_mark
-            & separators
-            & all_differ(c.mark, c.component, c.element, c.terminator);
-    }
-    let mark_differs = differs(c.mark, c.component, c.element, c.terminator)
-        & (c.mark != c.release);
-    let others_differ = all_differ(c.component, c.element, c.terminator, c.release);
-    space_and_mark & separators & may_separate(c.release) & mark_differs & others_differ
+        & may_separate(c.terminator)
+        & optional_separate(c);
+    let mark_differs = differs(c.mark, c.component, c.element, c.terminator) & is_apart(c, c.mark);
+    let component_differs = (c.component != c.element)
+        & (c.component != c.terminator)
+        & is_apart(c, c.component);
+    let element_differs = (c.element != c.terminator) & is_apart(c, c.element);
+    let others_differ = is_apart(c, c.terminator) & optional_differ(c);
+    marked & separators & mark_differs & component_differs & element_differs & others_differ
 }
 
 // ---- the opening, with and without advice
@@ -103,6 +119,32 @@ fn is_advised(s: &[u8]) -> bool
     tag_stands(s, 0, b'A')
 }
 
+// Level and version follow `UNB+` as in version 4.
+fn names_version4(s: &[u8]) -> bool
+    ensures { λ r. ⌜ r ≡ (begins (text "UNOA:4") (drop 4 (now (s .entry))) || begins (text "UNOB:4") (drop 4 (now (s .entry)))) ⌝ }
+{
+    let level = byte_stands(s, 4, 3, b'A') | byte_stands(s, 4, 3, b'B');
+    tag_stands(s, 4, b'O') & level & byte_stands(s, 4, 4, b':') & byte_stands(s, 4, 5, b'4')
+}
+
+// What an input without advice uses that begins `UNB+`.
+fn plus_characters(version4: bool) -> Characters
+    ensures { λ r. ⌜ r ≡ (if version4 then starCharacters else plusCharacters) ⌝ }
+{
+    let mut c = Characters {
+        component: b':',
+        element: b'+',
+        mark: b'.',
+        release: b'?',
+        repetition: b' ',
+        terminator: b'\'',
+    };
+    if version4 {
+        c.repetition = b'*';
+    }
+    c
+}
+
 fn characters_of(s: &[u8]) -> Characters
     ensures { λ r. ⌜ r ≡ charactersOf (now (s .entry)) ⌝ }
 {
@@ -112,26 +154,19 @@ fn characters_of(s: &[u8]) -> Characters
             element: byte_at(s, 4),
             mark: byte_at(s, 5),
             release: byte_at(s, 6),
-            reserved: byte_at(s, 7),
+            repetition: byte_at(s, 7),
             terminator: byte_at(s, 8),
         };
     }
     if tag_stands(s, 0, b'B') & byte_stands(s, 0, 3, b'+') {
-        return Characters {
-            component: b':',
-            element: b'+',
-            mark: b'.',
-            release: b'?',
-            reserved: b' ',
-            terminator: b'\'',
-        };
+        return plus_characters(names_version4(s));
     }
     Characters {
         component: 31,
         element: 29,
         mark: b'.',
         release: b' ',
-        reserved: b' ',
+        repetition: b' ',
         terminator: 28,
     }
 }

@@ -7,14 +7,14 @@ use native.Mathlib.Omega.{arith}
 use lib.ListN.{length, drop}
 use Rattle.lists.specs.Lists.{text, begins, member, isEmpty, at, maybe, lastOr, onto, cut, unlessIdle, dropEnd, trimEnd, gather}
 use Rattle.characters.specs.declared.Characters.{Characters}
-use Rattle.characters.specs.Characters.{sixBytes, hasRelease, isBreak, breaks, advised, plusCharacters, charactersOf, bodyStart, body, role}
+use Rattle.characters.specs.Characters.{sixBytes, hasRelease, hasRepetition, beginsVersion4, starCharacters, isBreak, breaks, advised, plusCharacters, charactersOf, bodyStart, body, role}
 use Rattle.characters.proofs.Words.{advising, advised-opening}
 use Rattle.refusals.specs.declared.Fault.the-variants.{TooLong, UnusableAdvice}
 use Rattle.refusals.specs.Refusals.{met, answering}
 use Rattle.refusals.proofs.Words.{place-answers}
 use Rattle.values.specs.Tokens.{tokens, unreleased, reading, taken, tokensFrom, ends, placeOf, Segment, segments, start}
-use Rattle.values.specs.Values.{byteOf, bytesOf, endPlace, valueOf, valuesOf, elementsOf}
-use Rattle.values.specs.Trimming.{isIdle, trimElement, trimSegment, trimmed, contentsOf}
+use Rattle.values.specs.Values.{byteOf, bytesOf, endPlace, valueOf, valuesOf, repeatsOf, elementsOf}
+use Rattle.values.specs.Trimming.{isIdle, trimRepeat, trimElement, trimSegment, trimmed, contentsOf}
 use Rattle.levels.specs.Levels.{levelOf}
 use Rattle.segments.specs.Tags.{kindOf}
 use Rattle.stages.specs.Contents.{bodyTokens, segmentsOf, contents, kindsOf}
@@ -34,9 +34,18 @@ unfolding kindsOf
 kinds-read s g h e = rw e
 
 -- "The contents are the trimmed list.", segment by segment
-pub contents-are : contents (text "UNB+?+:A::+'X+:B'") ≡ ((text "UNB" ∷ []) ∷ (text "+" ∷ text "A" ∷ []) ∷ []) ∷ ((text "X" ∷ []) ∷ ([] ∷ text "B" ∷ []) ∷ []) ∷ []
-unfolding contents segmentsOf bodyTokens charactersOf bodyStart body advised plusCharacters sixBytes begins role hasRelease member tokens tokensFrom unreleased reading isBreak taken segments cut onto ends contentsOf trimmed trimSegment trimElement trimEnd dropEnd unlessIdle isIdle isEmpty elementsOf valuesOf valueOf bytesOf byteOf gather endPlace start placeOf lastOr
+pub contents-are : contents (text "UNB+?+:A::+'X+:B*'")
+    ≡ (((text "UNB" ∷ []) ∷ []) ∷ ((text "+" ∷ text "A" ∷ []) ∷ []) ∷ []) ∷ (((text "X" ∷ []) ∷ []) ∷ (([] ∷ text "B*" ∷ []) ∷ []) ∷ []) ∷ []
+unfolding contents segmentsOf bodyTokens charactersOf bodyStart body advised plusCharacters beginsVersion4 sixBytes begins role hasRelease hasRepetition member tokens tokensFrom unreleased reading isBreak taken segments cut onto ends contentsOf trimmed trimSegment trimElement trimRepeat trimEnd dropEnd unlessIdle isIdle isEmpty elementsOf repeatsOf valuesOf valueOf bytesOf byteOf gather endPlace start placeOf lastOr
 contents-are = refl
+
+-- request 2026-10: input that begins so "has `*`"
+pub repeats-are : contents (text "UNB+UNOA:4'X+A*?*::**'")
+    ≡ (((text "UNB" ∷ []) ∷ []) ∷ ((text "UNOA" ∷ text "4" ∷ []) ∷ []) ∷ [])
+    ∷ (((text "X" ∷ []) ∷ []) ∷ ((text "A" ∷ []) ∷ (text "*" ∷ []) ∷ []) ∷ [])
+    ∷ []
+unfolding contents segmentsOf bodyTokens charactersOf bodyStart body advised starCharacters beginsVersion4 sixBytes begins role hasRelease hasRepetition member tokens tokensFrom unreleased reading isBreak taken segments cut onto ends contentsOf trimmed trimSegment trimElement trimRepeat trimEnd dropEnd unlessIdle isIdle isEmpty elementsOf repeatsOf valuesOf valueOf bytesOf byteOf gather endPlace start placeOf lastOr
+repeats-are = refl
 
 -- "The first failing stage answers": an input that is too long is refused for that, whatever else it is
 pub length-first : (s : List ℕ) → 32000 < length s → refusalOf s ≡ some (record { fault = TooLong; place = 0 })
@@ -46,6 +55,6 @@ length-first s h =
     ∙ place-answers TooLong (tooLong s) (met UnusableAdvice (unusableAdvice s) ∷ laterStages s) 0 (one-at s 0 .1 (h, refl)) (λ q m. omega arith)
 
 -- where no level is named, no byte is outside it, so that 8 is never met where 7 is
-pub level-none : (s : List ℕ) (unb : Segment) (rest : List Segment) → segmentsOf s ≡ unb ∷ rest → levelOf unb ≡ none → level s ≡ 0
+pub level-none : (s : List ℕ) (unb : Segment) (rest : List Segment) → segmentsOf s ≡ unb ∷ rest → levelOf (charactersOf s) unb ≡ none → level s ≡ 0
 unfolding level at maybe
 level-none s unb rest e n = rw (e, n)

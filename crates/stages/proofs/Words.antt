@@ -20,15 +20,15 @@ use Rattle.refusals.proofs.Words.{place-says}
 use Rattle.values.specs.Tokens.{Token, byte, separator, fault, Segment, placeOf, start, segments}
 use Rattle.values.specs.Values.{isFault, finished, endsInside}
 use Rattle.values.specs.Trimming.{contentsOf}
-use Rattle.values.specs.Spelling.{spell}
+use Rattle.values.specs.Spelling.{SegmentList, spell}
 use Rattle.values.proofs.Words.{fault-says, inside-says, no-segment, start-tokens, start-first}
-use Rattle.levels.specs.Levels.{levelOf, inLevel}
-use Rattle.levels.proofs.Words.{Names, level-none}
+use Rattle.levels.specs.Levels.{levelOf, inLevel, hasVersion4}
+use Rattle.levels.proofs.Words.{Names, level-none, FourthVersion, fourth-says, no-version}
 use Rattle.segments.specs.Tags.{kindOf, tagRule}
 use Rattle.segments.specs.Order.{allowed, isComplete}
 use Rattle.control_elements.specs.Control.{controlRule, referenceDiffers, countWrong}
 use Rattle.control_elements.specs.Sections.{sectionRule}
-use Rattle.stages.specs.Contents.{bodyTokens, segmentsOf, contents, kindsOf, normalCharacters, interchange, normalForm}
+use Rattle.stages.specs.Contents.{bodyTokens, segmentsOf, contents, kindsOf, normalCharacters, normalRepetition, interchange, normalForm}
 use Rattle.stages.specs.Places.{isOver, startsWhere, tooLong, unusableAdvice, noOpening, strayReleases, unendedSegment, brokenTags, foreignLevel, level, placeOutside, outsideLevel, misplacedSegments, badControls, differingReferences, wrongCounts, normalTooLong}
 use Rattle.stages.specs.Stages.{placesOf, brackets, bracketsIn, bracketed, stagesIn, stages, laterStages}
 
@@ -169,13 +169,13 @@ module _ (s : List ℕ) (p : ℕ) where
         ∙ start-tokens (charactersOf s) (bodyStart s) (body s) (λ h. nil≢cons (sym no-segment ∙ ap segments (sym h) ∙ e))
 
     pub seven-at : List·Memᴰ p (foreignLevel s)
-        ↔ ((Names (contentsOf unb) 65 → ⊥) × (Names (contentsOf unb) 66 → ⊥) × (p ≡ bodyStart s))
+        ↔ ((Names (charactersOf s) (contentsOf unb) 65 → ⊥) × (Names (charactersOf s) (contentsOf unb) 66 → ⊥) × (p ≡ bodyStart s))
     unfolding foreignLevel at maybe
-    seven-at = rw (e, ← unb-start) (step (levelOf unb) (level-none unb))
+    seven-at = rw (e, ← unb-start) (step (levelOf (charactersOf s) unb) (level-none (charactersOf s) unb))
       where
-        step : (o : Option ℕ) → (o ≡ none) ↔ ((Names (contentsOf unb) 65 → ⊥) × (Names (contentsOf unb) 66 → ⊥))
+        step : (o : Option ℕ) → (o ≡ none) ↔ ((Names (charactersOf s) (contentsOf unb) 65 → ⊥) × (Names (charactersOf s) (contentsOf unb) 66 → ⊥))
             → List·Memᴰ p (maybe (start unb ∷ []) (λ l. []) o)
-            ↔ ((Names (contentsOf unb) 65 → ⊥) × (Names (contentsOf unb) 66 → ⊥) × (p ≡ start unb))
+            ↔ ((Names (charactersOf s) (contentsOf unb) 65 → ⊥) × (Names (charactersOf s) (contentsOf unb) 66 → ⊥) × (p ≡ start unb))
         step none h = (λ m. (h .0 refl .0, h .0 refl .1, List·Memᴰ·eq-of-singleton m), λ k. List·Memᴰ·head (k .2))
         step (some l) h = (
           λ m. absurd (List·Memᴰ·not-nil m),
@@ -183,7 +183,7 @@ module _ (s : List ℕ) (p : ℕ) where
         )
 
     -- the byte itself
-    pub eight-at : (l : ℕ) → levelOf unb ≡ some l
+    pub eight-at : (l : ℕ) → levelOf (charactersOf s) unb ≡ some l
         → List·Memᴰ p (outsideLevel s) ↔ ((b : ℕ) × (from : ℕ) × List·Memᴰ (byte b from p) (bodyTokens s) × (inLevel l b ≡ false))
     unfolding outsideLevel placeOutside level at maybe
     eight-at l named = (
@@ -279,7 +279,7 @@ runs-are = (refl, refl, refl)
 
 -- ---- the normal form
 
--- "`UNA:+`, the mark, `? '`, then the contents spelled with those characters."
+-- "`UNA:+`, the mark, `? '`, then the contents spelled with those characters.", with the fifth byte of the contents' version
 pub form-is : (s : List ℕ)
     → normalForm s
     ≡ 85
@@ -289,8 +289,22 @@ pub form-is : (s : List ℕ)
     ∷ 43
     ∷ charactersOf s .mark
     ∷ 63
-    ∷ 32
+    ∷ normalRepetition (contents s)
     ∷ 39
-    ∷ spell (record { component = 58; element = 43; mark = charactersOf s .mark; release = 63; reserved = 32; terminator = 39 }) (contents s)
+    ∷ spell
+    (record { component = 58; element = 43; mark = charactersOf s .mark; release = 63; repetition = normalRepetition (contents s); terminator = 39 })
+    (contents s)
 unfolding normalForm interchange normalCharacters adviceOf spelledOut sixBytes
 form-is s = refl
+
+-- request 2026-10: "A version 4 normal form has `*` in the fifth place ..; older ones keep the space."
+pub fifth-is : (unb : List (List (List (List ℕ)))) (rest : SegmentList)
+    → (FourthVersion unb → normalRepetition (unb ∷ rest) ≡ 42)
+    × ((FourthVersion unb → ⊥) → normalRepetition (unb ∷ rest) ≡ 32)
+    × (normalRepetition [] ≡ 32)
+unfolding normalRepetition
+fifth-is unb rest = (
+  λ h. rw (fourth-says unb rest .1 h),
+  λ h. rw (fails (hasVersion4 (unb ∷ rest)) (fourth-says unb rest) .1 h),
+  rw no-version,
+)

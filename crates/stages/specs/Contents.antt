@@ -1,12 +1,13 @@
--- Paper 01, "From bytes to values" and "Normal form": what an input holds. Assumes nothing.
+-- Paper 01, "From bytes to values" and "Normal form": what an input holds; request 2026-10: version 4. Assumes nothing.
 use Prim.Native.Nat.{ℕ}
 use mathlib.Core.List.{List, [], _∷_, _++_, map, reverse}
-use Rattle.lists.specs.Lists.{text}
+use Rattle.lists.specs.Lists.{if_then_else_, text}
 use Rattle.characters.specs.declared.Characters.{Characters}
-use Rattle.characters.specs.Characters.{sixBytes, adviceOf, charactersOf, bodyStart, body}
+use Rattle.characters.specs.Characters.{space, sixBytes, adviceOf, charactersOf, bodyStart, body}
 use Rattle.values.specs.Tokens.{Token, tokens, Segment, segments}
 use Rattle.values.specs.Trimming.{contentsOf}
 use Rattle.values.specs.Spelling.{SegmentList, spell}
+use Rattle.levels.specs.Levels.{hasVersion4}
 use Rattle.segments.specs.declared.Kind.{Kind}
 use Rattle.segments.specs.Tags.{kindOf}
 
@@ -26,13 +27,18 @@ kindsOf s = reverse (map kindOf (segmentsOf s))
 
 -- ---- the normal form
 
-unfoldable pub normalCharacters : ℕ → Characters
-normalCharacters mark = sixBytes (text ":+" ++ mark ∷ text "? '")
+-- the mark and the fifth byte are given
+unfoldable pub normalCharacters : ℕ → ℕ → Characters
+normalCharacters mark repetition = sixBytes (text ":+" ++ mark ∷ text "?" ++ repetition ∷ text "'")
+
+-- request 2026-10: "A version 4 normal form has `*` in the fifth place ..; older ones keep the space."
+unfoldable pub normalRepetition : SegmentList → ℕ
+normalRepetition list = if hasVersion4 list then 42 else space
 
 -- a list of segments after its advice
 unfoldable pub interchange : Characters → SegmentList → List ℕ
 interchange c list = adviceOf c ++ spell c list
 
--- "`UNA:+`, the mark, `? '`, then the contents spelled with those characters."
+-- "`UNA:+`, the mark, `? '`", in version 4 `?*'`, "then the contents spelled with those characters."
 unfoldable pub normalForm : List ℕ → List ℕ
-normalForm s = interchange (normalCharacters (charactersOf s .mark)) (contents s)
+normalForm s = interchange (normalCharacters (charactersOf s .mark) (normalRepetition (contents s))) (contents s)

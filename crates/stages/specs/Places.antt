@@ -7,7 +7,7 @@ use mathlib.Core.List.{List, [], _∷_, _++_, map}
 use lib.ListN.{length}
 use lib.Dec.{ltb}
 use Rattle.lists.specs.Lists.{gather, at, maybe}
-use Rattle.characters.specs.Characters.{bodyStart, badAdvice, opens}
+use Rattle.characters.specs.Characters.{charactersOf, bodyStart, badAdvice, opens}
 use Rattle.refusals.specs.Refusals.{placeIf}
 use Rattle.values.specs.Tokens.{Token, byte, separator, fault, Segment, placeOf, start}
 use Rattle.values.specs.Values.{isFault, finished, endsInside}
@@ -66,11 +66,11 @@ module _ (s : List ℕ) where
 
   -- 7: "level or version not ours": "UNB's start"
   unfoldable pub foreignLevel : List ℕ
-  foreignLevel = maybe [] (λ unb. maybe (start unb ∷ []) (λ level. []) (levelOf unb)) (at (segmentsOf s) 0)
+  foreignLevel = maybe [] (λ unb. maybe (start unb ∷ []) (λ level. []) (levelOf (charactersOf s) unb)) (at (segmentsOf s) 0)
 
   -- the level that UNB, the first segment, names
   unfoldable pub level : ℕ
-  level = maybe 0 (λ unb. maybe 0 (λ named. named) (levelOf unb)) (at (segmentsOf s) 0)
+  level = maybe 0 (λ unb. maybe 0 (λ named. named) (levelOf (charactersOf s) unb)) (at (segmentsOf s) 0)
 
   -- "Every value byte, released ones too, must be in the level."
   unfoldable pub placeOutside : Token → List ℕ

@@ -1,4 +1,5 @@
--- Paper 01, "The example and its neighbours": X, and each case that is marked *. Assumes nothing.
+-- Paper 01, "The example and its neighbours": X, and each case that is marked *; request 2026-10: "The case `UNA:+.?*'` now answers 3 at
+-- 9". Assumes nothing.
 use Prim.Native.Nat.{ℕ}
 use Prim.Native.String.{String}
 use mathlib.Core.Bool.{Bool, true, false, _&&_}
@@ -56,6 +57,10 @@ abbrev pub respelled : String → List ℕ
 respelled advice =
     text advice ++ text "UNB*UNOA;1*AA*BB*260105;0930*R1~UNH*1*ORDERS;1;901;UN~BGM*220*A+B~UNT*3*1~UNZ*1*R1~"
 
+-- X of version 4, with other segments in the place of its third and fourth
+abbrev pub four : String → String → List ℕ
+four third fourth = text "UNB+UNOA:4+AA+BB+260105:0930+R1'" ++ text unh ++ text third ++ text fourth ++ text unz
+
 unfoldable pub cases : List Case
 cases =
     (x answers hasBytes 84)
@@ -75,7 +80,11 @@ cases =
     ∷ (respelled "UNA;*,! ~" answers differentFromX)
     ∷ ([] answers refused 3 0)
     ∷ (text "UNA:+.? '" answers refused 3 9)
-    ∷ (text "UNA:+.?*'" answers refused 2 0)
+    ∷ (text "UNA:+.?*'" answers refused 3 9)
+    -- request 2026-10: two repeats; empty ones inside an element stay, and those at its end go; a count has one
+    ∷ (four "BGM+220*A?+B'" unt answers accepted 5 1 0 93)
+    ∷ (four "BGM+220**A?+B**'" unt answers accepted 5 1 0 94)
+    ∷ (four bgm "UNT+3*3+1'" answers refused 10 67)
     ∷ []
 
 -- the answer's number, and its values from one of them on

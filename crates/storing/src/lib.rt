@@ -40,8 +40,9 @@ pub fn copy(buffer: &mut [u8], from: usize, s: &[u8], start: usize)
 pub fn is_service(c: Characters, b: u8) -> bool
     ensures { λ r. ⌜ r ≡ isService c b ⌝ }
 {
-    let others = (b == c.terminator) | ((c.release != 32) & (b == c.release));
-    (b == c.component) | ((b == c.element) | others)
+    let release = (c.release != 32) & (b == c.release);
+    let others = ((c.repetition != 32) & (b == c.repetition)) | release;
+    (b == c.component) | ((b == c.element) | ((b == c.terminator) | others))
 }
 
 // How many bytes a byte of a value takes as it is spelled.
@@ -75,6 +76,6 @@ pub fn put_advice(buffer: &mut [u8], c: Characters)
     buffer[4] = c.element;
     buffer[5] = c.mark;
     buffer[6] = c.release;
-    buffer[7] = c.reserved;
+    buffer[7] = c.repetition;
     buffer[8] = c.terminator;
 }

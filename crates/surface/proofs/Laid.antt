@@ -50,7 +50,7 @@ module _ (r : Refusal) {n : ℕ} (e : n ≡ number (r .fault)) where
         element = 0;
         mark = 0;
         release = 0;
-        reserved = 0;
+        repetition = 0;
         terminator = 0;
       } ≡ verdictOf (refused r)
   unfolding verdictOf refusedVerdict value refused

@@ -12,9 +12,9 @@ unfoldable pub keptOf : PartOfTwo → Kept
 keptOf (ofFirst offset length) = record { input = 1; offset = offset; length = length }
 keptOf (ofSecond offset length) = record { input = 2; offset = offset; length = length }
 
-unfoldable pub partOf : (s : List ℕ) (segment element component : ℕ) → Part
-partOf s segment element component =
+unfoldable pub partOf : (s : List ℕ) (segment element repeat component : ℕ) → Part
+partOf s segment element repeat component =
     record {
-      offset = partOffset s segment element component;
-      length = partLength s segment element component;
+      offset = partOffset s segment element repeat component;
+      length = partLength s segment element repeat component;
     }

@@ -3,6 +3,6 @@
 use Prim.Native.Nat.{ℕ}
 
 -- 1: paper 01 alone; 2: with change request 2026-03, section markers; 3: with change request 2026-01, line breaks between segments;
--- 4: with change request 2026-06, version 2 of the shelf
+-- 4: with change request 2026-06, version 2 of the shelf; 5: with change request 2026-10, syntax version 4
 abbrev pub rules : ℕ
-rules = 4
+rules = 5

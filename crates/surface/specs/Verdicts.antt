@@ -24,7 +24,7 @@ acceptedVerdict a =
       element = value 1 a;
       mark = value 2 a;
       release = value 3 a;
-      reserved = value 4 a;
+      repetition = value 4 a;
       terminator = value 5 a;
     }
 
@@ -41,7 +41,7 @@ refusedVerdict a =
       element = 0;
       mark = 0;
       release = 0;
-      reserved = 0;
+      repetition = 0;
       terminator = 0;
     }
 

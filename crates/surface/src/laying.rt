@@ -45,7 +45,7 @@ fn verdict_accepted(i: Figures) -> Verdict
         element: c.element,
         mark: c.mark,
         release: c.release,
-        reserved: c.reserved,
+        repetition: c.repetition,
         terminator: c.terminator,
     }
 }
@@ -64,7 +64,7 @@ fn verdict_refused(refusal: Refusal) -> Verdict
         element: 0,
         mark: 0,
         release: 0,
-        reserved: 0,
+        repetition: 0,
         terminator: 0,
     }
 }

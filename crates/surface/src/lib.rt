@@ -50,7 +50,7 @@ pub struct Verdict {
     pub element: u8,
     pub mark: u8,
     pub release: u8,
-    pub reserved: u8,
+    pub repetition: u8,
     pub terminator: u8,
 }
 
@@ -175,7 +175,7 @@ pub struct SumNumbers {
 pub extern "C" fn hverolda_rules() -> u32
     ensures { λ r. ⌜ r ≡ rules ⌝ }
 {
-    4
+    5
 }
 
 #[no_mangle]
@@ -219,28 +219,30 @@ pub extern "C" fn hverolda_keep(first: &[u8], second: &[u8]) -> Kept
 }
 
 #[no_mangle]
-pub extern "C" fn hverolda_locate(
+pub extern "C" fn hverolda_locate_value(
     input: &[u8],
     segment: usize,
     element: usize,
+    repeat: usize,
     component: usize,
 ) -> Location
-    ensures { λ r. ⌜ r ≡ locationOf (locateOf (now (input .entry)) segment element component) ⌝ }
+    ensures { λ r. ⌜ r ≡ locationOf (locateOf (now (input .entry)) segment element repeat component) ⌝ }
 {
-    location_of(locate::locate(input, segment, element, component))
+    location_of(locate::locate(input, segment, element, repeat, component))
 }
 
 // A slice that is handed back cannot cross, so the part is named: `run_locate::part` hands back the same.
 #[no_mangle]
-pub extern "C" fn hverolda_part(
+pub extern "C" fn hverolda_value_part(
     input: &[u8],
     segment: usize,
     element: usize,
+    repeat: usize,
     component: usize,
 ) -> Part
-    ensures { λ r. ⌜ r ≡ partOf (now (input .entry)) segment element component ⌝ }
+    ensures { λ r. ⌜ r ≡ partOf (now (input .entry)) segment element repeat component ⌝ }
 {
-    let part = locate::part_of(input, segment, element, component);
+    let part = locate::part_of(input, segment, element, repeat, component);
     Part {
         offset: part.offset,
         length: part.length,

@@ -8,7 +8,7 @@ use Rattle.segments.specs.declared.Kind.the-variants.{Unb, Ung, Unh, Uns, Unt, 
 use Rattle.segments.specs.Kinds.{is, kindNamed}
 use Rattle.segments.specs.Tags.{isTag}
 
--- the tag keeps the rule; `alone` says that an element separator or the terminator ends it, and no component separator
+-- the tag keeps the rule, as far as its bytes and what ends them say; `alone` says that no component separator ends it
 unfoldable pub wellNamed : List ℕ → Bool → Bool
 wellNamed tag alone = isTag tag && (not (begins (text "UN") tag) || (not (is User (kindNamed tag)) && alone))
 

@@ -34,11 +34,11 @@ abbrev pub fourOf : Word → Four
 fourOf w = record { first = w .first; second = w .second; third = w .third; fourth = w .fourth }
 
 abbrev pub begun : ℕ → Word
-begun from = record { size = 0; first = 0; second = 0; third = 0; fourth = 0; rank = 3; next = from }
+begun from = record { size = 0; first = 0; second = 0; third = 0; fourth = 0; rank = 4; next = from }
 
 abbrev pub grown : Word → ℕ → ℕ → Word
 grown w b next =
-    record { size = w .size + 1; first = w .second; second = w .third; third = w .fourth; fourth = b; rank = 3; next = next }
+    record { size = w .size + 1; first = w .second; second = w .third; third = w .fourth; fourth = b; rank = 4; next = next }
 
 abbrev pub passed : Word → ℕ → ℕ → Word
 passed w rank next =
@@ -49,16 +49,20 @@ passed w rank next =
 module _ (c : Characters) (s : List ℕ) (from : ℕ) where
   -- its tokens, with the separator that ends it
   abbrev pub pieceAt : List Token
-  pieceAt = through (ends 2) (tokensAt c s from)
+  pieceAt = through (ends 3) (tokensAt c s from)
+
+  -- the tokens of its repeat, with the separator that ends that
+  abbrev pub repeatAt : List Token
+  repeatAt = through (ends 2) (tokensAt c s from)
 
   -- its bytes
   abbrev pub valueAt : List ℕ
   valueAt = bytesOf pieceAt
 
-  -- the word says its size, its last four bytes, the rank of the separator that ends it (3 for none), and the place after that
+  -- the word says its size, its last four bytes, the rank of the separator that ends it (4 for none), and the place after that
   pub record Words (w : Word) : Type 0 where
     pub sized : w .size ≡ length valueAt
     pub last : fourOf w ≡ lastFour valueAt
-    pub known : w .rank ≤ 3
-    pub ended : (rank : ℕ) → rank ≤ 2 → endedBy rank pieceAt ≡ leb (w .rank) rank
-    pub after : Skips (ends 2) c s from (w .next)
+    pub known : w .rank ≤ 4
+    pub ended : (rank : ℕ) → rank ≤ 3 → endedBy rank pieceAt ≡ leb (w .rank) rank
+    pub after : Skips (ends 3) c s from (w .next)

@@ -7,10 +7,13 @@ ghost use mathlib.Core.Bool.{_||_};
 ghost use mathlib.Core.List.{[], _∷_};
 ghost use lib.Dec.{leb};
 ghost use Rattle.characters.specs.Characters.{upper, digit};
+ghost use mathlib.Core.Bool.{true};
+ghost use Rattle.segments.specs.declared.Kind.the-variants.{User};
 ghost use Rattle.segments.specs.Kinds.{kindNamed};
 ghost use Rattle.segments.specs.Tags.{kindOf, isTag, tagRule};
 ghost use Rattle.scanner.specs.Scan.{segmentAt};
-ghost use Rattle.tags.specs.Words.{begun, grown, passed, Words};
+ghost use Rattle.values.specs.Values.{endedBy};
+ghost use Rattle.tags.specs.Words.{begun, grown, passed, Words, repeatAt};
 ghost use Rattle.tags.specs.Naming.{wellNamed, isUser};
 use characters::Characters;
 use scanner::Lexed;
@@ -18,7 +21,7 @@ use scanner::lex;
 use segments::Kind;
 
 // A value's size and its last four bytes, with zeros in front of fewer; the rank of the separator that
-// ends it, 3 where the input ends first; and the place after that separator.
+// ends it, 4 where the input ends first; and the place after that separator.
 pub struct Word {
     pub size: usize,
     pub first: u8,
@@ -39,7 +42,7 @@ fn begun_at(from: usize) -> Word
         second: 0,
         third: 0,
         fourth: 0,
-        rank: 3,
+        rank: 4,
         next: from,
     }
 }
@@ -55,12 +58,12 @@ fn grown_by(word: Word, byte: u8, next: usize) -> Word
         second: word.third,
         third: word.fourth,
         fourth: byte,
-        rank: 3,
+        rank: 4,
         next,
     }
 }
 
-// No byte more: `rank` is 3 where the value goes on.
+// No byte more: `rank` is 4 where the value goes on.
 fn passed_by(mut word: Word, rank: u8, next: usize) -> Word
     ensures { λ r. ⌜ r ≡ passed word rank next ⌝ }
 {
@@ -88,7 +91,7 @@ pub fn word_at(s: &[u8], c: Characters, from: usize) -> Word
                 return passed_by(word, rank, next);
             }
             Lexed::Stray { next } => {
-                word = passed_by(word, 3, next);
+                word = passed_by(word, 4, next);
             }
             Lexed::End => {
                 return word;
@@ -119,10 +122,29 @@ pub fn kind_named(first: u8, second: u8, third: u8) -> Kind
     }
 }
 
+// The segment that begins at a place is a user segment by its first byte, as most are.
+fn begins_as_user(s: &[u8], c: Characters, at: usize) -> bool
+    ensures { λ r. ⌜ (r ≡ true → User ≡ kindOf (segmentAt c (now (s .entry)) at)) ⌝ }
+{
+    match lex(s, c, at) {
+        Lexed::Byte {
+            byte,
+            place: _,
+            next: _,
+        } => byte != b'U',
+        Lexed::Separator { rank: _, next: _ } => false,
+        Lexed::Stray { next: _ } => false,
+        Lexed::End => false,
+    }
+}
+
 // The kind of the segment that begins at a place.
 pub fn kind_at(s: &[u8], c: Characters, at: usize) -> Kind
     ensures { λ r. ⌜ r ≡ kindOf (segmentAt c (now (s .entry)) at) ⌝ }
 {
+    if begins_as_user(s, c, at) {
+        return Kind::User;
+    }
     let word = word_at(s, c, at);
     if word.size == 3 {
         kind_named(word.second, word.third, word.fourth)
@@ -178,7 +200,7 @@ fn is_user(kind: Kind) -> bool
 
 // The rule for a tag of three bytes that a separator of this rank ends.
 fn well_named(first: u8, second: u8, third: u8, rank: u8) -> bool
-    ensures { λ r. ⌜ r ≡ wellNamed (first ∷ second ∷ third ∷ []) (leb rank 1) ⌝ }
+    ensures { λ r. ⌜ r ≡ wellNamed (first ∷ second ∷ third ∷ []) (leb rank 2) ⌝ }
 {
     if !is_tag(first, second, third) {
         return false;
@@ -192,10 +214,41 @@ fn well_named(first: u8, second: u8, third: u8, rank: u8) -> bool
     if is_user(kind_named(first, second, third)) {
         return false;
     }
-    rank <= 1
+    rank <= 2
 }
 
-// The tag of the segment that begins at a place keeps the rule for tags.
+// The element that goes on at a place ends before another repeat of it begins.
+fn ends_unrepeated(s: &[u8], c: Characters, from: usize) -> bool
+    ensures { λ r. ⌜ r ≡ endedBy 1 (repeatAt c (now (s .entry)) from) ⌝ }
+{
+    let mut at = from;
+    loop {
+        match lex(s, c, at) {
+            Lexed::Byte {
+                byte: _,
+                place: _,
+                next,
+            } => {
+                at = next;
+            }
+            Lexed::Separator { rank, next } => {
+                if rank <= 2 {
+                    return rank <= 1;
+                }
+                at = next;
+            }
+            Lexed::Stray { next } => {
+                at = next;
+            }
+            Lexed::End => {
+                return false;
+            }
+        }
+    }
+}
+
+// The tag of the segment that begins at a place keeps the rule for tags. Only where a component
+// separator ends the tag, the rest of its element is looked at.
 pub fn tag_holds(s: &[u8], c: Characters, at: usize) -> bool
     ensures { λ r. ⌜ r ≡ tagRule (segmentAt c (now (s .entry)) at) ⌝ }
 {
@@ -203,5 +256,11 @@ pub fn tag_holds(s: &[u8], c: Characters, at: usize) -> bool
     if word.size != 3 {
         return false;
     }
-    well_named(word.second, word.third, word.fourth, word.rank)
+    if !well_named(word.second, word.third, word.fourth, word.rank) {
+        return false;
+    }
+    if word.rank <= 2 {
+        return word.rank <= 1;
+    }
+    ends_unrepeated(s, c, word.next)
 }

@@ -2,15 +2,18 @@
 use Prim.Native.Nat.{ℕ, _≤_}
 use mathlib.Core.Path.{_≡_, refl, sym, ap, _∙_}
 use mathlib.Core.Logic.{_↔_, _⊎_, ⊎-elim}
-use mathlib.Core.Bool.{true, false}
+use mathlib.Core.Bool.{Bool, true, false}
 use mathlib.Core.List.{List, [], _∷_, _++_, map}
 use lib.ListN.{length}
 use mathlib.Core.Option.{none, some}
-use Rattle.characters.specs.Characters.{usable, advised, adviceOf, charactersOf, bodyStart, body, opens}
+use Rattle.lists.specs.Lists.{if_then_else_, isSingle, member, all, gather}
+use Rattle.characters.specs.declared.Characters.{Characters}
+use Rattle.characters.specs.Characters.{hasRelease, hasRepetition, serviceCharacters, isService, usable, sixBytes, advised, adviceOf, charactersOf, bodyStart, body, opens}
+use Rattle.levels.specs.Levels.{hasVersion4}
 use Rattle.refusals.specs.Limits.{mostBytes}
 use Rattle.refusals.proofs.Stages.{place-none-not}
-use Rattle.values.specs.Spelling.{spell, leadsBreak}
-use Rattle.stages.specs.Contents.{bodyTokens, segmentsOf, contents, interchange, normalForm}
+use Rattle.values.specs.Spelling.{spellByte, spellValue, spell, leadsBreak}
+use Rattle.stages.specs.Contents.{bodyTokens, segmentsOf, contents, normalCharacters, normalRepetition, interchange, normalForm}
 use Rattle.stages.specs.Places.{noOpening, strayReleases, unendedSegment}
 use Rattle.stages.specs.Stages.{refusalOf}
 use Rattle.answers.specs.Answers.{given}
@@ -24,8 +27,10 @@ use Rattle.trimming_laws.proofs.Tables.{listed-table}
 use Rattle.trimming_laws.proofs.Trimmed.{trimList-trimmed, list-only, trimList-again, same-trimmed}
 use Rattle.normal_form_laws.specs.Forms.{markOf, formCharacters}
 use Rattle.trimming_laws.proofs.Starts.{unbroken-listed}
-use Rattle.normal_form_laws.proofs.Openings.{advised-leads, opened-leads}
-use Rattle.normal_form_laws.proofs.Accepted.{passes-accepted}
+use Rattle.normal_form_laws.proofs.Openings.{advice-characters, advised-leads, opened-leads}
+use Rattle.normal_form_laws.proofs.Versions.{own-suits, form-repetition}
+use Rattle.normal_form_laws.proofs.Normal.{normal-spellable}
+use Rattle.normal_form_laws.proofs.Accepted.{accepted-exactly, passes-accepted}
 use Rattle.normal_form_laws.proofs.Trimmed.{contents-read}
 use Rattle.normal_form_laws.proofs.Theorems.{normal-form, same-normal, cut-forms, file-unique}
 use Rattle.acceptance_laws.proofs.Judged.{judged-accepted, judged-refused, judged, not-both, one-refusal, judged-number}
@@ -71,6 +76,25 @@ contents-are s a = contents-read s ∙ ap trimList (sym (list-read s a))
 form-is : (s : List ℕ) → normalForm s ≡ adviceOf (formCharacters s) ++ spell (formCharacters s) (contents s)
 unfolding normalForm interchange
 form-is s = refl
+
+-- ---- version 4
+
+one-repeat : (s : List ℕ) → Allowed s → hasVersion4 (contents s) ≡ false → all (all isSingle) (contents s) ≡ true
+one-repeat s a v =
+    let accepted = allowed-exactly s .1 a in
+    normal-spellable s accepted .repeated (form-repetition (markOf s) (contents s) ∙ v)
+
+form-fifth : (s : List ℕ) → charactersOf (normalForm s) .repetition ≡ (if hasVersion4 (contents s) then 42 else 32)
+unfolding normalForm interchange normalCharacters normalRepetition sixBytes
+form-fifth s = ap (λ (c : Characters). c .repetition) (advice-characters (formCharacters s) (spell (formCharacters s) (contents s)))
+
+form-star : (s : List ℕ) → spellValue (formCharacters s) (42 ∷ []) ≡ (if hasVersion4 (contents s) then 63 ∷ 42 ∷ [] else 42 ∷ [])
+unfolding spellValue spellByte gather normalCharacters normalRepetition sixBytes isService serviceCharacters hasRelease hasRepetition member
+form-star s = step (hasVersion4 (contents s))
+  where
+    step : (v : Bool) → spellValue (normalCharacters (markOf s) (if v then 42 else 32)) (42 ∷ []) ≡ (if v then 63 ∷ 42 ∷ [] else 42 ∷ [])
+    step true = refl
+    step false = refl
 
 module _ (a b : List ℕ) where
   same-contents : Same a b ↔ (Allowed a × Allowed b × (contents a ≡ contents b) × (markOf a ≡ markOf b))
@@ -181,4 +205,8 @@ demands =
       written-unbroken = λ bytes table h.
           unbroken-listed (listedIn bytes table) (kinds-sound bytes table h) (starts-sound bytes table h);
       read-unbroken = λ s a. list-sound s (allowed-exactly s .1 a);
+      one-repeat = one-repeat;
+      suits = λ s a. own-suits s (accepted-exactly s .0 (allowed-exactly s .1 a));
+      form-fifth = form-fifth;
+      form-star = form-star;
     }

@@ -6,9 +6,9 @@ use mathlib.Core.Bool.{true, false, not}
 use mathlib.Core.List.{List, [], _∷_, _++_, map, List·Memᴰ}
 use mathlib.Core.Option.{none, some, Option·map}
 use lib.ListN.{length, take, drop, replicate}
-use Rattle.lists.specs.Lists.{all, maybe}
+use Rattle.lists.specs.Lists.{if_then_else_, isSingle, all, maybe}
 use Rattle.characters.specs.declared.Characters.{Characters}
-use Rattle.characters.specs.Characters.{usable, isBreak, advised, adviceOf, charactersOf, body}
+use Rattle.characters.specs.Characters.{hasRepetition, usable, isBreak, advised, adviceOf, charactersOf, body}
 use Rattle.refusals.specs.declared.Fault.{Fault}
 use Rattle.refusals.specs.declared.Fault.the-variants.{BufferShort}
 use Rattle.refusals.specs.declared.Refusal.{Refusal}
@@ -16,6 +16,7 @@ use Rattle.refusals.specs.Refusals.{number}
 use Rattle.values.specs.Tokens.{Token, Segment}
 use Rattle.values.specs.Values.{Value}
 use Rattle.values.specs.Spelling.{Bytes, SegmentList, spellValue, spell, leadsBreak, spellApart}
+use Rattle.levels.specs.Levels.{hasVersion4}
 use Rattle.control_elements.specs.Control.{countOf, decimal}
 use Rattle.stages.specs.Contents.{bodyTokens, segmentsOf, contents, normalForm}
 use Rattle.stages.specs.Places.{unusableAdvice, noOpening, strayReleases, unendedSegment, brokenTags, misplacedSegments, badControls, differingReferences, wrongCounts}
@@ -28,7 +29,7 @@ use Rattle.operations.specs.Read.{valueBytes, valueTable, readRefusal, read, re
 use Rattle.operations.specs.Write.{badList, unusableBytes, needsRelease, writtenText, writeRefusal, write, writeOutput}
 use Rattle.starred_cases.specs.Cases.{x}
 use Rattle.operations.specs.ValueList.{Item, listOf, listBytes, listTable, listedIn, segmentsListed, trimList}
-use Rattle.spelling_laws.specs.Bodies.{Passes, Breaks, Spelled, Shaped, Releasable, Unbroken, wordsOf, readList}
+use Rattle.spelling_laws.specs.Bodies.{Passes, Breaks, Spelled, Shaped, Spellable, Unbroken, wordsOf, readList}
 use Rattle.grammar_laws.specs.Grammar.{size, Group, Ordered, Agrees, Interchange}
 use Rattle.trimming_laws.specs.Kinds.{Kinds}
 use Rattle.trimming_laws.specs.Trimmed.{TrimmedList}
@@ -56,13 +57,13 @@ pub record Demands : Type 0 where
   pub spelled-back : (c : Characters) → usable c ≡ true → (place : ℕ) (body : Bytes) → Passes c place body
       → (between : List Bytes) × Breaks (readList c place body) between × (spellApart c (readList c place body) between ≡ body)
   -- reading what was spelled gives the list back, where no segment of it begins with a break
-  pub read-back : (c : Characters) → usable c ≡ true → (place : ℕ) (list : SegmentList) → Shaped list → Releasable c list
+  pub read-back : (c : Characters) → usable c ≡ true → (place : ℕ) (list : SegmentList) → Shaped list → Spellable c list
       → Unbroken list → readList c place (spell c list) ≡ list
   -- and so does reading what was spelled with any breaks
-  pub read-apart : (c : Characters) → usable c ≡ true → (place : ℕ) (list : SegmentList) → Shaped list → Releasable c list
+  pub read-apart : (c : Characters) → usable c ≡ true → (place : ℕ) (list : SegmentList) → Shaped list → Spellable c list
       → Unbroken list → (between : List Bytes) → Breaks list between → readList c place (spellApart c list between) ≡ list
   -- releases are read before splitting: two different lists are never spelled alike, be there segments that begin with a break or not
-  pub never-alike : (c : Characters) → usable c ≡ true → (a b : SegmentList) → Shaped a → Releasable c a → Shaped b → Releasable c b
+  pub never-alike : (c : Characters) → usable c ≡ true → (a b : SegmentList) → Shaped a → Spellable c a → Shaped b → Spellable c b
       → spell c a ≡ spell c b → a ≡ b
   -- and of an input: neither 4 nor 5 is met exactly when its body is spelled so
   pub four-and-five : (s : List ℕ) → usable (charactersOf s) ≡ true → leadsBreak (body s) ≡ false
@@ -97,7 +98,7 @@ pub record Demands : Type 0 where
   -- what it says that a number is not met: 2 and 3; 6, where the body passes; 9; 9 to 12
   pub two-and-three : (s : List ℕ) → (unusableAdvice s ≡ []) × (noOpening s ≡ []) ↔ WellOpened s
   pub six : (s : List ℕ) → BodyPasses s
-      → (brokenTags s ≡ []) ↔ ((segment : List (List Bytes)) → List·Memᴰ segment (listRead s) → Tagged segment)
+      → (brokenTags s ≡ []) ↔ ((segment : List (List (List Bytes))) → List·Memᴰ segment (listRead s) → Tagged segment)
   pub nine : (s : List ℕ) → (misplacedSegments s ≡ []) ↔ Ordered (segmentsOf s)
   pub nine-to-twelve : (s : List ℕ)
       → (misplacedSegments s ≡ []) × (badControls s ≡ []) × (differingReferences s ≡ []) × (wrongCounts s ≡ []) ↔ Interchange (segmentsOf s)
@@ -185,45 +186,45 @@ pub record Demands : Type 0 where
   pub read-write : (s buffer numbers service output : List ℕ) → read buffer numbers s .number ≡ 0
       → write service (valueBytes s) (valueTable s) output .number ≡ 0
       → ReadBack s buffer numbers service (writtenText service (valueBytes s) (valueTable s))
-  -- what Read gives for an accepted input can be written exactly with six usable bytes that can spell it, where the text has at most
-  -- 32,000 bytes and the output has room for it
+  -- what Read gives for an accepted input can be written exactly with six usable bytes that can spell it and suit its version, where the
+  -- text has at most 32,000 bytes and the output has room for it
   pub rewrites : (s service output : List ℕ) → refusalOf s ≡ none
       → (write service (valueBytes s) (valueTable s) output .number ≡ 0) ↔ Rewritable s service output
   -- ---- 8. Locate
 
   -- what is located at a position is what stands there in the contents, of any input,
-  pub locates : (s : List ℕ) (segment element component : ℕ)
-      → standingAt (contents s) segment element component ≡ Option·map (λ v. v .bytes) (located s segment element component)
+  pub locates : (s : List ℕ) (segment element repeat component : ℕ)
+      → standingAt (contents s) segment element repeat component ≡ Option·map (λ v. v .bytes) (located s segment element repeat component)
   -- and is the value that begins in the body where the tokens before it reach that position: no other value stands there, be its bytes
   -- the same or not
-  pub stands : (s : List ℕ) (segment element component : ℕ) (v : Value) → located s segment element component ≡ some v
-      → Placed (bodyTokens s) (record { segment = segment; element = element; component = component }) v
+  pub stands : (s : List ℕ) (segment element repeat component : ℕ) (v : Value) → located s segment element repeat component ≡ some v
+      → Placed (bodyTokens s) (record { segment = segment; element = element; repeat = repeat; component = component }) v
   pub one-place : (ts : List Token) (p : Position) (v w : Value) → Placed ts p v → Placed ts p w → v ≡ w
   -- in an accepted input it is named where it is spelled: with its release characters taken off, that part is the value
-  pub names : (s : List ℕ) (segment element component : ℕ) → refusalOf s ≡ none
-      → (v : Value) → located s segment element component ≡ some v → NamesValue (charactersOf s) s v
+  pub names : (s : List ℕ) (segment element repeat component : ℕ) → refusalOf s ≡ none
+      → (v : Value) → located s segment element repeat component ≡ some v → NamesValue (charactersOf s) s v
   -- Locate answers with the input's refusal; of an accepted input with "absent", or with offset and spelled length of what is located
-  pub locate-refused : (s : List ℕ) (segment element component : ℕ) {r : Refusal} → refusalOf s ≡ some r
-      → locate s segment element component ≡ refused r
-  pub locate-absent : (s : List ℕ) (segment element component : ℕ) → refusalOf s ≡ none → located s segment element component ≡ none
-      → locate s segment element component ≡ given []
-  pub locate-found : (s : List ℕ) (segment element component : ℕ) → refusalOf s ≡ none
-      → (v : Value) → located s segment element component ≡ some v
-      → locate s segment element component ≡ given (v .offset ∷ v .spelled ∷ [])
+  pub locate-refused : (s : List ℕ) (segment element repeat component : ℕ) {r : Refusal} → refusalOf s ≡ some r
+      → locate s segment element repeat component ≡ refused r
+  pub locate-absent : (s : List ℕ) (segment element repeat component : ℕ) → refusalOf s ≡ none → located s segment element repeat component ≡ none
+      → locate s segment element repeat component ≡ given []
+  pub locate-found : (s : List ℕ) (segment element repeat component : ℕ) → refusalOf s ≡ none
+      → (v : Value) → located s segment element repeat component ≡ some v
+      → locate s segment element repeat component ≡ given (v .offset ∷ v .spelled ∷ [])
   -- the companion hands back the part of the input that Locate's two values name, and where it gives none, zero bytes at the start
-  pub part-is : (s : List ℕ) (segment element component offset size : ℕ)
-      → locate s segment element component ≡ given (offset ∷ size ∷ [])
-      → (partOffset s segment element component ≡ offset)
-      × (partLength s segment element component ≡ size)
-      × (part s segment element component ≡ take size (drop offset s))
-  pub part-none : (s : List ℕ) (segment element component : ℕ)
-      → ((offset size : ℕ) → locate s segment element component ≡ given (offset ∷ size ∷ []) → ⊥)
-      → (partOffset s segment element component ≡ 0)
-      × (partLength s segment element component ≡ 0)
-      × (part s segment element component ≡ [])
+  pub part-is : (s : List ℕ) (segment element repeat component offset size : ℕ)
+      → locate s segment element repeat component ≡ given (offset ∷ size ∷ [])
+      → (partOffset s segment element repeat component ≡ offset)
+      × (partLength s segment element repeat component ≡ size)
+      × (part s segment element repeat component ≡ take size (drop offset s))
+  pub part-none : (s : List ℕ) (segment element repeat component : ℕ)
+      → ((offset size : ℕ) → locate s segment element repeat component ≡ given (offset ∷ size ∷ []) → ⊥)
+      → (partOffset s segment element repeat component ≡ 0)
+      × (partLength s segment element repeat component ≡ 0)
+      × (part s segment element repeat component ≡ [])
   -- of an accepted input that is the spelling of what stands there in the contents, or zero bytes where nothing does
-  pub hands-back : (s : List ℕ) (segment element component : ℕ) → refusalOf s ≡ none
-      → part s segment element component ≡ maybe [] (spellValue (charactersOf s)) (standingAt (contents s) segment element component)
+  pub hands-back : (s : List ℕ) (segment element repeat component : ℕ) → refusalOf s ≡ none
+      → part s segment element repeat component ≡ maybe [] (spellValue (charactersOf s)) (standingAt (contents s) segment element repeat component)
   -- ---- 9. Compare and Keep
 
   -- "same" exactly when both are accepted and contents and marks are equal
@@ -269,8 +270,17 @@ pub record Demands : Type 0 where
   -- "X and a line feed is now the same as X": so it is of every accepted input, and of any breaks behind it
   pub breaks-behind : (s : List ℕ) → Allowed s → (gap : Bytes) → all isBreak gap ≡ true → ButForBreaks s (s ++ gap)
   -- "Contents and normal form hold no breaks"
-  pub contents-unbroken : (s : List ℕ) → Allowed s → all (all (all (all (λ b. not (isBreak b))))) (contents s) ≡ true
+  pub contents-unbroken : (s : List ℕ) → Allowed s → all (all (all (all (all (λ b. not (isBreak b)))))) (contents s) ≡ true
   pub form-unbroken : (s : List ℕ) → Allowed s → all (λ b. not (isBreak b)) (normalForm s) ≡ true
   -- "No segment of a list may begin with a break": where 15 is not met, none does; what Read gives is never refused so
   pub written-unbroken : (bytes table : List ℕ) → badList bytes table ≡ [] → Unbroken (segmentsListed (listedIn bytes table))
   pub read-unbroken : (s : List ℕ) → Allowed s → badList (valueBytes s) (valueTable s) ≡ []
+  -- ---- 12. Syntax version 4 (request 2026-10), of which all of the above holds too
+
+  -- "An element is now a list of repeats, one in the older versions": of an accepted input that does not name version 4
+  pub one-repeat : (s : List ℕ) → Allowed s → hasVersion4 (contents s) ≡ false → all (all isSingle) (contents s) ≡ true
+  -- there is a repetition separator only in version 4
+  pub suits : (s : List ℕ) → Allowed s → hasRepetition (charactersOf s) ≡ true → hasVersion4 (contents s) ≡ true
+  -- "A version 4 normal form has `*` in the fifth place and releases `*` in values; older ones keep the space", and leave it bare
+  pub form-fifth : (s : List ℕ) → charactersOf (normalForm s) .repetition ≡ (if hasVersion4 (contents s) then 42 else 32)
+  pub form-star : (s : List ℕ) → spellValue (formCharacters s) (42 ∷ []) ≡ (if hasVersion4 (contents s) then 63 ∷ 42 ∷ [] else 42 ∷ [])

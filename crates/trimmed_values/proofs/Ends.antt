@@ -42,20 +42,20 @@ from-whole t u (suc k) (x ∷ xs) h =
     step false false one more = more
 
 -- the only token of such tokens ends a value
-last-ends : (t : Token) → Whole (t ∷ []) → ends 2 t ≡ true
+last-ends : (t : Token) → Whole (t ∷ []) → ends 3 t ≡ true
 unfolding endsInside endedBy lastOr isEmpty
-last-ends t h = ends-more 0 2 (lit≤ tt) t (not-false (ends 0 t) h)
+last-ends t h = ends-more 0 3 (lit≤ tt) t (not-false (ends 0 t) h)
 
 -- the value that such tokens begin with is ended, and there it ends
 pub value-ended : (t : Token) (ts : List Token) → Whole (t ∷ ts)
-    → (u : Token) × (us : List Token) × (valueEnd (t ∷ ts) ≡ u ∷ us) × (endPlace (through (ends 2) (t ∷ ts)) ≡ placeOf u)
+    → (u : Token) × (us : List Token) × (valueEnd (t ∷ ts) ≡ u ∷ us) × (endPlace (through (ends 3) (t ∷ ts)) ≡ placeOf u)
 unfolding valueEnd through endPlace lastOr
 value-ended t [] h = (t, [], simp (last-ends t h), simp (last-ends t h))
-value-ended t (u ∷ us) h = step (ends 2 t) (value-ended u us (rest-whole t (u ∷ us) h))
+value-ended t (u ∷ us) h = step (ends 3 t) (value-ended u us (rest-whole t (u ∷ us) h))
   where
     step : (b : Bool)
-        → (v : Token) × (vs : List Token) × (valueEnd (u ∷ us) ≡ v ∷ vs) × (endPlace (through (ends 2) (u ∷ us)) ≡ placeOf v)
+        → (v : Token) × (vs : List Token) × (valueEnd (u ∷ us) ≡ v ∷ vs) × (endPlace (through (ends 3) (u ∷ us)) ≡ placeOf v)
         → (v : Token) × (vs : List Token) × ((if b then t ∷ u ∷ us else valueEnd (u ∷ us)) ≡ v ∷ vs)
-        × (endPlace (t ∷ (if b then [] else through (ends 2) (u ∷ us))) ≡ placeOf v)
+        × (endPlace (t ∷ (if b then [] else through (ends 3) (u ∷ us))) ≡ placeOf v)
     step true ih = (t, u ∷ us, refl, refl)
     step false ih = ih

@@ -1,4 +1,4 @@
--- The place of a value by element and component, and that the code's tests say whether trimming leaves it. Assumes nothing.
+-- The place of a value by element, repeat and component, and that the code's tests say whether trimming leaves it. Assumes nothing.
 use Prim.Native.Nat.{ℕ, zero, suc, _+_, _-_, _≤_, _<_}
 use mathlib.Core.Path.{_≡_, refl, sym, ap, ap₂, subst, _∙_}
 use mathlib.Core.Bool.{Bool, true, false, not, _&&_, false≢true}
@@ -18,11 +18,11 @@ use Rattle.values.specs.Trimming.{trimmed, valueAt}
 use Rattle.values.proofs.Steps.{at-end}
 use Rattle.scanner.specs.Scan.{segmentAt}
 use Rattle.scanner.proofs.Segments.{stands}
-use Rattle.elements.specs.Elements.{ElementAt, ComponentAt, elementFrom, componentFrom, holdsByte}
+use Rattle.elements.specs.Elements.{ElementAt, RepeatAt, ComponentAt, elementFrom, repeatFrom, componentFrom, holdsByte}
 use Rattle.elements.specs.Values.{valueEnd, EndsAt}
 use Rattle.trimmed_values.specs.declared.Found.{Found}
 use Rattle.trimmed_values.specs.declared.Found.the-variants.{At, Absent}
-use Rattle.trimmed_values.specs.Trimmed.{staysIn, valueFrom, valueStays, placed, Inside}
+use Rattle.trimmed_values.specs.Trimmed.{staysIn, repeatIn, valueFrom, repeatStays, valueStays, placed, Inside}
 use Rattle.trimmed_values.proofs.Ends.{Whole, from-whole, value-ended}
 use Rattle.trimmed_values.proofs.Trimmed.{trimmed-value}
 
@@ -81,14 +81,14 @@ module _ (c : Characters) (s : List ℕ) where
 
   module _ (at end : ℕ) (whole : Whole (tokensAt c s at)) (h : at < length s) (l : EndsAt c s at end) where
     -- a value begins where its first token stands, and ends where what ends it stands
-    value-place : At at (end - at) ≡ placed (some (valueOf (through (ends 2) (tokensAt c s at))))
+    value-place : At at (end - at) ≡ placed (some (valueOf (through (ends 3) (tokensAt c s at))))
     unfolding placed valueOf start through
     value-place =
         let (t, ts, e, p) = stands c s at h in
         let (u, us, d, q) = value-ended t ts (subst Whole e whole) in
-        let begun : start (through (ends 2) (tokensAt c s at)) ≡ at = ap (λ (m : List Token). start (through (ends 2) m)) e ∙ p in
-        let ended : endPlace (through (ends 2) (tokensAt c s at)) ≡ end =
-        ap (λ (m : List Token). endPlace (through (ends 2) m)) e ∙ q ∙ token-place end u us (l .0 ∙ ap valueEnd e ∙ d)
+        let begun : start (through (ends 3) (tokensAt c s at)) ≡ at = ap (λ (m : List Token). start (through (ends 3) m)) e ∙ p in
+        let ended : endPlace (through (ends 3) (tokensAt c s at)) ≡ end =
+        ap (λ (m : List Token). endPlace (through (ends 3) m)) e ∙ q ∙ token-place end u us (l .0 ∙ ap valueEnd e ∙ d)
         in
         ap₂ (λ (o z : ℕ). At o (z - o)) (sym begun) (sym ended)
 
@@ -97,20 +97,21 @@ module _ (c : Characters) (s : List ℕ) where
 
 -- ---- the answer, by what stays
 
-module _ (c : Characters) (s : List ℕ) (start element component : ℕ) {from : ℕ} (e : ElementAt c s start element from) where
+module _ (c : Characters) (s : List ℕ) (start element repeat component : ℕ) {from : ℕ} (e : ElementAt c s start element from) where
   abbrev answer : Found
-  answer = placed (valueAt (trimmed (segmentAt c s start)) element component)
+  answer = placed (valueAt (trimmed (segmentAt c s start)) element repeat component)
+
+  abbrev here : List Token
+  here = tokensAt c s start
 
   -- by whether trimming leaves the value
-  answered : {b : Bool} → valueStays element component (tokensAt c s start) ≡ b
-      → answer ≡ placed (if b then some (valueOf (through (ends 2) (valueFrom element component (tokensAt c s start)))) else none)
+  answered : {b : Bool} → valueStays element repeat component here ≡ b
+      → answer ≡ placed (if b then some (valueOf (through (ends 3) (valueFrom element repeat component here))) else none)
   unfolding segmentAt
   answered h =
       ap placed
-      (trimmed-value (tokensAt c s start) element component
-      ∙ ap
-      (λ (t : Bool). if t then some (valueOf (through (ends 2) (valueFrom element component (tokensAt c s start)))) else none)
-      h)
+      (trimmed-value here element repeat component
+      ∙ ap (λ (t : Bool). if t then some (valueOf (through (ends 3) (valueFrom element repeat component here))) else none) h)
 
   -- the element does not stay
   pub element-gone : {r : Bool} → r ≡ staysIn 0 element (tokensAt c s from) → not r ≡ true → Absent ≡ answer
@@ -118,34 +119,53 @@ module _ (c : Characters) (s : List ℕ) (start element component : ℕ) {from :
   element-gone {r} x n =
       sym
       (answered
-      (ap (λ (t : Bool). t && staysIn 1 component (valueFrom element component (tokensAt c s start)))
+      (ap (λ (t : Bool). t && staysIn 1 repeat (repeatIn element repeat here) && staysIn 2 component (valueFrom element repeat component here))
       (ap (staysIn 0 element) (sym (e .0)) ∙ sym x ∙ not-true r n)))
 
-  module _ (at : ℕ) (d : ComponentAt c s from component at) {q : Bool} (x : q ≡ staysIn 0 element (tokensAt c s from)) (y : not q ≡ false)
-      {r : Bool} (z : r ≡ staysIn 1 component (tokensAt c s at)) where
-    -- the value begins at that place
-    begins : tokensAt c s at ≡ valueFrom element component (tokensAt c s start)
-    begins = d .0 ∙ ap (componentFrom component) (e .0)
+  module _ (begins : ℕ) (d : RepeatAt c s from repeat begins) {q : Bool} (x : q ≡ staysIn 0 element (tokensAt c s from)) (y : not q ≡ false)
+      {r : Bool} (z : r ≡ staysIn 1 repeat (tokensAt c s begins)) where
+    -- the repeat begins at that place
+    repeat-place : tokensAt c s begins ≡ repeatIn element repeat here
+    repeat-place = d .0 ∙ ap (repeatFrom repeat) (e .0)
 
     -- the element stays
-    inner : valueStays element component (tokensAt c s start) ≡ r
-    inner =
-        ap₂ _&&_ (ap (staysIn 0 element) (sym (e .0)) ∙ sym x ∙ not-false q y) (ap (staysIn 1 component) (sym begins) ∙ sym z)
+    repeat-inner : repeatStays element repeat here ≡ r
+    repeat-inner =
+        ap₂ _&&_ (ap (staysIn 0 element) (sym (e .0)) ∙ sym x ∙ not-false q y) (ap (staysIn 1 repeat) (sym repeat-place) ∙ sym z)
 
-    -- the component does not
-    pub component-gone : not r ≡ true → Absent ≡ answer
+    -- the repeat does not
+    pub repeat-gone : not r ≡ true → Absent ≡ answer
     unfolding placed
-    component-gone n = sym (answered (inner ∙ not-true r n))
+    repeat-gone n =
+        sym
+        (answered
+        (ap (λ (t : Bool). t && staysIn 2 component (valueFrom element repeat component here)) (repeat-inner ∙ not-true r n)))
 
-    -- it does too
-    pub value-found : (end : ℕ) → Whole (tokensAt c s start) → not r ≡ false → EndsAt c s at end
-        → (At at (end - at) ≡ answer) × Inside s (At at (end - at))
-    value-found end w n l =
-        let h = stays-inside c s at 1 component (sym z ∙ not-false r n) in
-        let whole = subst Whole (sym begins)
-        (from-whole (ends 1) (ends 2) component (elementFrom element (tokensAt c s start)) (from-whole (ends 0) (ends 1) element (tokensAt c s start) w)) in (
-          value-place c s at end whole h l
-              ∙ ap (λ (ts : List Token). placed (some (valueOf (through (ends 2) ts)))) begins
-              ∙ sym (answered (inner ∙ not-false r n)),
-          value-inside c s at end whole h l,
-        )
+    module _ (at : ℕ) (f : ComponentAt c s begins component at) (n : not r ≡ false) {v : Bool}
+        (g : v ≡ staysIn 2 component (tokensAt c s at)) where
+      -- the value begins at that place
+      value-begins : tokensAt c s at ≡ valueFrom element repeat component here
+      value-begins = f .0 ∙ ap (componentFrom component) repeat-place
+
+      -- the repeat stays too
+      value-inner : valueStays element repeat component here ≡ v
+      value-inner = ap₂ _&&_ (repeat-inner ∙ not-false r n) (ap (staysIn 2 component) (sym value-begins) ∙ sym g)
+
+      -- the component does not
+      pub component-gone : not v ≡ true → Absent ≡ answer
+      unfolding placed
+      component-gone m = sym (answered (value-inner ∙ not-true v m))
+
+      -- it does too
+      pub value-found : (end : ℕ) → Whole here → not v ≡ false → EndsAt c s at end
+          → (At at (end - at) ≡ answer) × Inside s (At at (end - at))
+      value-found end w m l =
+          let h = stays-inside c s at 2 component (sym g ∙ not-false v m) in
+          let whole = subst Whole (sym value-begins)
+          (from-whole (ends 2) (ends 3) component (repeatIn element repeat here)
+          (from-whole (ends 1) (ends 2) repeat (elementFrom element here) (from-whole (ends 0) (ends 1) element here w))) in (
+            value-place c s at end whole h l
+                ∙ ap (λ (ts : List Token). placed (some (valueOf (through (ends 3) ts)))) value-begins
+                ∙ sym (answered (value-inner ∙ not-false v m)),
+            value-inside c s at end whole h l,
+          )

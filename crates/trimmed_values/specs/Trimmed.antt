@@ -9,7 +9,8 @@ use Rattle.values.specs.Tokens.{Token}
 use Rattle.values.specs.Values.{Value}
 use Rattle.elements.specs.declared.NextByte.{NextByte}
 use Rattle.elements.specs.declared.NextByte.the-variants.{Byte, Ended}
-use Rattle.elements.specs.Elements.{elementFrom, componentFrom, holdsByte}
+use Rattle.elements.specs.Elements.{elementFrom, repeatFrom, componentFrom, holdsByte}
+use Rattle.elements.specs.Values.{valueEnd}
 use Rattle.trimmed_values.specs.declared.Found.{Found}
 use Rattle.trimmed_values.specs.declared.Found.the-variants.{At, Absent}
 
@@ -19,17 +20,27 @@ unfoldable pub staysIn : ℕ → ℕ → List Token → Bool
 staysIn rank zero ts = not (isEmpty ts)
 staysIn rank (suc n) ts = holdsByte rank ts
 
--- the tokens from a value on, by element and component
-abbrev pub valueFrom : ℕ → ℕ → List Token → List Token
-valueFrom element component ts = componentFrom component (elementFrom element ts)
+-- the tokens from a repeat on, by element and repeat, and from a value on, by element, repeat and component
+abbrev pub repeatIn : ℕ → ℕ → List Token → List Token
+repeatIn element repeat ts = repeatFrom repeat (elementFrom element ts)
 
--- trimming leaves that value: its element stays, and in it the component
-abbrev pub valueStays : ℕ → ℕ → List Token → Bool
-valueStays element component ts = staysIn 0 element (elementFrom element ts) && staysIn 1 component (valueFrom element component ts)
+abbrev pub valueFrom : ℕ → ℕ → ℕ → List Token → List Token
+valueFrom element repeat component ts = componentFrom component (repeatIn element repeat ts)
 
--- only empty components follow the first of the element that the tokens begin
+-- trimming leaves that repeat: its element stays, and in it the repeat; and that value: in the repeat the component
+abbrev pub repeatStays : ℕ → ℕ → List Token → Bool
+repeatStays element repeat ts = staysIn 0 element (elementFrom element ts) && staysIn 1 repeat (repeatIn element repeat ts)
+
+abbrev pub valueStays : ℕ → ℕ → ℕ → List Token → Bool
+valueStays element repeat component ts = repeatStays element repeat ts && staysIn 2 component (valueFrom element repeat component ts)
+
+-- only empty repeats follow the first of the element that the tokens begin
+unfoldable pub isUnrepeated : List Token → Bool
+isUnrepeated ts = not (holdsByte 1 (repeatFrom 1 ts))
+
+-- only empty values follow the first of the element that the tokens begin
 unfoldable pub isAlone : List Token → Bool
-isAlone ts = not (holdsByte 1 (componentFrom 1 ts))
+isAlone ts = not (holdsByte 1 (valueEnd ts))
 
 -- the place of the value, if there is one
 unfoldable pub placed : Option Value → Found

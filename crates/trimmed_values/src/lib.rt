@@ -1,7 +1,8 @@
 // The values of a segment's trimmed contents (paper 01, "Trimming"), where they are spelled: no code trims.
-// It promises, by element and component, whether trimming leaves the value and where it stands; whether
-// an element is one component; and whether a value is the same as another or as a text, by its bytes
-// without their release characters. All of it holds of any segment, ended or not, but for a value's length.
+// It promises, by element, repeat and component, whether trimming leaves the value and where it stands;
+// whether an element is one repeat, or one value; and whether a value is the same as another or as a text, by
+// its bytes without their release characters. All of it holds of any segment, ended or not, but for a value's
+// length.
 ghost use mathlib.Core.Path.{_≡_};
 ghost use mathlib.Core.Bool.{false};
 ghost use Rattle.lists.specs.Lists.{same};
@@ -10,13 +11,14 @@ ghost use Rattle.values.specs.Trimming.{trimmed, valueAt};
 ghost use Rattle.values.specs.Tokens.{tokensAt};
 ghost use Rattle.scanner.specs.Scan.{segmentAt};
 ghost use Rattle.elements.specs.Values.{valueIn};
-ghost use Rattle.trimmed_values.specs.Trimmed.{staysIn, isAlone, placed, Inside, isEnded};
+ghost use Rattle.trimmed_values.specs.Trimmed.{staysIn, isUnrepeated, isAlone, placed, Inside, isEnded};
 use characters::Characters;
 use elements::NextByte;
 use elements::byte_at;
 use elements::component_at;
 use elements::element_at;
 use elements::holds_byte;
+use elements::repeat_at;
 use elements::value_end;
 
 // Where a value stands and how long it is spelled there, or that there is none.
@@ -36,18 +38,29 @@ fn stays(s: &[u8], c: Characters, from: usize, rank: u8, number: usize) -> bool
     holds_byte(s, c, from, rank)
 }
 
-// The value by element and component, in the contents of the segment that begins at `start`. The input
-// may not end inside a segment: a value that nothing ends has no length.
-pub fn value_at(s: &[u8], c: Characters, start: usize, element: usize, component: usize) -> Found
+// The value by element, repeat and component, in the contents of the segment that begins at `start`. The
+// input may not end inside a segment: a value that nothing ends has no length.
+pub fn value_at(
+    s: &[u8],
+    c: Characters,
+    start: usize,
+    element: usize,
+    repeat: usize,
+    component: usize,
+) -> Found
     requires { ⌜ endsInside (tokensAt c (now s) start) ≡ false ⌝ }
-    ensures { λ r. ⌜ (r ≡ placed (valueAt (trimmed (segmentAt c (now (s .entry)) start)) element component)) × Inside (now (s .entry)) r ⌝ }
+    ensures { λ r. ⌜ (r ≡ placed (valueAt (trimmed (segmentAt c (now (s .entry)) start)) element repeat component)) × Inside (now (s .entry)) r ⌝ }
 {
     let from = element_at(s, c, start, element);
     if !stays(s, c, from, 0, element) {
         return Found::Absent;
     }
-    let at = component_at(s, c, from, component);
-    if !stays(s, c, at, 1, component) {
+    let begins = repeat_at(s, c, from, repeat);
+    if !stays(s, c, begins, 1, repeat) {
+        return Found::Absent;
+    }
+    let at = component_at(s, c, begins, component);
+    if !stays(s, c, at, 2, component) {
         return Found::Absent;
     }
     let end = value_end(s, c, at);
@@ -55,11 +68,18 @@ pub fn value_at(s: &[u8], c: Characters, start: usize, element: usize, component
     Found::At { offset: at, length }
 }
 
-// Only empty components follow the value that begins at `from`.
+// Only empty repeats follow the first of the element that begins at `from`.
+pub fn is_unrepeated(s: &[u8], c: Characters, from: usize) -> bool
+    ensures { λ r. ⌜ r ≡ isUnrepeated (tokensAt c (now (s .entry)) from) ⌝ }
+{
+    !holds_byte(s, c, repeat_at(s, c, from, 1), 1)
+}
+
+// Only empty values follow, in its element, the value that begins at `from`.
 pub fn is_alone(s: &[u8], c: Characters, from: usize) -> bool
     ensures { λ r. ⌜ r ≡ isAlone (tokensAt c (now (s .entry)) from) ⌝ }
 {
-    !holds_byte(s, c, component_at(s, c, from, 1), 1)
+    !holds_byte(s, c, value_end(s, c, from), 1)
 }
 
 fn is_ended(next: NextByte) -> bool

@@ -15,7 +15,7 @@ use Rattle.values.specs.Spelling.{Bytes, SegmentList, leadsBreak}
 use Rattle.operations.specs.ValueList.{Item, listOf, listBytes, tableFrom, listTable, Entry, entries, valueIn, listedIn, segmentsListed}
 use Rattle.operations.specs.Write.{numbersWhere, badTable, brokenStart, badEntry, badList}
 use Rattle.spelling_laws.specs.Bodies.{Shaped, Unbroken}
-use Rattle.trimming_laws.specs.Kinds.{firstKind, kindsUpTo2, Kinds, startsWell, unbrokenStarts}
+use Rattle.trimming_laws.specs.Kinds.{firstKind, kindsUpTo3, Kinds, startsWell, unbrokenStarts}
 use Rattle.trimming_laws.proofs.Nesting.{listed-listOf, kinds-listOf}
 use Rattle.trimming_laws.proofs.Starts.{unbroken-listOf}
 use Rattle.refusals.specs.Limits.{mostBytes, mostNumbers}
@@ -65,23 +65,23 @@ pub listTable-length : (items : List Item) → length (listTable items) ≡ 3 * 
 unfolding listTable
 listTable-length items = table-length 0 items
 
--- a record whose kind is at most 2, whose value ends within the bytes and which begins no segment with a break is not bad
-entry-sound : (bytes : Bytes) (e : Entry) → e .kind ≤ 2 → e .start + e .size ≤ length bytes → brokenStart bytes e ≡ false
+-- a record whose kind is at most 3, whose value ends within the bytes and which begins no segment with a break is not bad
+entry-sound : (bytes : Bytes) (e : Entry) → e .kind ≤ 3 → e .start + e .size ≤ length bytes → brokenStart bytes e ≡ false
     → badEntry bytes e ≡ false
 unfolding badEntry
-entry-sound bytes e k h n = ap₂ _||_ (ap₂ _||_ (le-ltb 2 (e .kind) k) (le-ltb (length bytes) (e .start + e .size) h)) n
+entry-sound bytes e k h n = ap₂ _||_ (ap₂ _||_ (le-ltb 3 (e .kind) k) (le-ltb (length bytes) (e .start + e .size) h)) n
 
 -- none of the records is bad, where the values stand one after the other behind a front part of the bytes
-entries-sound : (front : Bytes) (items : List Item) → kindsUpTo2 items ≡ true → unbrokenStarts items ≡ true → (number : ℕ)
+entries-sound : (front : Bytes) (items : List Item) → kindsUpTo3 items ≡ true → unbrokenStarts items ≡ true → (number : ℕ)
     → numbersWhere (badEntry (front ++ listBytes items)) number (entries (tableFrom (length front) items)) ≡ []
-unfolding kindsUpTo2 unbrokenStarts all tableFrom entries numbersWhere placeIf listBytes gather brokenStart valueIn
+unfolding kindsUpTo3 unbrokenStarts all tableFrom entries numbersWhere placeIf listBytes gather brokenStart valueIn
 entries-sound front [] k n number = refl
 entries-sound front (l ∷ ls) k n number =
     let bytes : Bytes = front ++ (l .value ++ listBytes ls) in
     let e : Entry = record { kind = l .kind; start = length front; size = length (l .value) } in
     let sizes : length bytes ≡ length front + (length (l .value) + length (listBytes ls)) =
     length-append front (l .value ++ listBytes ls) ∙ ap (λ (n : ℕ). length front + n) (length-append (l .value) (listBytes ls)) in
-    let kind : l .kind ≤ 2 = leb-true (l .kind) 2 (and-left (leb (l .kind) 2) (kindsUpTo2 ls) k) in
+    let kind : l .kind ≤ 3 = leb-true (l .kind) 3 (and-left (leb (l .kind) 3) (kindsUpTo3 ls) k) in
     let starts : (eqb (l .kind) 0 && leadsBreak (l .value)) ≡ false =
     not-true (eqb (l .kind) 0 && leadsBreak (l .value)) (and-left (startsWell l) (unbrokenStarts ls) n) in
     ap₂ (λ (bad : Bool) (numbers : List ℕ). placeIf bad number ++ numbers)
@@ -90,7 +90,7 @@ entries-sound front (l ∷ ls) k n number =
     (ap₂ (λ (bs : Bytes) (n : ℕ). numbersWhere (badEntry bs) (suc number) (entries (tableFrom n ls)))
     (sym (append-assoc front (l .value) (listBytes ls)))
     (sym (length-append front (l .value)))
-    ∙ entries-sound (front ++ l .value) ls (and-right (leb (l .kind) 2) (kindsUpTo2 ls) k) (and-right (startsWell l) (unbrokenStarts ls) n)
+    ∙ entries-sound (front ++ l .value) ls (and-right (leb (l .kind) 3) (kindsUpTo3 ls) k) (and-right (startsWell l) (unbrokenStarts ls) n)
     (suc number))
 
 -- the table is not bad as a whole

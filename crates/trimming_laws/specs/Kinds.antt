@@ -1,4 +1,5 @@
--- Paper 01, refusal 15: which kinds a value list may have; request 2026-01: what may begin a segment. Assumes nothing.
+-- Paper 01, refusal 15: which kinds a value list may have; request 2026-01: what may begin a segment; request 2026-10: kind 3.
+-- Assumes nothing.
 use Prim.Native.Nat.{ℕ}
 use mathlib.Core.Path.{_≡_}
 use mathlib.Core.Bool.{Bool, true, not, _&&_}
@@ -13,14 +14,14 @@ unfoldable pub firstKind : List Item → ℕ
 firstKind [] = 0
 firstKind (l ∷ ls) = l .kind
 
--- no kind is above 2
-unfoldable pub kindsUpTo2 : List Item → Bool
-kindsUpTo2 items = all (λ l. leb (l .kind) 2) items
+-- no kind is above 3
+unfoldable pub kindsUpTo3 : List Item → Bool
+kindsUpTo3 items = all (λ l. leb (l .kind) 3) items
 
--- neither "first kind not 0" nor "kind above 2"
+-- neither "first kind not 0" nor "a kind above 3"
 pub record Kinds (items : List Item) : Type 0 where
   pub first : firstKind items ≡ 0
-  pub highest : kindsUpTo2 items ≡ true
+  pub highest : kindsUpTo3 items ≡ true
 
 -- "No segment of a list may begin with a break": no value of kind 0 begins with one
 abbrev pub startsWell : Item → Bool

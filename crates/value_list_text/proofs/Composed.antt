@@ -92,7 +92,7 @@ module _ (c : Characters) where
         arith,
         ap (λ (n : Measure). waiting (n .held)) d,
         value-holds (separated (m .held) rank) (l .value),
-        by-rank (λ t h. waiting h ≤ waiting (m .held) + 1) (m .held) rank (omega arith) (omega arith) (omega arith),
+        by-rank (λ t h. waiting h ≤ waiting (m .held) + 1) (m .held) rank (omega arith) (omega arith) (omega arith) (omega arith),
       )
 
   -- a terminator takes one byte

@@ -4,18 +4,18 @@ use Prim.Native.Nat.{ℕ}
 use mathlib.Core.Path.{_≡_, refl, sym, ap, fun-ext, _∙_}
 use mathlib.Core.Bool.{Bool, true, false, not, _&&_}
 use mathlib.Core.List.{List, [], _∷_, _++_, map, append-nil, map-map}
-use lib.Dec.{leb}
+use lib.Dec.{leb, eqb}
 use lib.Seq.{append-snoc}
 use borrow.Author.Tests.{not-true}
 use Rattle.lists.specs.Lists.{if_then_else_, isEmpty, all, lastOr, onto, cut, gather}
 use Rattle.lists.proofs.Texts.{and-left, and-right}
 use Rattle.lists.proofs.Pieces.{None}
 use Rattle.values.specs.Tokens.{Token, byte, separator, ends, segments}
-use Rattle.values.specs.Values.{byteOf, bytesOf, valueOf, valuesOf, elementsOf, endedBy, endsInside}
+use Rattle.values.specs.Values.{byteOf, bytesOf, valueOf, valuesOf, repeatsOf, elementsOf, endedBy, endsInside}
 use Rattle.values.specs.Trimming.{trimSegment, contentsOf}
 use Rattle.values.specs.Spelling.{Bytes}
 use Rattle.emission_laws.proofs.Cases.{known}
-use Rattle.operations.specs.ValueList.{Item, rankOf, closed, closes, elementsListed, segmentsListed, trimList}
+use Rattle.operations.specs.ValueList.{Item, rankOf, closed, closes, repeatsListed, elementsListed, segmentsListed, trimList}
 use Rattle.spelling_laws.specs.Bodies.{wordsOf}
 use Rattle.trimming_laws.specs.Kinds.{firstKind}
 use Rattle.held_separators.specs.Putting.{valueByte, valueTokens}
@@ -114,16 +114,17 @@ end-of : (rank : ℕ) (l : Item) → ends rank (ending l) ≡ closes rank l
 unfolding ends closes
 end-of rank l = refl
 
-end-known : (kind : ℕ) → leb (rankOf kind) 2 ≡ true
+end-known : (kind : ℕ) → leb (rankOf kind) 3 ≡ true
 unfolding rankOf
-end-known kind = step (leb kind 0) (leb kind 1)
+end-known kind = step (leb kind 0) (leb kind 1) (eqb kind 3)
   where
-    step : (a b : Bool) → leb (if a then 0 else if b then 1 else 2) 2 ≡ true
-    step true b = refl
-    step false true = refl
-    step false false = refl
+    step : (a b d : Bool) → leb (if a then 0 else if b then 1 else if d then 2 else 3) 3 ≡ true
+    step true b d = refl
+    step false true d = refl
+    step false false true = refl
+    step false false false = refl
 
-end-of-value : (l : Item) → ends 2 (ending l) ≡ true
+end-of-value : (l : Item) → ends 3 (ending l) ≡ true
 unfolding ends
 end-of-value l = end-known (l .kind)
 
@@ -136,36 +137,46 @@ value-read l = back (l .value)
     back [] = refl
     back (b ∷ bs) = ap (λ (v : Bytes). b ∷ v) (back bs)
 
-element-read : (element : List Item) → map (λ v. v .bytes) (valuesOf (endedTokens element)) ≡ map (λ l. l .value) element
+-- parts that are read alike, one by one, are read alike where the tokens are cut
+pieces-read : {A : Type 0} (rank : ℕ) (f : List Token → A) (g : List Item → A) → ((piece : List Item) → f (endedTokens piece) ≡ g piece)
+    → (items : List Item) → map f (cut (ends rank) (endedTokens items)) ≡ map g (cut (closes rank) items)
+pieces-read {A} rank f g same items =
+    ap (map f) (cut-gather (λ l. valueTokens (l .value)) ending (ends rank) (closes rank) (λ l. quiet rank (l .value)) (end-of rank) items)
+    ∙ map-map f endedTokens (cut (closes rank) items)
+    ∙ ap (λ (h : List Item → A). map h (cut (closes rank) items)) (fun-ext same)
+
+-- each value of a repeat
+repeat-read : (repeat : List Item) → map (λ v. v .bytes) (valuesOf (endedTokens repeat)) ≡ map (λ l. l .value) repeat
 unfolding valuesOf valueOf
-element-read element =
-    map-map (λ v. v .bytes) valueOf (cut (ends 2) (endedTokens element))
+repeat-read repeat =
+    map-map (λ v. v .bytes) valueOf (cut (ends 3) (endedTokens repeat))
     ∙ ap (map bytesOf)
-    (cut-gather (λ l. valueTokens (l .value)) ending (ends 2) (λ l. true) (λ l. quiet 2 (l .value)) end-of-value element
-    ∙ ap (map endedTokens) (cut-each element))
-    ∙ map-map bytesOf endedTokens (map (λ l. l ∷ []) element)
-    ∙ map-map (λ ls. bytesOf (endedTokens ls)) (λ l. l ∷ []) element
-    ∙ ap (λ (f : Item → Bytes). map f element) (fun-ext value-read)
+    (cut-gather (λ l. valueTokens (l .value)) ending (ends 3) (λ l. true) (λ l. quiet 3 (l .value)) end-of-value repeat
+    ∙ ap (map endedTokens) (cut-each repeat))
+    ∙ map-map bytesOf endedTokens (map (λ l. l ∷ []) repeat)
+    ∙ map-map (λ ls. bytesOf (endedTokens ls)) (λ l. l ∷ []) repeat
+    ∙ ap (λ (f : Item → Bytes). map f repeat) (fun-ext value-read)
+
+element-read : (element : List Item) → map (map (λ v. v .bytes)) (repeatsOf (endedTokens element)) ≡ repeatsListed element
+unfolding repeatsOf
+element-read element =
+    map-map (map (λ v. v .bytes)) valuesOf (cut (ends 2) (endedTokens element))
+    ∙ pieces-read 2 (λ piece. map (λ v. v .bytes) (valuesOf piece)) (map (λ l. l .value)) repeat-read element
 
 segment-read : (segment : List Item) → wordsOf (endedTokens segment) ≡ elementsListed segment
 unfolding wordsOf elementsOf
 segment-read segment =
-    map-map (map (λ v. v .bytes)) valuesOf (cut (ends 1) (endedTokens segment))
-    ∙ ap (map (λ piece. map (λ v. v .bytes) (valuesOf piece)))
-    (cut-gather (λ l. valueTokens (l .value)) ending (ends 1) (closes 1) (λ l. quiet 1 (l .value)) (end-of 1) segment)
-    ∙ map-map (λ piece. map (λ v. v .bytes) (valuesOf piece)) endedTokens (cut (closes 1) segment)
-    ∙ ap (λ (f : List Item → List Bytes). map f (cut (closes 1) segment)) (fun-ext element-read)
+    map-map (map (map (λ v. v .bytes))) repeatsOf (cut (ends 1) (endedTokens segment))
+    ∙ pieces-read 1 (λ piece. map (map (λ v. v .bytes)) (repeatsOf piece)) (λ element. repeatsListed element) element-read segment
 
 -- the contents of the tokens are the trimmed list
 pub contents-listed : (items : List Item) → map contentsOf (segments (itemTokens items)) ≡ trimList (segmentsListed items)
 unfolding segments itemTokens trimList segmentsListed
 contents-listed items =
-    ap (map contentsOf)
-    (cut-gather (λ l. valueTokens (l .value)) ending (ends 0) (closes 0) (λ l. quiet 0 (l .value)) (end-of 0) (closed items))
-    ∙ map-map contentsOf endedTokens (cut (closes 0) (closed items))
-    ∙ ap (λ (f : List Item → List (List Bytes)). map f (cut (closes 0) (closed items)))
-    (fun-ext (λ segment. contents-words (endedTokens segment) ∙ ap (trimSegment isEmpty) (segment-read segment)))
-    ∙ sym (map-map (trimSegment isEmpty) elementsListed (cut (closes 0) (closed items)))
+    pieces-read 0 contentsOf (λ segment. trimSegment isEmpty (elementsListed segment))
+    (λ segment. contents-words (endedTokens segment) ∙ ap (trimSegment isEmpty) (segment-read segment))
+    (closed items)
+    ∙ sym (map-map (trimSegment isEmpty) (λ segment. elementsListed segment) (cut (closes 0) (closed items)))
 
 -- ---- they are whole
 
@@ -207,4 +218,4 @@ list-known (l ∷ ls) =
 pub tokens-known : (items : List Item) → all known (itemTokens items) ≡ true
 unfolding all known
 tokens-known items =
-    and-right (leb (rankOf (firstKind items)) 2) (all known (itemTokens items)) (ap (all known) (sym (list-tokens items)) ∙ list-known items)
+    and-right (leb (rankOf (firstKind items)) 3) (all known (itemTokens items)) (ap (all known) (sym (list-tokens items)) ∙ list-known items)

@@ -31,7 +31,7 @@ firstMeasure = record { total = 8; held = nothing }
 module _ (c : Characters) where
   -- the advice without its last byte
   unfoldable pub adviceFront : List ℕ
-  adviceFront = text "UNA" ++ c .component ∷ c .element ∷ c .mark ∷ c .release ∷ c .reserved ∷ []
+  adviceFront = text "UNA" ++ c .component ∷ c .element ∷ c .mark ∷ c .release ∷ c .repetition ∷ []
 
   -- the text of a value list
   unfoldable pub composedText : List Item → List ℕ

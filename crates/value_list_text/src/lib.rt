@@ -33,7 +33,10 @@ fn rank_of(kind: u32) -> u8
     if kind == 1 {
         return 1;
     }
-    2
+    if kind == 3 {
+        return 2;
+    }
+    3
 }
 
 // ---- the length

@@ -173,11 +173,11 @@ module _ (table : List ℕ) where
 -- ---- a record
 
 -- a record whose value is there, and whose kind is known, is bad where it begins a segment with a break
-module _ (bytes : List ℕ) (e : Entry) (low : e .kind ≤ 2) (there : e .start + e .size ≤ length bytes) where
+module _ (bytes : List ℕ) (e : Entry) (low : e .kind ≤ 3) (there : e .start + e .size ≤ length bytes) where
   by-start : badEntry bytes e ≡ brokenStart bytes e
   unfolding badEntry
   by-start =
-      ap₂ (λ (a b : Bool). a || b || brokenStart bytes e) (le-ltb 2 (e .kind) low) (le-ltb (length bytes) (e .start + e .size) there)
+      ap₂ (λ (a b : Bool). a || b || brokenStart bytes e) (le-ltb 3 (e .kind) low) (le-ltb (length bytes) (e .start + e .size) there)
 
   pub begins-none : (e .kind ≡ 0 → ⊥) → false ≡ badEntry bytes e
   unfolding brokenStart
@@ -222,7 +222,7 @@ module _ (bytes : List ℕ) where
     next-good = sym (ap (all passes) d) ∙ h
 
     abbrev high : Bool
-    high = ltb 2 (e .kind)
+    high = ltb 3 (e .kind)
 
     abbrev outside : Bool
     outside = ltb (length bytes) (e .start + e .size)
@@ -230,9 +230,9 @@ module _ (bytes : List ℕ) where
     sound : badEntry bytes e ≡ false
     sound = not-true (badEntry bytes e) (and-left (passes e) (wellListed bytes rest) next-good)
 
-    pub good-kind : e .kind ≤ 2
+    pub good-kind : e .kind ≤ 3
     unfolding badEntry
-    good-kind = ltb-false 2 (e .kind) (or-none-left high outside (or-none-left (high || outside) (brokenStart bytes e) sound))
+    good-kind = ltb-false 3 (e .kind) (or-none-left high outside (or-none-left (high || outside) (brokenStart bytes e) sound))
 
     pub good-value : e .start + e .size ≤ length bytes
     unfolding badEntry

@@ -1,4 +1,4 @@
-// The checks of a value list that is lent to Write (paper 01, refusals 15 and 16): a byte buffer of
+// The checks of a value list that is lent to Write (paper 01, refusals 15 and 16; request 2026-10): a byte buffer of
 // values and a table of three numbers a value. It promises, for each, the refusal that answers: that
 // of the lowest record which fails. What is written of a list that passes is left to others.
 ghost use mathlib.Core.Path.{_≡_};
@@ -11,7 +11,7 @@ ghost use Rattle.refusals.specs.declared.Fault.the-variants.{BadList, NeedsRele
 ghost use Rattle.refusals.specs.Refusals.{met, lowest, outcome};
 ghost use Rattle.values.specs.Spelling.{leadsBreak};
 ghost use Rattle.operations.specs.ValueList.{entries, valueIn};
-ghost use Rattle.operations.specs.Write.{numbersWhere, badEntry, badList, lacksRelease};
+ghost use Rattle.operations.specs.Write.{numbersWhere, badEntry, badList, lacksRelease, lacksRepetition, cannotStand};
 ghost use Rattle.value_lists.specs.Records.{entryOf, recordAt, firstRecord, wellListed};
 use characters::Characters;
 use line_breaks::is_break;
@@ -62,11 +62,11 @@ fn leads_break(value: &[u8]) -> bool
     is_break(value[0])
 }
 
-// The kind is above 2, or the value does not end within the bytes, or it begins a segment with a break.
+// The kind is above 3, or the value does not end within the bytes, or it begins a segment with a break.
 fn is_bad(bytes: &[u8], r: Record) -> bool
     ensures { λ bad. ⌜ bad ≡ badEntry (now (bytes .entry)) (entryOf r) ⌝ }
 {
-    if 2 < r.kind {
+    if 3 < r.kind {
         return true;
     }
     if bytes.len() < r.start as usize + r.size as usize {
@@ -136,16 +136,29 @@ fn lacks_release(c: Characters, value: &[u8]) -> bool
     holds_service(c, value)
 }
 
+// The record begins a repeat, and nothing separates repeats.
+fn lacks_repetition(c: Characters, kind: u32) -> bool
+    ensures { λ r. ⌜ r ≡ lacksRepetition c kind ⌝ }
+{
+    (kind == 3) & (c.repetition == b' ')
+}
+
+fn cannot_stand(c: Characters, bytes: &[u8], r: Record) -> bool
+    requires { ⌜ r .start + r .size ≤ length (now bytes) ⌝ }
+    ensures { λ lacking. ⌜ lacking ≡ cannotStand c (now (bytes .entry)) (entryOf r) ⌝ }
+{
+    lacks_release(c, value_of(bytes, r)) | lacks_repetition(c, r.kind)
+}
+
 // What refusal 16 answers, for a list that refusal 15 does not refuse.
 pub fn check_release(c: Characters, bytes: &[u8], table: &[u32]) -> Outcome
     requires { ⌜ wellListed (now bytes) (now table) ≡ true ⌝ }
-    ensures { λ r. ⌜ r ≡ outcome (lowest (met NeedsRelease (numbersWhere (λ e. lacksRelease c (valueIn (now (bytes .entry)) e)) 0 (entries (now (table .entry)))))) ⌝ }
+    ensures { λ r. ⌜ r ≡ outcome (lowest (met NeedsRelease (numbersWhere (cannotStand c (now (bytes .entry))) 0 (entries (now (table .entry)))))) ⌝ }
 {
     let mut at = 0;
     let mut n = 0;
     while 2 < table.len() - at {
-        let r = record_at(table, at);
-        if lacks_release(c, value_of(bytes, r)) {
+        if cannot_stand(c, bytes, record_at(table, at)) {
             return failed(Fault::NeedsRelease, n);
         }
         at += 3;

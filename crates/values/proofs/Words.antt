@@ -1,7 +1,7 @@
 -- How bytes are read, byte by byte, and where a segment, an element and a value end. Assumes nothing.
 use Prim.Native.Nat.{ℕ, zero, suc, _+_, _≤_}
 use mathlib.Core.Path.{_≡_, refl, sym, ap, _∙_}
-use mathlib.Core.Bool.{true, false, not, false≢true}
+use mathlib.Core.Bool.{Bool, true, false, not, false≢true}
 use mathlib.Core.List.{List, [], _∷_, _++_, append-nil, append-assoc, nil≢cons, cons≢nil, head-eq-of-cons-eq, List·Memᴰ, Memᴰ·cast}
 use mathlib.Core.Option.{none, some}
 use mathlib.Core.Logic.{_⊎_, inl, inr, ⊎-elim}
@@ -14,11 +14,12 @@ use Rattle.characters.specs.declared.Characters.{Characters}
 use Rattle.characters.specs.declared.Role.{Role}
 use Rattle.characters.specs.declared.Role.the-variants.{Separator, Release, Plain}
 use Rattle.characters.specs.Characters.{isService, role, isBreak}
-use Rattle.characters.proofs.Words.{Usable, break-says, terminator-role, element-role, component-role, release-role, plain-role, service-role}
-use Rattle.values.specs.Tokens.{Token, byte, separator, fault, inside, released, passing, unreleased, reading, taken, tokensFrom, tokens, ends, placeOf, Segment, segments, start}
-use Rattle.values.specs.Values.{byteOf, bytesOf, isFault, endedBy, endsInside, finished}
-use Rattle.values.specs.Trimming.{valueAt}
-use Rattle.values.specs.Spelling.{Bytes, SegmentList, spellByte, spellValue, spellElement, spellSegment, spell, leadsBreak, beginsBroken, spellApart}
+use Rattle.characters.proofs.Words.{Usable, break-says, terminator-role, element-role, repetition-role, component-role, release-role, plain-role, service-role}
+use Rattle.values.specs.Tokens.{Token, byte, separator, fault, inside, released, passing, unreleased, reading, taken, tokensFrom, tokens, ends, placeOf, Segment, segments, start, endsPart}
+use Rattle.nesting.specs.Nesting.{nested, spelled, trim}
+use Rattle.values.specs.Values.{byteOf, bytesOf, valueOf, valuesOf, repeatsOf, elementsOf, isFault, endedBy, endsInside, finished}
+use Rattle.values.specs.Trimming.{trimRepeat, trimElement, trimSegment, valueAt}
+use Rattle.values.specs.Spelling.{Bytes, SegmentList, separatorOf, spellByte, spellValue, spellRepeat, spellElement, spellSegment, spell, leadsBreak, beginsBroken, spellApart}
 use Rattle.values.proofs.Steps.{tokens-role}
 pub use Rattle.values.specs.Notions.{Unended, LeadsBreak}
 
@@ -27,16 +28,19 @@ module _ (c : Characters) (u : Usable c) (place : ℕ) where
   unfolding tokens tokensFrom
   read-end = refl
 
-  -- "An unreleased terminator ends a segment, an element separator an element, a component separator a component."
+  -- "An unreleased terminator ends a segment, an element separator an element, a component separator a component."; request 2026-10: a
+  -- repetition separator, where there is one, ends a repeat
   pub read-separators : (more : List ℕ)
       → (tokens c place (c .terminator ∷ more) ≡ separator 0 place ∷ tokensFrom c passing (place + 1) more)
       × (tokens c place (c .element ∷ more) ≡ separator 1 place ∷ tokens c (place + 1) more)
-      × (tokens c place (c .component ∷ more) ≡ separator 2 place ∷ tokens c (place + 1) more)
+      × ((c .repetition ≡ 32 → ⊥) → tokens c place (c .repetition ∷ more) ≡ separator 2 place ∷ tokens c (place + 1) more)
+      × (tokens c place (c .component ∷ more) ≡ separator 3 place ∷ tokens c (place + 1) more)
   unfolding tokens unreleased reading
   read-separators more = (
     tokens-role c place (c .terminator) more (Separator 0) (terminator-role c u),
     tokens-role c place (c .element) more (Separator 1) (element-role c u),
-    tokens-role c place (c .component) more (Separator 2) (component-role c u),
+    λ n. tokens-role c place (c .repetition) more (Separator 2) (repetition-role c u n),
+    tokens-role c place (c .component) more (Separator 3) (component-role c u),
   )
 
   -- "Carriage returns and line feeds directly after a segment terminator .. are to be passed over, however many."
@@ -217,12 +221,32 @@ start-first (t ∷ ts) g gs e = ap start (sym (head-eq-of-cons-eq (sym (cut-firs
 
 -- ---- values
 
--- what stands at an element and a component is at that component of what stands at that element
-pub value-at : {A : Type 0} (segment : List (List A)) (element component : ℕ)
-    → ((values : List A) → at segment element ≡ some values → valueAt segment element component ≡ at values component)
-    × (at segment element ≡ none → valueAt segment element component ≡ none)
+-- what stands at an element, a repeat and a component is at that component of what stands at that repeat of what stands at that element
+pub value-at : {A : Type 0} (segment : List (List (List A))) (element repeat component : ℕ)
+    → ((repeats : List (List A)) (values : List A) → at segment element ≡ some repeats → at repeats repeat ≡ some values
+    → valueAt segment element repeat component ≡ at values component)
+    × ((repeats : List (List A)) → at segment element ≡ some repeats → at repeats repeat ≡ none → valueAt segment element repeat component ≡ none)
+    × (at segment element ≡ none → valueAt segment element repeat component ≡ none)
 unfolding valueAt maybe
-value-at segment element component = (λ values e. rw e, λ e. rw e)
+value-at segment element repeat component = (λ repeats values e k. rw (e, k), λ repeats e k. rw (e, k), λ e. rw e)
+
+-- ---- one definition for every depth: a segment is of depth 3
+
+-- a segment is cut as parts of any depth are,
+pub elements-nested : (segment : Segment) → elementsOf segment ≡ nested endsPart valueOf 3 segment
+unfolding elementsOf repeatsOf valuesOf
+elements-nested segment = refl
+
+-- trimmed as they are,
+pub trimmed-nested : {A : Type 0} (isBlank : A → Bool) (segment : List (List (List A))) → trimSegment isBlank segment ≡ trim A isBlank 3 segment
+unfolding trimSegment trimElement trimRepeat
+trimmed-nested isBlank segment = refl
+
+-- and spelled as they are, before its terminator
+pub spelled-nested : (c : Characters) (segment : List (List (List Bytes)))
+    → spellSegment c segment ≡ spelled (separatorOf c) (spellValue c) 3 segment ++ c .terminator ∷ []
+unfolding spellSegment spellElement spellRepeat
+spelled-nested c segment = refl
 
 -- the bytes of a value are those of its tokens, in their order
 pub bytes-are : (b from place rank : ℕ) (ts : List Token)
@@ -244,15 +268,15 @@ module _ (c : Characters) where
   unfolding spellValue spellByte gather
   spelled-value b more = (refl, λ e. rw e, λ e. rw e)
 
-  -- a separator between two components, another between two elements, the terminator after a segment
-  pub spelled-segment : (u v w : Bytes)
-      → spellSegment c ((u ∷ v ∷ []) ∷ (w ∷ []) ∷ [])
-      ≡ spellValue c u ++ c .component ∷ spellValue c v ++ c .element ∷ spellValue c w ++ c .terminator ∷ []
-  unfolding spellSegment spellElement joined eachLedBy
-  spelled-segment u v w = simp (append-nil, append-assoc)
+  -- a separator between two components, another between two repeats, another between two elements, the terminator after a segment
+  pub spelled-segment : (u v w x : Bytes)
+      → spellSegment c (((u ∷ v ∷ []) ∷ (w ∷ []) ∷ []) ∷ ((x ∷ []) ∷ []) ∷ [])
+      ≡ spellValue c u ++ c .component ∷ spellValue c v ++ c .repetition ∷ spellValue c w ++ c .element ∷ spellValue c x ++ c .terminator ∷ []
+  unfolding spellSegment spellElement spellRepeat joined eachLedBy
+  spelled-segment u v w x = simp (append-nil, append-assoc)
 
   -- one segment after the other
-  pub spelled-list : (segment : List (List Bytes)) (list : SegmentList)
+  pub spelled-list : (segment : List (List (List Bytes))) (list : SegmentList)
       → (spell c [] ≡ []) × (spell c (segment ∷ list) ≡ spellSegment c segment ++ spell c list)
   unfolding spell gather
   spelled-list segment list = (refl, refl)
@@ -268,13 +292,13 @@ leads-says (b ∷ bs) =
     (λ h. ⊎-elim (λ e. inl (head-eq-of-cons-eq e)) (λ e. inr (head-eq-of-cons-eq e)) (h .1))
 
 -- "No segment of a list may begin with a break": it is its first value that does
-pub broken-says : (value : Bytes) (values : List Bytes) (elements : List (List Bytes))
-    → Says (beginsBroken ((value ∷ values) ∷ elements)) (LeadsBreak value)
+pub broken-says : (value : Bytes) (values : List Bytes) (repeats : List (List Bytes)) (elements : List (List (List Bytes)))
+    → Says (beginsBroken (((value ∷ values) ∷ repeats) ∷ elements)) (LeadsBreak value)
 unfolding beginsBroken valueAt at maybe
-broken-says value values elements = leads-says value
+broken-says value values repeats elements = leads-says value
 
 -- the list with what stands between its segments: after each segment its own
-pub spell-apart : (c : Characters) (segment : List (List Bytes)) (segments : SegmentList) (gap : Bytes) (between : List Bytes)
+pub spell-apart : (c : Characters) (segment : List (List (List Bytes))) (segments : SegmentList) (gap : Bytes) (between : List Bytes)
     → (spellApart c [] (gap ∷ between) ≡ [])
     × (spellApart c (segment ∷ segments) [] ≡ spellSegment c segment ++ spellApart c segments [])
     × (spellApart c (segment ∷ segments) (gap ∷ between) ≡ spellSegment c segment ++ (gap ++ spellApart c segments between))

@@ -10,9 +10,10 @@ use Rattle.characters.specs.declared.Role.{Role}
 use Rattle.characters.specs.declared.Role.the-variants.{Separator, Release, Plain}
 use Rattle.characters.specs.Characters.{role, isBreak}
 use Rattle.lists.specs.Lists.{if_then_else_, cut}
+use Rattle.nesting.specs.Nesting.{byDepth}
 
 -- A byte of a value stands at `place` and is spelled from `from`, which is its release character's place where it has one.
--- A separator of rank 0 ends a segment, 1 an element, 2 a component.
+-- A separator of rank 0 ends a segment, 1 an element, 2 a repeat, 3 a component.
 -- A fault is a release character that no service character follows.
 pub data Token : Type 0 where
   byte : (b from place : ℕ) → Token
@@ -61,11 +62,17 @@ tokensFrom c passing place (b ∷ bs) =
 unfoldable pub tokens : Characters → ℕ → List ℕ → List Token
 tokens c place bs = tokensFrom c inside place bs
 
--- the token ends what a separator of this rank ends: a terminator also ends the element, either of them also the component
+-- the token ends what a separator of this rank ends: a terminator also ends the element, either of them also the repeat, and each of
+-- them also the component
 unfoldable pub ends : ℕ → Token → Bool
 ends rank (byte b from place) = false
 ends rank (separator r place) = leb r rank
 ends rank (fault place) = false
+
+-- Ranks count from the outside, depths from the inside: a value is of depth 0, a repeat of depth 1, an element of depth 2, a segment of
+-- depth 3. The token ends a part of this depth:
+abbrev pub endsPart : ℕ → Token → Bool
+endsPart depth t = byDepth 3 ends depth t
 
 -- where the token's spelling begins
 unfoldable pub placeOf : Token → ℕ

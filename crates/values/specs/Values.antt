@@ -1,4 +1,5 @@
--- Paper 01, "From bytes to values": a segment's elements and their values. Assumes nothing.
+-- Paper 01, "From bytes to values": a segment's elements and their values; request 2026-10: "an element may be several repeats of
+-- components". Assumes nothing.
 use Prim.Native.Nat.{ℕ, zero, _-_}
 use mathlib.Core.Bool.{Bool, true, false, not, _&&_}
 use mathlib.Core.List.{List, [], _∷_, map}
@@ -28,12 +29,16 @@ endPlace (t ∷ ts) = placeOf (lastOr t ts)
 unfoldable pub valueOf : List Token → Value
 valueOf ts = record { bytes = bytesOf ts; offset = start ts; spelled = endPlace ts - start ts }
 
--- "A segment is one or more elements, an element one or more values": cut after element separators, then after component separators
+-- "A segment is one or more elements, an element one or more" repeats, a repeat one or more "values": cut after element separators, then
+-- after repetition separators, then after component separators
 unfoldable pub valuesOf : List Token → List Value
-valuesOf element = map valueOf (cut (ends 2) element)
+valuesOf repeat = map valueOf (cut (ends 3) repeat)
 
-unfoldable pub elementsOf : Segment → List (List Value)
-elementsOf segment = map valuesOf (cut (ends 1) segment)
+unfoldable pub repeatsOf : List Token → List (List Value)
+repeatsOf element = map valuesOf (cut (ends 2) element)
+
+unfoldable pub elementsOf : Segment → List (List (List Value))
+elementsOf segment = map repeatsOf (cut (ends 1) segment)
 
 -- ---- finished segments
 

@@ -32,8 +32,8 @@ use Rattle.answers.specs.declared.Stored.{Stored}
 use Rattle.answers.specs.declared.Stored.the-variants.{Length, Refused}
 use Rattle.answers.specs.Answers.{given, refused, toldStored}
 use Rattle.operations.specs.Judge.{shortFor, storedIn, unlessRefused}
-use Rattle.operations.specs.ValueList.{Entry, entries, valueIn, listedIn, segmentsListed, trimList}
-use Rattle.operations.specs.Write.{numbersWhere, badTable, badList, unusableBytes, lacksRelease, needsRelease, writtenText, writeStages, writeRefusal, write, writeOutput}
+use Rattle.operations.specs.ValueList.{Entry, entries, listedIn, segmentsListed, trimList}
+use Rattle.operations.specs.Write.{numbersWhere, badTable, badList, unusableBytes, cannotStand, needsRelease, writtenText, writeStages, writeRefusal, write, writeOutput}
 use Rattle.operations.proofs.Answered.{front-stored}
 use Rattle.contracts.specs.Promises.{Judges, Writes}
 use Rattle.judge.proofs.Told.{told-accepted, told-refused}
@@ -173,11 +173,11 @@ module _ (service bytes table output : List ℕ) where
 
   -- which is asked with the characters
   pub release-asked : {c : Characters} {stage : Outcome} → c ≡ sixBytes service
-      → stage ≡ outcome (lowest (met NeedsRelease (numbersWhere (λ e. lacksRelease c (valueIn bytes e)) 0 (entries table))))
+      → stage ≡ outcome (lowest (met NeedsRelease (numbersWhere (cannotStand c bytes) 0 (entries table))))
       → stage ≡ outcome (lowest (met NeedsRelease (needsRelease service bytes table)))
   unfolding needsRelease
   release-asked d e =
-      e ∙ ap (λ (c : Characters). outcome (lowest (met NeedsRelease (numbersWhere (λ e. lacksRelease c (valueIn bytes e)) 0 (entries table))))) d
+      e ∙ ap (λ (c : Characters). outcome (lowest (met NeedsRelease (numbersWhere (cannotStand c bytes) 0 (entries table))))) d
 
   -- 1
   size-answers : {b : Bool} → ltb mostBytes (length text) ≡ b → left 3 ≡ (if b then refuse TooLong 0 else left 4)

@@ -97,7 +97,7 @@ fn characters_of(service: &[u8]) -> Characters
         element: service[1],
         mark: service[2],
         release: service[3],
-        reserved: service[4],
+        repetition: service[4],
         terminator: service[5],
     }
 }

@@ -11,6 +11,7 @@
  */
 #include <stdio.h>
 
+#define HVEROLDA_CALLER 2
 #include "hverolda.h"
 
 /* One byte more than the most that is allowed, so that a longer file is refused. */

@@ -13,6 +13,7 @@
 #include <stdbool.h>
 #include <stdio.h>
 
+#define HVEROLDA_CALLER 2
 #include "hverolda.h"
 
 /* A file's bytes. One more than the most that is allowed is read, so that a longer file is refused. */
@@ -43,7 +44,7 @@ static const char *const words[] = {
     [HVEROLDA_NORMAL_TOO_LONG] = "normal form over 32,000 bytes",
     [HVEROLDA_BUFFER_SHORT] = "lent buffer too short",
     [HVEROLDA_BAD_LIST] = "value list malformed",
-    [HVEROLDA_NEEDS_RELEASE] = "value needs a release character",
+    [HVEROLDA_NEEDS_RELEASE] = "value or repeat that cannot be spelled",
 };
 
 /* Reads a file whole, or says why not. */
@@ -75,7 +76,7 @@ static bool judge(const struct message *m)
         printf("%s: refused, %u at %zu: %s\n", m->name, (unsigned)v.number, v.place, words[v.number]);
         return false;
     }
-    sender = hverolda_part(m->bytes, m->length, 0, 2, 0);
+    sender = hverolda_value_part(m->bytes, m->length, 0, 2, 0, 0);
     printf("%s: accepted, %u segments, %u messages, %u groups, from ", m->name,
            (unsigned)v.segments, (unsigned)v.messages, (unsigned)v.groups);
     fwrite(m->bytes + sender.offset, 1, sender.length, stdout);

@@ -1,7 +1,7 @@
 /*
- * Hverolda for C: judges an EDIFACT interchange (ISO 9735, 1990), reads its values, writes
- * interchanges, makes a normal form, says whether two interchanges are the same, keeps each one once
- * on a shelf, and counts those of a mailbox file.
+ * Hverolda for C: judges an EDIFACT interchange (ISO 9735, syntax versions 1, 2 and 4), reads its
+ * values, writes interchanges, makes a normal form, says whether two interchanges are the same, keeps
+ * each one once on a shelf, and counts those of a mailbox file.
  *
  * The archive is target/staticlib/libsurface.a, which `rt staticlib surface` proves and writes, for
  * x86-64 Linux. It needs nothing but the C library's memset:
@@ -69,6 +69,27 @@
 extern "C" {
 #endif
 
+/*
+ * The number of this header. It rises with each change after which a program for an older one would
+ * misread an answer or call a function otherwise than it is. A program says which number it was
+ * written for before it includes this header; one that says none, or another, does not compile:
+ *
+ *     #define HVEROLDA_CALLER 2
+ *     #include "hverolda.h"
+ *
+ * What changed with 2, which came with version 4 of the syntax (change request 2026-10):
+ *   - Locate and Part take a repeat number between element and component, 0 in versions 1 and 2; they are
+ *     hverolda_locate_value and hverolda_value_part now, so that an older object does not link either.
+ *   - A value list has a kind more, 3: a next repeat's first value. Read stores it, Write takes it.
+ *   - The fifth service byte is the repetition separator, `repetition` in a verdict where it was
+ *     `reserved`; a space is none. A fifth byte that is usable and no space is no longer refused by 2: it
+ *     is by 7 where the version is not 4. What 6, 7, 15 and 16 say besides stands at each.
+ */
+#define HVEROLDA_HEADER 2
+#if !defined(HVEROLDA_CALLER) || HVEROLDA_CALLER + 0 != HVEROLDA_HEADER
+#error "this is number 2 of hverolda.h: see what changed, then #define HVEROLDA_CALLER 2"
+#endif
+
 /* The most bytes of an input, a text and a normal form; the most numbers of a table for Write. */
 #define HVEROLDA_LONGEST 32000
 #define HVEROLDA_LONGEST_TABLE 96000
@@ -86,10 +107,10 @@ extern "C" {
 /*
  * The number of the rules that this header is for. It rises with each change of an answer, so that
  * whoever stores verdicts, normal forms or shelves, and this number beside them, sees when they are
- * old. hverolda_rules tells the archive's: where the two differ, the archive is not this header's, and
- * a number that it answers may be one that is not in it.
+ * old. hverolda_rules tells the archive's: where the two differ, the archive is not this header's. A
+ * program calls nothing else then.
  */
-#define HVEROLDA_RULES 4
+#define HVEROLDA_RULES 5
 
 /*
  * Refusals by number, and the place that goes with each. 0 is no refusal.
@@ -106,18 +127,21 @@ enum hverolda_refusal {
     /* The body doesn't begin `UNB` and the element separator. Place: where the body starts, which is
        0, or after an advice 9 and as many as there are line breaks behind it. An advice is `UNA` and
        six bytes, and the body is what follows it and the breaks. Without one the body is the whole
-       input, in front of which no break may stand, and begins `UNB+` (then `:` separates components and `+` elements, the mark is
-       `.`, the release character `?`, the terminator `'`) or `UNB` and byte 29 (then byte 31
-       separates components and 29 elements, the mark is `.`, there is no release character, and the
-       terminator is byte 28). */
+       input, in front of which no break may stand, and begins `UNB+` (then `:` separates components
+       and `+` elements, the mark is `.`, the release character `?`, the terminator `'`, and where it
+       begins `UNB+UNOA:4` or `UNB+UNOB:4` `*` separates repeats) or `UNB` and byte 29 (then byte 31
+       separates components and 29 elements, the mark is `.`, there is no release character and no
+       repetition separator, and the terminator is byte 28). */
     HVEROLDA_NO_OPENING = 3,
     /* Release followed by no service character, or by the end. Place: the release character. */
     HVEROLDA_STRAY_RELEASE = 4,
     /* The body ends inside a segment. Place: the input's length. */
     HVEROLDA_UNENDED_SEGMENT = 5,
-    /* Tag rule broken, in a finished segment. Place: the segment's start. */
+    /* Tag rule broken, in a finished segment; also where a repetition separator is spelled in a tag
+       element, whatever follows it. Place: the segment's start. */
     HVEROLDA_BROKEN_TAG = 6,
-    /* Level or version not ours (UNOA or UNOB, 1 or 2). Place: UNB's start. */
+    /* Level or version not ours (UNOA or UNOB; 4, or 1 or 2 where there is no repetition separator),
+       or UNB's first element has a second repeat that trimming leaves. Place: UNB's start. */
     HVEROLDA_FOREIGN_LEVEL = 7,
     /* Byte outside the level. Place: that byte. */
     HVEROLDA_OUTSIDE_LEVEL = 8,
@@ -125,8 +149,9 @@ enum hverolda_refusal {
        single component `D` or `S`, each at most once in a message, D before S if both stand (place:
        the segment's start); or the end before UNZ (place: the input's length). */
     HVEROLDA_MISPLACED_SEGMENT = 9,
-    /* Control element (count or reference) of a service segment malformed: a reference is one
-       component of 1 to 14 bytes, a count one of 1 to 6 digits. Place: the segment's start. */
+    /* Control element (count or reference) of a service segment malformed. In the trimmed contents
+       it has one repeat, and in that a reference is one component of 1 to 14 bytes, a count one of 1
+       to 6 digits. Place: the segment's start. */
     HVEROLDA_BAD_CONTROL = 10,
     /* Trailer's reference differs from its header's. Place: the trailer's start. */
     HVEROLDA_REFERENCE_DIFFERS = 11,
@@ -137,11 +162,11 @@ enum hverolda_refusal {
     /* Lent buffer too short. Place: the bytes, or table numbers, needed. */
     HVEROLDA_BUFFER_SHORT = 14,
     /* Value list: table over 96,000 numbers or not a multiple of 3, or first kind not 0 (place: 0);
-       kind above 2, or start plus length above the number of bytes, or a value of kind 0 whose first
+       kind above 3, or start plus length above the number of bytes, or a value of kind 0 whose first
        byte is a line break (place: the lowest such record's number, from 0). */
     HVEROLDA_BAD_LIST = 15,
-    /* A value holds a service character and there is no release. Place: the lowest such record's
-       number, from 0. */
+    /* A value holds a service character and there is no release, or is of kind 3 and there is no
+       repetition separator. Place: the lowest such record's number, from 0. */
     HVEROLDA_NEEDS_RELEASE = 16,
     /* No slot of the shelf is free, and the text is not there. Place: 64. */
     HVEROLDA_NO_FREE_SLOT = 17,
@@ -158,8 +183,8 @@ enum hverolda_refusal {
 /*
  * What Judge says. Accepted: `number` and `place` are 0, and the rest is told: how many segments,
  * messages and groups there are, the length of the normal form, and the six service bytes in the
- * advice's order (a release character that is a space means "none"). Refused: `number` and `place`,
- * and all else is 0.
+ * advice's order (a release character or a repetition separator that is a space means "none").
+ * Refused: `number` and `place`, and all else is 0.
  */
 typedef struct hverolda_verdict {
     uint32_t number;
@@ -172,7 +197,7 @@ typedef struct hverolda_verdict {
     uint8_t element;
     uint8_t mark;
     uint8_t release;
-    uint8_t reserved;
+    uint8_t repetition;
     uint8_t terminator;
 } hverolda_verdict;
 
@@ -343,14 +368,15 @@ hverolda_kept hverolda_keep(const uint8_t *first, size_t first_length,
                             const uint8_t *second, size_t second_length);
 
 /*
- * Locate: where is a value spelled in the input? Segments, elements and components are numbered from
- * 0 in the contents, where empty components and elements at the end are gone; element 0 is the tag.
- * The spelled length counts the release characters in the value.
+ * Locate: where is a value spelled in the input? Segments, elements, repeats and components are
+ * numbered from 0 in the contents, where empty components, repeats and elements at the end are gone;
+ * element 0 is the tag, and in versions 1 and 2 an element has repeat 0 alone. The spelled length
+ * counts the release characters in the value.
  *
  * Refusals: Judge's.
  */
-hverolda_location hverolda_locate(const uint8_t *input, size_t input_length, size_t segment,
-                                  size_t element, size_t component);
+hverolda_location hverolda_locate_value(const uint8_t *input, size_t input_length, size_t segment,
+                                  size_t element, size_t repeat, size_t component);
 
 /*
  * Part: the part of the input that Locate finds, as it is spelled there; 0 bytes from 0 where the
@@ -358,13 +384,13 @@ hverolda_location hverolda_locate(const uint8_t *input, size_t input_length, siz
  *
  * Nothing is refused.
  */
-hverolda_part_found hverolda_part(const uint8_t *input, size_t input_length, size_t segment,
-                                  size_t element, size_t component);
+hverolda_part_found hverolda_value_part(const uint8_t *input, size_t input_length, size_t segment,
+                                  size_t element, size_t repeat, size_t component);
 
 /*
  * Read: stores the contents as a value list. `bytes` gets the values, without release characters and
- * end to end; `table` gets three numbers a value: its kind (0 new segment, 1 new element, 2 next
- * component), its start in `bytes`, and its length.
+ * end to end; `table` gets three numbers a value: its kind (0 new segment, 1 new element, 3 next repeat
+ * of the element, 2 next component of the repeat), its start in `bytes`, and its length.
  *
  * Refusals: Judge's, then 14 where `bytes` is too short, with the bytes needed, then 14 where `table`
  * is too short, with the numbers needed (three a value). The answer does not say which of the two is
@@ -378,8 +404,9 @@ hverolda_listing hverolda_read(uint8_t *bytes, size_t bytes_length,
 
 /*
  * Write: the interchange that a value list says, under six service bytes: component separator,
- * element separator, decimal mark, release character (a space: none), a space, terminator. The text
- * is always an advice and the trimmed list. Values in `bytes` may stand in any order and overlap.
+ * element separator, decimal mark, release character (a space: none), repetition separator (a space:
+ * none), terminator. The text is always an advice and the trimmed list. Values in `bytes` may stand in
+ * any order and overlap.
  *
  * Refusals, in the order in which they are asked: 15, 2, 16, 1, 14 (the bytes needed), then 3 to 13
  * as Judge would answer for the text: 3, (4 5 6), 7, 8, 9, (10 11 12), 13.

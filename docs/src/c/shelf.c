@@ -14,6 +14,7 @@
 #include <stdbool.h>
 #include <stdio.h>
 
+#define HVEROLDA_CALLER 2
 #include "hverolda.h"
 
 /* The shelf, and a file's bytes: one more than the most that is allowed, so that a longer file is refused. */

@@ -38,7 +38,7 @@ lines() {
 operands_of() {
     case $1 in
         compare | keep) operands=("$x") ;;
-        locate) operands=(2 2 0) ;;
+        locate) operands=(2 2 0 0) ;;
         write | respell) operands=("$six") ;;
         shelf) operands=("$work/shelf" put) ;;
         *) operands=() ;;
@@ -83,28 +83,43 @@ expect 0 "$accepted" '' "$hverolda" judge "$work/in-lines"
 expect 0 "UNA:+.? '$(cat "$x")" '' "$hverolda" normalise "$work/in-lines"
 cmp -s <(printf "UNA:+.? '" && cat "$x") "$work/out" || complain 'a line break reaches the normal form'
 expect 0 "keep 2 $x" '' "$hverolda" keep "$work/in-lines" "$x"
-expect 0 'at 66 4 A[?]+B' '' "$hverolda" locate 2 2 0 "$work/in-lines"
+expect 0 'at 66 4 A[?]+B' '' "$hverolda" locate 2 2 0 0 "$work/in-lines"
 expect 0 same '' "$hverolda" compare "$x" "$respelled"
 expect 0 same '' "$hverolda" compare - "$respelled" <"$x"
 expect 1 different '' "$hverolda" compare "$x" "$cases/11-plain-plus.edi"
 expect 1 "refused 2 12 67 $sentence" '' "$hverolda" compare "$x" "$wrong"
 expect 0 "keep 2 $x" '' "$hverolda" keep "$respelled" "$x"
 expect 1 different '' "$hverolda" keep "$x" "$cases/11-plain-plus.edi"
-expect 0 'at 62 4 A[?]+B' '' "$hverolda" locate 2 2 0 "$x"
-expect 1 absent '' "$hverolda" locate 2 2 1 "$x"
-expect 1 absent '' "$hverolda" locate 18446744073709551615 0 0 "$x"
-expect 1 "refused 12 67 $sentence" '' "$hverolda" locate 2 2 0 "$wrong"
+expect 0 'at 62 4 A[?]+B' '' "$hverolda" locate 2 2 0 0 "$x"
+expect 1 absent '' "$hverolda" locate 2 2 0 1 "$x"
+expect 1 absent '' "$hverolda" locate 18446744073709551615 0 0 0 "$x"
+expect 1 "refused 12 67 $sentence" '' "$hverolda" locate 2 2 0 0 "$wrong"
 expect 0 $'0 UNB\n1 UNOA\n2 1\n*1 A+B\n*' '' "$hverolda" read "$x"
 lines 23
 expect 1 '' "hverolda: $wrong: refused input 12 67 $sentence" "$hverolda" respell "$six" "$wrong"
 expect 1 '' "hverolda: $x: refused text 16 16 *" "$hverolda" respell '+*.  ~' "$x"
+# version 4: a value of its second repeat, its values, and itself from them; without a repetition separator it cannot be
+# spelled, nor under version 1 with one
+four="UNB+UNOB:4+AA+BB+20260105:0930+R1'UNH+1+ORDERS:1:901:UN'RFF+ON:1*ON:2'UNT+3+1'UNZ+1+R1'"
+printf %s "$four" >"$work/version-4"
+expect 0 'at 68 1 2' '' "$hverolda" locate 2 1 1 1 "$work/version-4"
+expect 1 absent '' "$hverolda" locate 2 1 2 0 "$work/version-4"
+expect 0 "*"$'0 RFF\n1 ON\n2 1\n3 ON\n2 2\n0 UNT\n'"*" '' "$hverolda" read "$work/version-4"
+cp "$work/out" "$work/values"
+expect 0 '*' '' "$hverolda" write ":+.?*'" "$work/values"
+cmp -s <(printf %s "UNA:+.?*'$four") "$work/out" || complain 'version 4 is not written as it was read'
+expect 1 '' "hverolda: $work/values: refused text 16 17 *" "$hverolda" write ":+.? '" "$work/values"
+expect 1 '' "hverolda: $x: refused text 7 9 *" "$hverolda" respell ";*.!%~" "$x"
 mapfile -t good < <(awk '$2 == "accepted" { print $1 }' "$cases/EXPECTED")
 [[ ${#good[@]} -gt 10 ]] || complain "only ${#good[@]} accepted cases"
 for input in "${good[@]}"; do
+    service=$six
+    # version 4, whose normal form has its repetition separator in the eighth place, needs one
+    [[ $("$hverolda" normalise "$cases/$input.edi" | head -c 8) == *\* ]] && service=';*.!%~'
     "$hverolda" read "$cases/$input.edi" >"$work/values"
-    expect 0 '*' '' "$hverolda" respell "$six" "$cases/$input.edi"
+    expect 0 '*' '' "$hverolda" respell "$service" "$cases/$input.edi"
     cp "$work/out" "$work/text"
-    expect 0 '*' '' "$hverolda" write "$six" "$work/values"
+    expect 0 '*' '' "$hverolda" write "$service" "$work/values"
     cmp -s "$work/text" "$work/out" || complain "$input: write and respell differ"
 done
 expect 1 '' 'hverolda: -: refused text 8 *' "$hverolda" write "$six" <<<$'0 UNB\n1 UNOA\n2 1\n1 \\x41\\x0a'
@@ -324,8 +339,8 @@ expect 2 '' 'hverolda: standard output: No space left*' full "$hverolda" compare
 # an argument that was forgotten, with an interchange on standard input that is not to be read
 expect 2 '' "hverolda: SERVICE must be *" "$hverolda" respell "$x" <"$x"
 expect 2 '' "hverolda: SERVICE must be *" "$hverolda" write <"$x"
-expect 2 '' "hverolda: '$x' is no number*" "$hverolda" locate 2 2 "$x" <"$x"
-expect 2 '' "hverolda: three numbers are needed*" "$hverolda" locate "$x" <"$x"
+expect 2 '' "hverolda: '$x' is no number*" "$hverolda" locate 2 2 0 "$x" <"$x"
+expect 2 '' "hverolda: four numbers are needed*" "$hverolda" locate "$x" <"$x"
 expect 2 '' "hverolda: two files are compared, not 1*" "$hverolda" compare "$x" <"$x"
 expect 2 '' 'hverolda: standard input, or a pipe, can be read only once*' "$hverolda" judge - - <"$x"
 expect 2 '' 'hverolda: standard input, or a pipe, can be read only once*' "$hverolda" judge - /dev/stdin < <(cat "$x")
@@ -355,24 +370,24 @@ expect 0 'UNA*' '' small "$hverolda" respell "$six" "$work/wide"
 expect 0 'accepted 5 1 0 *' '' small "$programs/run_judge" "$work/wide"
 expect 0 'same 1' '' small "$programs/run_compare" "$work/wide" "$work/wide"
 expect 0 $'UNA*\nsame' '' small "$programs/run_respell" "$six" "$work/wide"
-expect 0 'at 31857 1 A' '' small "$programs/run_locate" 2 31800 0 "$work/wide"
+expect 0 'at 31857 1 A' '' small "$programs/run_locate" 2 31800 0 0 "$work/wide"
 
 # ---- the programs in Rattle: a line for each input, whatever becomes of it, and status 0
 
 trouble="$work/none: No such file or directory"$'\n'"$work: Is a directory"
 expect 0 unreadable$'\n'unreadable$'\n'"$accepted" "$trouble" "$programs/run_judge" "$work/none" "$work" "$x"
 expect 0 unreadable$'\n'unreadable$'\n'"UNA*"$'\n'same "$trouble" "$programs/run_respell" "$six" "$work/none" "$work" "$x"
-expect 0 unreadable$'\n'unreadable$'\n''at 62 4 A[?]+B' "$trouble" "$programs/run_locate" 2 2 0 "$work/none" "$work" "$x"
+expect 0 unreadable$'\n'unreadable$'\n''at 62 4 A[?]+B' "$trouble" "$programs/run_locate" 2 2 0 0 "$work/none" "$work" "$x"
 expect 0 $'unreadable 2\nunreadable 1\nsame 2' "$trouble" \
     "$programs/run_compare" "$x" "$work/none" "$work" "$x" "$respelled" "$x"
 expect 0 "$accepted" '' "$programs/run_judge" <"$x"
-expect 0 'at 62 4 A[?]+B' '' "$programs/run_locate" 2 2 0 <"$x"
+expect 0 'at 62 4 A[?]+B' '' "$programs/run_locate" 2 2 0 0 <"$x"
 expect 0 $'UNA*\nsame' '' "$programs/run_respell" "$six" <"$x"
 expect 0 '' 'usage: run_respell *' "$programs/run_respell" <"$x"
 expect 0 '' 'usage: run_respell *' "$programs/run_respell" "$x" <"$x"
 expect 0 '' 'usage: run_respell *' "$programs/run_respell" 01.edi <"$x"
-expect 0 '' 'usage: run_locate *' "$programs/run_locate" 2 2 "$x" <"$x"
-expect 0 '' 'usage: run_locate *' "$programs/run_locate" 2 2 1234567890 "$x"
+expect 0 '' 'usage: run_locate *' "$programs/run_locate" 2 2 0 "$x" <"$x"
+expect 0 '' 'usage: run_locate *' "$programs/run_locate" 2 2 0 1234567890 "$x"
 expect 0 '' 'usage: run_compare *' "$programs/run_compare"
 expect 0 '' 'usage: run_compare *' "$programs/run_compare" "$x"
 expect 0 'refused text 16 16' '' "$programs/run_respell" '+*.  ~' "$x"

@@ -18,14 +18,28 @@ add-t4 c = search needs
 
 returns-2 : tie.Need-returns-2
 unfolding separated
-returns-2 c = simp (lt-leb (c .before .before .before .args .rank) 0 (omega arith), le-leb (c .before .before .before .args .rank) 1 (omega arith))
+returns-2 c =
+    let rank = c .before .before .before .args .rank in
+    simp (lt-leb rank 0 (omega arith), le-leb rank 1 (omega arith))
 
 add-t5 : tie.Need-add-t5
 add-t5 c = search needs
 
 returns-3 : tie.Need-returns-3
 unfolding separated
-returns-3 c = simp (lt-leb (c .before .before .before .args .rank) 0 (omega arith), lt-leb (c .before .before .before .args .rank) 1 (omega arith))
+returns-3 c =
+    let rank = c .before .before .before .before .args .rank in
+    simp (lt-leb rank 0 (omega arith), lt-leb rank 1 (omega arith), le-leb rank 2 (omega arith))
+
+add-t6 : tie.Need-add-t6
+add-t6 c = search needs
+
+returns-4 : tie.Need-returns-4
+unfolding separated
+returns-4 c =
+    let rank = c .before .before .before .before .args .rank in
+    simp (lt-leb rank 0 (omega arith), lt-leb rank 1 (omega arith), lt-leb rank 2 (omega arith))
 
 pub after-separator-spec : {M : Type 1} → statement M
-after-separator-spec = tie.close (tie.spec nothing-held-requires returns add-t4 returns-2 add-t5 returns-3)
+after-separator-spec =
+    tie.close (tie.spec nothing-held-requires returns add-t4 returns-2 add-t5 returns-3 add-t6 returns-4)

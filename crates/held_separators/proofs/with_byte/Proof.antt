@@ -17,11 +17,16 @@ add-t5 c = search needs
 add-t6 : tie.Need-add-t6
 add-t6 c = search needs
 
+add-t7 : tie.Need-add-t7
+add-t7 c = search needs
+
 byte-length-requires : tie.Need-byte-length-requires
 byte-length-requires c κs = search needs
 
-add-t8 : tie.Need-add-t8
-add-t8 c = record { fits = omega (arith, c .byte-length .ensures, by-spelling (λ s. length s ≤ 2) (c .before .before .before .before .args .c) (c .before .before .before .before .args .b) (omega arith) (omega arith)) }
+add-t9 : tie.Need-add-t9
+add-t9 c =
+    let args = c .before .before .before .before .before .args in
+    record { fits = omega (arith, c .byte-length .ensures, by-spelling (λ s. length s ≤ 2) (args .c) (args .b) (omega arith) (omega arith)) }
 
 nothing-held-requires : tie.Need-nothing-held-requires
 nothing-held-requires c κs = search needs
@@ -29,9 +34,10 @@ nothing-held-requires c κs = search needs
 returns : tie.Need-returns
 unfolding heldAfter heldNext
 returns c =
-    moved (c .before .before .before .before .before .args .c) (c .before .before .before .before .before .args .m) (valueByte (c .before .before .before .before .before .args .b) ∷ [])
-    (omega (arith, c .before .byte-length .ensures, byte-length (c .before .before .before .before .before .args .c) (c .before .before .before .before .before .args .m .held) (c .before .before .before .before .before .args .b))) (c .nothing-held .ensures)
+    let args = c .before .before .before .before .before .before .args in
+    moved (args .c) (args .m) (valueByte (args .b) ∷ [])
+    (omega (arith, c .before .byte-length .ensures, byte-length (args .c) (args .m .held) (args .b))) (c .nothing-held .ensures)
 
 pub with-byte-spec : {M : Type 1} → statement M
 with-byte-spec =
-    tie.close (tie.spec add-t5 add-t6 byte-length-requires add-t8 nothing-held-requires returns)
+    tie.close (tie.spec add-t5 add-t6 add-t7 byte-length-requires add-t9 nothing-held-requires returns)

@@ -27,7 +27,7 @@ value-at-requires : tie.Need-value-at-requires
 value-at-requires c κs =
     let x = c .before .before .before .before .before .before .before .before .args in
     let t = told-accepted (x .s .now) (c .before .before .before .before .before .before .judge .ensures) (c .before .before .before .before .i .given .1) in
-    start-whole (x .s .now) (x .segment) (x .element) (x .component) (t .0) (t .1) (c .before .body-start .ensures) (c .segment-at .result) (c .segment-at .ensures)
+    start-whole (x .s .now) (x .segment) (x .element) (x .repeat) (x .component) (t .0) (t .1) (c .before .body-start .ensures) (c .segment-at .result) (c .segment-at .ensures)
 
 answer-of-requires : tie.Need-answer-of-requires
 answer-of-requires c κs = search needs
@@ -35,7 +35,7 @@ answer-of-requires c κs = search needs
 returns : tie.Need-returns
 returns c =
     let x = c .before .before .before .before .before .args in (
-      locate-refused (x .s .now) (x .segment) (x .element) (x .component)
+      locate-refused (x .s .now) (x .segment) (x .element) (x .repeat) (x .component)
           (told-refused (x .s .now) (c .before .before .before .judge .ensures) (c .before .r .given .1)),
       tt,
     )
@@ -46,7 +46,7 @@ returns-2 c =
     let t = told-accepted (x .s .now) (c .before .before .before .before .before .before .before .before .judge .ensures) (c .before .before .before .before .before .before .i .given .1) in
     let v = c .before .value-at in (
       ap toldLocated (c .answer-of .ensures)
-          ∙ locate-found (x .s .now) (x .segment) (x .element) (x .component) (t .0) (t .1) (c .before .before .before .body-start .ensures) (c .before .before .segment-at .result) (c .before .before .segment-at .ensures)
+          ∙ locate-found (x .s .now) (x .segment) (x .element) (x .repeat) (x .component) (t .0) (t .1) (c .before .before .before .body-start .ensures) (c .before .before .segment-at .result) (c .before .before .segment-at .ensures)
           (v .ensures .0),
       subst (Inside (x .s .now)) (sym (c .answer-of .ensures)) (answer-inside (x .s .now) (v .result) (v .ensures .1)),
     )

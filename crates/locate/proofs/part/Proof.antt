@@ -24,7 +24,7 @@ returns : tie.Need-returns
 returns c =
     let x = c .before .before .before .before .args in
     let p = c .before .before .part-of in
-    handed (x .s) (x .segment) (x .element) (x .component) _ (p .ensures .0) (p .ensures .1) refl refl
+    handed (x .s) (x .segment) (x .element) (x .repeat) (x .component) _ (p .ensures .0) (p .ensures .1) refl refl
 
 pub part-spec : {M : Type 1} → statement M
 part-spec =

@@ -21,19 +21,19 @@ returns : tie.Need-returns
 returns c =
     let x = c .before .before .before .before .before .args in
     let l = c .before .before .before .locate in (
-      part-found (x .s .now) (x .segment) (x .element) (x .component) (l .ensures .0) (c .before .offset .given .1),
+      part-found (x .s .now) (x .segment) (x .element) (x .repeat) (x .component) (l .ensures .0) (c .before .offset .given .1),
       found-inside (x .s .now) (l .ensures .1) (c .before .offset .given .1),
     )
 
 returns-2 : tie.Need-returns-2
 returns-2 c =
     let x = c .before .before .before .before .args in
-    (part-absent (x .s .now) (x .segment) (x .element) (x .component) (c .before .before .locate .ensures .0) (c .enum-told .given .1), omega arith)
+    (part-absent (x .s .now) (x .segment) (x .element) (x .repeat) (x .component) (c .before .before .locate .ensures .0) (c .enum-told .given .1), omega arith)
 
 returns-3 : tie.Need-returns-3
 returns-3 c =
     let x = c .before .before .before .before .args in
-    (part-refused (x .s .now) (x .segment) (x .element) (x .component) (c .before .before .locate .ensures .0) (c .enum-told2 .given .1), omega arith)
+    (part-refused (x .s .now) (x .segment) (x .element) (x .repeat) (x .component) (c .before .before .locate .ensures .0) (c .enum-told2 .given .1), omega arith)
 
 pub part-of-spec : {M : Type 1} → statement M
 part-of-spec =

@@ -39,6 +39,6 @@ pub use Rattle.spelling_laws.specs.Bodies.{wordsOf}
 pub use Rattle.grammar_laws.specs.Grammar.{OneOrMore}
 pub use Rattle.characters.specs.Notions.{Usable}
 pub use Rattle.values.specs.Notions.{Unended, LeadsBreak}
-pub use Rattle.levels.specs.Notions.{LevelA, LevelB, Names}
+pub use Rattle.levels.specs.Notions.{LevelA, LevelB, Names, FourthVersion}
 pub use Rattle.control_elements.specs.Notions.{Reference, Count, Nearest}
 pub use Rattle.operations.specs.Notions.{Record}

@@ -1,10 +1,10 @@
 -- `stage_length::measured` meets its contract: a body that is spelled as in its normal form has its length without line
--- breaks, and another one is measured
--- token by token. Assumes nothing.
+-- breaks, and another one is measured token by token. Assumes nothing.
 use Prim.Native.Nat.{ℕ}
 use mathlib.Core.Path.{sym, ap, _∙_}
 use lib.ListN.{length}
 use borrow.Author.Needs.{needs}
+use borrow.Author.Tests.{le-leb}
 use Rattle.characters.specs.declared.Characters.{Characters}
 use Rattle.values.specs.Tokens.{tokensAt}
 use Rattle.emission_laws.specs.Emission.{nothing, emitted}
@@ -20,10 +20,11 @@ unbroken-length-requires c κs = search needs
 
 returns : tie.Need-returns
 returns c =
-    let s = c .before .before .before .before .args .s .now in
-    let start = c .before .before .before .before .args .start in
+    let args = c .before .before .before .before .args in
+    let (short, good, seen, printed) = c .before .before .before .before .pre in
+    let kept = sym (c .before .before .is-verbatim .ensures) ∙ c .before .if1 .taken in
     c .unbroken-length .ensures
-    ∙ sym (ap length (emitted-verbatim (c .before .before .before .before .args .c) s start (sym (c .before .before .is-verbatim .ensures) ∙ c .before .if1 .taken) (c .before .before .before .before .pre .1) (c .before .before .before .before .pre .2)))
+    ∙ sym (ap length (emitted-verbatim (args .c) (args .s .now) (args .start) (args .repetition) (le-leb 32 (args .repetition) printed) kept good seen))
 
 normal-characters-requires : tie.Need-normal-characters-requires
 normal-characters-requires c κs = search needs
@@ -33,7 +34,8 @@ measured-by-token-requires c κs = search needs
 
 returns-2 : tie.Need-returns-2
 returns-2 c =
-    let ts = tokensAt (c .before .before .before .before .before .args .c) (c .before .before .before .before .before .args .s .now) (c .before .before .before .before .before .args .start) in
+    let args = c .before .before .before .before .before .args in
+    let ts = tokensAt (args .c) (args .s .now) (args .start) in
     c .measured-by-token .ensures ∙ ap (λ (n : Characters). length (emitted n nothing ts)) (c .before .normal-characters .ensures)
 
 pub measured-spec : {M : Type 1} → statement M

@@ -1,4 +1,4 @@
--- `trimmed_values::is_alone` meets its contract: no byte stands from the second component on. Assumes nothing.
+-- `trimmed_values::is_alone` meets its contract: no byte stands from the value's end on. Assumes nothing.
 use mathlib.Core.Path.{ap, _∙_}
 use mathlib.Core.Bool.{not}
 use borrow.Author.Needs.{needs}
@@ -7,8 +7,8 @@ use Rattle.trimmed_values.specs.Trimmed.{isAlone}
 use Rattle.trimmed_values.proofs.is_alone.Statement.{statement}
 use Rattle.trimmed_values.proofs.is_alone.Tie as tie
 
-component-at-requires : tie.Need-component-at-requires
-component-at-requires c κs = search needs
+value-end-requires : tie.Need-value-end-requires
+value-end-requires c κs = search needs
 
 holds-byte-requires : tie.Need-holds-byte-requires
 holds-byte-requires c κs = search needs
@@ -16,7 +16,7 @@ holds-byte-requires c κs = search needs
 returns : tie.Need-returns
 unfolding isAlone
 returns c =
-    ap not (c .holds-byte .ensures ∙ ap (holdsByte 1) (c .before .component-at .ensures .0))
+    ap not (c .holds-byte .ensures ∙ ap (holdsByte 1) (c .before .value-end .ensures .0))
 
 pub is-alone-spec : {M : Type 1} → statement M
-is-alone-spec = tie.close (tie.spec component-at-requires holds-byte-requires returns)
+is-alone-spec = tie.close (tie.spec value-end-requires holds-byte-requires returns)

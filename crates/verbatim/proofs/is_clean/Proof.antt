@@ -11,10 +11,13 @@ use Rattle.verbatim.proofs.is_clean.Statement.{statement}
 use Rattle.verbatim.proofs.is_clean.Tie as tie
 
 abbrev Inv-loop : tie.InvT-loop
-Inv-loop s c start before₀ found₀ at₀ before found at = clean c 0 (drop start s) ≡ cleanFrom c found before s at
+Inv-loop s c start r before₀ found₀ at₀ before found at = clean c 0 (drop start s) ≡ cleanFrom c found before s at
 
 abbrev μ-loop : tie.MeasureT-loop
-μ-loop s c start before₀ found₀ at₀ before found at = length s - at
+μ-loop s c start r before₀ found₀ at₀ before found at = length s - at
+
+ends-repeat-requires : tie.Need-ends-repeat-requires Inv-loop μ-loop
+ends-repeat-requires c κs = search needs
 
 loop-holds : tie.Need-loop-holds Inv-loop μ-loop
 loop-holds c = refl
@@ -23,7 +26,7 @@ shared-slice-read-b : tie.Need-shared-slice-read-b Inv-loop μ-loop
 shared-slice-read-b c = search needs
 
 is-idle-requires : tie.Need-is-idle-requires Inv-loop μ-loop
-is-idle-requires c κs = search needs
+is-idle-requires c κs = c .before .before .before .ends-repeat .ensures
 
 add-at : tie.Need-add-at Inv-loop μ-loop
 add-at c = search needs
@@ -33,18 +36,18 @@ loop-less c = omega arith
 
 loop-again : tie.Need-loop-again Inv-loop μ-loop
 loop-again c =
-    let s = c .before .before .before .before .before .args .s .now in
+    let args = c .before .before .before .before .before .before .args in
     let state = c .before .before .before .loop in
-    state .inv ∙ clean-next (c .before .before .before .before .before .args .c) (state .found) (state .before) s (state .at) (c .is-idle .ensures) (omega arith)
+    state .inv ∙ clean-next (args .c) (state .found) (state .before) (args .s .now) (state .at) (c .is-idle .ensures) (omega arith)
 
-is-idle-requires-2 : tie.Need-is-idle-requires-2 Inv-loop μ-loop
-is-idle-requires-2 c κs = search needs
+parts-segment-requires : tie.Need-parts-segment-requires Inv-loop μ-loop
+parts-segment-requires c κs = search needs
 
 returns : tie.Need-returns Inv-loop μ-loop
 returns c =
-    let s = c .before .before .before .before .args .s .now in
+    let args = c .before .before .before .before .before .args in
     let state = c .before .before .loop in
-    sym (state .inv ∙ clean-end (c .before .before .before .before .args .c) (state .found) (state .before) s (state .at) (c .is-idle2 .ensures) (omega arith))
+    sym (state .inv ∙ clean-end (args .c) (state .found) (state .before) (args .s .now) (state .at) (c .parts-segment .ensures) (omega arith))
 
 pub is-clean-spec : {M : Type 1} → statement M
 is-clean-spec =
@@ -52,11 +55,12 @@ is-clean-spec =
     (tie.spec
     Inv-loop
     μ-loop
+    ends-repeat-requires
     loop-holds
     shared-slice-read-b
     is-idle-requires
     add-at
     loop-less
     loop-again
-    is-idle-requires-2
+    parts-segment-requires
     returns)

@@ -19,7 +19,7 @@ returns c =
     let own = c .before .before .before .before .before .before .before .before .before .before .before .before .before .args .c in
     let n = c .before .before .before .before .before .before .before .before .before .before .before .before .normal-characters .result in
     ap (λ (t : Bool). eqb (own .component) (n .component) && (eqb (own .element) (n .element) && (eqb (own .mark) (n .mark)
-    && (eqb (own .release) (n .release) && (eqb (own .reserved) (n .reserved) && t))))) (sym (and-true (eqb (own .terminator) (n .terminator))))
+    && (eqb (own .release) (n .release) && (eqb (own .repetition) (n .repetition) && t))))) (sym (and-true (eqb (own .terminator) (n .terminator))))
     ∙ ap (λ (o : Characters). same (spelledOut own) (spelledOut o)) (c .before .before .before .before .before .before .before .before .before .before .before .before .normal-characters .ensures)
 
 pub is-normal-spec : {M : Type 1} → statement M

@@ -1,9 +1,8 @@
 -- `verbatim::is_verbatim` meets its contract: the service characters are asked first. Assumes nothing.
-use mathlib.Core.Path.{_≡_, sym, ap, _∙_}
-use mathlib.Core.Bool.{Bool, _&&_}
-use lib.ListN.{drop}
+use mathlib.Core.Path.{sym, _∙_}
 use borrow.Author.Needs.{needs}
-use Rattle.verbatim.specs.Verbatim.{clean, verbatim}
+use borrow.Author.Tests.{not-true, not-false}
+use Rattle.verbatim.proofs.Clean.{verbatim-own, verbatim-other, verbatim-held, verbatim-bare}
 use Rattle.verbatim.proofs.is_verbatim.Statement.{statement}
 use Rattle.verbatim.proofs.is_verbatim.Tie as tie
 
@@ -14,16 +13,45 @@ is-clean-requires : tie.Need-is-clean-requires
 is-clean-requires c κs = search needs
 
 returns : tie.Need-returns
-unfolding verbatim
-returns c =
-    let rest : Bool = clean (c .before .before .before .before .args .c) 0 (drop (c .before .before .before .before .args .start) (c .before .before .before .before .args .s .now)) in
-    c .is-clean .ensures ∙ sym (ap (λ (t : Bool). t && rest) (sym (c .before .before .is-normal .ensures) ∙ c .before .if1 .taken))
+returns c = c .is-clean .ensures ∙ verbatim-own _ _ _ (sym (c .before .if1 .taken) ∙ c .before .before .is-normal .ensures)
+
+is-normal-requires-2 : tie.Need-is-normal-requires-2
+is-normal-requires-2 c κs = search needs
 
 returns-2 : tie.Need-returns-2
-unfolding verbatim
 returns-2 c =
-    let rest : Bool = clean (c .before .before .before .args .c) 0 (drop (c .before .before .before .args .start) (c .before .before .before .args .s .now)) in
-    sym (ap (λ (t : Bool). t && rest) (sym (c .before .is-normal .ensures) ∙ c .if1 .left))
+    verbatim-other _ _ _ (sym (c .before .before .if1 .left) ∙ c .before .before .before .is-normal .ensures)
+    (sym (not-true (c .before .is-normal2 .result) (c .if2 .taken)) ∙ c .before .is-normal2 .ensures)
+
+holds-requires : tie.Need-holds-requires
+holds-requires c κs = search needs
+
+returns-3 : tie.Need-returns-3
+returns-3 c =
+    verbatim-held _ _ _ (sym (c .before .before .before .before .if1 .left) ∙ c .before .before .before .before .before .is-normal .ensures)
+    (sym (not-false (c .before .before .before .is-normal2 .result) (c .before .before .if2 .left)) ∙ c .before .before .before .is-normal2 .ensures)
+    (sym (c .if3 .taken) ∙ c .before .holds .ensures)
+
+is-clean-requires-2 : tie.Need-is-clean-requires-2
+is-clean-requires-2 c κs = search needs
+
+returns-4 : tie.Need-returns-4
+returns-4 c =
+    c .is-clean2 .ensures
+    ∙ verbatim-bare _ _ _ (sym (c .before .before .before .before .before .if1 .left) ∙ c .before .before .before .before .before .before .is-normal .ensures)
+    (sym (not-false (c .before .before .before .before .is-normal2 .result) (c .before .before .before .if2 .left)) ∙ c .before .before .before .before .is-normal2 .ensures)
+    (sym (c .before .if3 .left) ∙ c .before .before .holds .ensures)
 
 pub is-verbatim-spec : {M : Type 1} → statement M
-is-verbatim-spec = tie.close (tie.spec is-normal-requires is-clean-requires returns returns-2)
+is-verbatim-spec =
+    tie.close
+    (tie.spec
+    is-normal-requires
+    is-clean-requires
+    returns
+    is-normal-requires-2
+    returns-2
+    holds-requires
+    returns-3
+    is-clean-requires-2
+    returns-4)

@@ -6,7 +6,8 @@ use second::generator::{Draft, Random};
 use second::level::Level;
 use second::service_characters::{ServiceCharacters, INFORMATION_SEPARATORS, PRINTABLE};
 
-type Element = Vec<Vec<u8>>;
+type Repeat = Vec<Vec<u8>>;
+type Element = Vec<Repeat>;
 type Segment = Vec<Element>;
 
 /// Other characters that an advice may name.
@@ -15,6 +16,7 @@ const OTHERS: ServiceCharacters = ServiceCharacters {
     element: b'%',
     mark: b',',
     release: Some(b'!'),
+    repetition: None,
     terminator: b'&',
 };
 
@@ -47,11 +49,11 @@ const GOODS: [&str; 8] = [
 
 /// An element of the components that the text has, one after each `:`.
 fn element(text: &str) -> Element {
-    text.split(':').map(|component| component.as_bytes().to_vec()).collect()
+    vec![text.split(':').map(|component| component.as_bytes().to_vec()).collect()]
 }
 
 fn value(text: impl AsRef<[u8]>) -> Element {
-    vec![text.as_ref().to_vec()]
+    vec![vec![text.as_ref().to_vec()]]
 }
 
 fn figures(random: &mut Random, count: usize) -> String {
@@ -84,8 +86,8 @@ fn order_segment(random: &mut Random, line: usize, released: bool) -> Segment {
         3 => vec![value("PIA"), value("1"), element(&format!("{}:SA", figures(random, 8)))],
         4 => {
             let mut description = element(":::");
-            description.push(random.pick(&GOODS).into());
-            description.extend(name(random, released));
+            description[0].push(random.pick(&GOODS).into());
+            description[0].extend(name(random, released).remove(0));
             vec![value("IMD"), value("F"), value(""), description]
         }
         5 => vec![value("QTY"), element(&format!("21:{}:PCE", figures(random, 3)))],
@@ -112,7 +114,8 @@ impl Maker<'_> {
     }
 
     fn put(&mut self, segment: Segment) {
-        self.bytes += segment.iter().flatten().map(|value| value.len() + 1).sum::<usize>();
+        self.bytes +=
+            segment.iter().flatten().flatten().map(|value| value.len() + 1).sum::<usize>();
         self.segments.push(segment);
     }
 
@@ -148,7 +151,7 @@ impl Maker<'_> {
         } else {
             (1..=messages).for_each(|number| self.message(target * number / messages));
         }
-        let count = if self.segments[1][0][0] == b"UNG" { 1 } else { messages };
+        let count = if self.segments[1][0][0][0] == b"UNG" { 1 } else { messages };
         self.put(vec![value("UNZ"), value(count.to_string()), value(&reference)]);
     }
 

@@ -20,7 +20,7 @@ struct JudgeNumbers {
     element: u8,
     mark: u8,
     release: u8,
-    reserved: u8,
+    repetition: u8,
     terminator: u8,
 }
 
@@ -125,13 +125,13 @@ pub fn judge(input: &[u8]) -> Answer<Verdict> {
     if told.number != 0 {
         return Err(Refusal { place: told.place, number: told.number });
     }
-    assert_eq!(told.reserved, b' ');
     Ok(Verdict {
         characters: ServiceCharacters {
             component: told.component,
             element: told.element,
             mark: told.mark,
             release: (told.release != b' ').then_some(told.release),
+            repetition: (told.repetition != b' ').then_some(told.repetition),
             terminator: told.terminator,
         },
         segments: told.segments as usize,

@@ -7,9 +7,10 @@ use crate::{usage, Command, Status, Trouble};
 
 pub const COMMAND: Command = Command {
     name: "locate",
-    operands: "SEGMENT ELEMENT COMPONENT [FILE]..",
+    operands: "SEGMENT ELEMENT REPEAT COMPONENT [FILE]..",
     help: "\
-Finds the value with these numbers, each from 0; element 0 is the tag.
+Finds the value with these numbers, each from 0; element 0 is the tag, and REPEAT is 0 in
+versions 1 and 2. (Since 0.2; before it there were three numbers, and no REPEAT.)
 
 Prints a line for each FILE: at OFFSET LENGTH VALUE, with the value as it is spelled
 there; absent; or refused NUMBER PLACE and why.
@@ -18,14 +19,14 @@ there; absent; or refused NUMBER PLACE and why.
 };
 
 fn run(output: &mut Output, operands: &[OsString]) -> Result<Status, Trouble> {
-    let (segment, element, component, files) = match operands {
-        [segment, element, component, files @ ..] => {
-            (number(segment)?, number(element)?, number(component)?, files)
+    let (segment, element, repeat, component, files) = match operands {
+        [segment, element, repeat, component, files @ ..] => {
+            (number(segment)?, number(element)?, number(repeat)?, number(component)?, files)
         }
-        _ => return usage("three numbers are needed"),
+        _ => return usage("four numbers are needed"),
     };
     each(output, files, ROOM, |input| {
-        match hverolda::locate(&input.bytes, segment, element, component) {
+        match hverolda::locate(&input.bytes, segment, element, repeat, component) {
             Ok(Some(place)) => {
                 let value = escaped(&input.bytes[place.clone()]);
                 let line = format!("at {} {} {value}", place.start, place.len());

@@ -67,7 +67,7 @@ Usage: hverolda COMMAND [OPERAND]..
        hverolda COMMAND --help
        hverolda --version
 Judges, reads, writes, compares and keeps EDIFACT interchanges by the rules of ISO 9735
-(1990).
+(syntax versions 1, 2 and 4).
 
 ";
 

@@ -12,10 +12,10 @@ pub const COMMAND: Command = Command {
 Prints the values of interchanges, one a line.
 
 Prints KIND VALUE for each value: KIND is 0 for a new segment (VALUE is its tag), 1 for a
-new element, 2 for the next component. VALUE is without release characters; in it a byte
-that is not printable ASCII, and the backslash, is \\x and two hexadecimal digits. write
-takes the lines of one FILE. Of a FILE that is refused, standard error says so: refused NUMBER PLACE
-and why.
+new element, 3 for the next repeat of an element, 2 for the next component. VALUE is without
+release characters; in it a byte that is not printable ASCII, and the backslash, is \\x and
+two hexadecimal digits. write takes the lines of one FILE. Of a FILE that is refused,
+standard error says so: refused NUMBER PLACE and why.
 ",
     run,
 };

@@ -12,7 +12,9 @@ pub const COMMAND: Command = Command {
 Writes the values of interchanges under other service characters.
 
 SERVICE is six bytes as an advice has them: component separator, element separator,
-decimal mark, release character or a space, a space, segment terminator: ';*.! ~'.
+decimal mark, release character or a space, repetition separator or a space, segment
+terminator: ';*.! ~'. With a repetition separator versions 1 and 2 are refused (7),
+without one repeats are (16).
 The texts stand one directly after the other, with no byte besides. What is refused
 standard error says: refused input NUMBER PLACE and why, or refused text where the input
 is accepted and cannot be written so.

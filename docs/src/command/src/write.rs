@@ -15,7 +15,9 @@ pub const COMMAND: Command = Command {
 Writes interchanges from values, one a line.
 
 SERVICE is six bytes as an advice has them: component separator, element separator,
-decimal mark, release character or a space, a space, segment terminator: ';*.! ~'.
+decimal mark, release character or a space, repetition separator or a space, segment
+terminator: ';*.! ~'. With a repetition separator versions 1 and 2 are refused (7),
+without one repeats are (16).
 FILE has the lines that read prints. The texts stand one directly after the other, with
 no byte besides. Of a text that is refused, standard error says so: refused text NUMBER
 PLACE and why, where the places of 15 and 16 count lines from 0. A line is a digit, a

@@ -35,7 +35,7 @@ pub fn outcome(call: &Call) -> Outcome {
 fn judge(input: &[u8]) -> Verdict {
     match operations::judge(input) {
         Ok(verdict) => {
-            let [component, element, mark, release, reserved, terminator] =
+            let [component, element, mark, release, repetition, terminator] =
                 verdict.characters.six();
             Verdict {
                 number: 0,
@@ -48,7 +48,7 @@ fn judge(input: &[u8]) -> Verdict {
                 element,
                 mark,
                 release,
-                reserved,
+                repetition,
                 terminator,
             }
         }
@@ -92,9 +92,9 @@ fn keep(first: &[u8], second: &[u8]) -> Kept {
 /// No interchange has as much as 2^32 - 1 of anything, so that a higher number
 /// is as absent as this one.
 fn narrow(numbers: Numbers) -> operations::Numbers {
-    let [segment, element, component] =
+    let [segment, element, repeat, component] =
         numbers.map(|number| u32::try_from(number).unwrap_or(u32::MAX));
-    operations::Numbers { segment, element, component }
+    operations::Numbers { segment, element, repeat, component }
 }
 
 fn locate(numbers: Numbers, input: &[u8]) -> Location {

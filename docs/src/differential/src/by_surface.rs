@@ -1,8 +1,8 @@
 //! Calls answered by the C functions of the surface, over guarded memory.
 
 use hverolda::surface::{
-    hverolda_compare, hverolda_judge, hverolda_keep, hverolda_locate, hverolda_normalise,
-    hverolda_part, hverolda_read, hverolda_write,
+    hverolda_compare, hverolda_judge, hverolda_keep, hverolda_locate_value, hverolda_normalise,
+    hverolda_read, hverolda_value_part, hverolda_write,
 };
 
 use crate::call::{Answer, Call, Numbers, Outcome};
@@ -77,17 +77,21 @@ fn two(
 
 type Numbered = fn(&mut Lent<u8>, Numbers) -> Answer;
 
-fn locate(input: &mut Lent<u8>, [segment, element, component]: Numbers) -> Answer {
+fn locate(input: &mut Lent<u8>, [segment, element, repeat, component]: Numbers) -> Answer {
     let length = input.length();
     // SAFETY: as in `judge`.
-    let told = unsafe { hverolda_locate(input.pointer(), length, segment, element, component) };
+    let told = unsafe {
+        hverolda_locate_value(input.pointer(), length, segment, element, repeat, component)
+    };
     Answer::Locate(told)
 }
 
-fn part(input: &mut Lent<u8>, [segment, element, component]: Numbers) -> Answer {
+fn part(input: &mut Lent<u8>, [segment, element, repeat, component]: Numbers) -> Answer {
     let length = input.length();
     // SAFETY: as in `judge`.
-    let told = unsafe { hverolda_part(input.pointer(), length, segment, element, component) };
+    let told = unsafe {
+        hverolda_value_part(input.pointer(), length, segment, element, repeat, component)
+    };
     Answer::Part(told)
 }
 

@@ -35,7 +35,7 @@ pub fn outcome(call: &Call) -> Outcome {
 fn judge(input: &[u8]) -> Verdict {
     match hverolda::judge(input) {
         Ok(told) => {
-            let [component, element, mark, release, reserved, terminator] = told.characters.six();
+            let [component, element, mark, release, repetition, terminator] = told.characters.six();
             Verdict {
                 number: 0,
                 segments: told.segments,
@@ -47,7 +47,7 @@ fn judge(input: &[u8]) -> Verdict {
                 element,
                 mark,
                 release,
-                reserved,
+                repetition,
                 terminator,
             }
         }
@@ -88,8 +88,8 @@ fn keep(first: &[u8], second: &[u8]) -> Kept {
     Kept { input, offset: 0, length: kept.len() }
 }
 
-fn locate([segment, element, component]: Numbers, input: &[u8]) -> Location {
-    match hverolda::locate(input, segment, element, component) {
+fn locate([segment, element, repeat, component]: Numbers, input: &[u8]) -> Location {
+    match hverolda::locate(input, segment, element, repeat, component) {
         Ok(Some(range)) => {
             let (offset, length) = (range.start, range.len());
             Location { present: 1, offset, length, ..Location::default() }
@@ -101,8 +101,8 @@ fn locate([segment, element, component]: Numbers, input: &[u8]) -> Location {
     }
 }
 
-fn part([segment, element, component]: Numbers, input: &[u8]) -> Part {
-    let part = hverolda::part(input, segment, element, component);
+fn part([segment, element, repeat, component]: Numbers, input: &[u8]) -> Part {
+    let part = hverolda::part(input, segment, element, repeat, component);
     let offset = part.as_ptr() as usize - input.as_ptr() as usize;
     Part { offset, length: part.len() }
 }

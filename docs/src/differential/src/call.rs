@@ -5,8 +5,8 @@ use std::fmt;
 use hverolda::surface::{Comparison, Kept, Listing, Location, Part, Verdict, Written};
 use second::request_stream::Request;
 
-/// Numbers of a segment, an element and a component.
-pub type Numbers = [usize; 3];
+/// Numbers of a segment, an element, a repeat and a component.
+pub type Numbers = [usize; 4];
 
 #[derive(Clone)]
 pub enum Call {
@@ -23,7 +23,8 @@ pub enum Call {
 impl From<Request> for Call {
     fn from(request: Request) -> Call {
         let wide = |numbers: second::operations::Numbers| {
-            [numbers.segment, numbers.element, numbers.component].map(|number| number as usize)
+            [numbers.segment, numbers.element, numbers.repeat, numbers.component]
+                .map(|number| number as usize)
         };
         match request {
             Request::Judge { input } => Call::Judge { input },

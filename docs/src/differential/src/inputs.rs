@@ -2,7 +2,7 @@
 //! the limits) and any bytes; and numbers to locate in them.
 
 use second::generator::{any_input, Random};
-use second::value_list::{NEW_ELEMENT, NEW_SEGMENT, RECORD};
+use second::value_list::{NEW_ELEMENT, NEW_SEGMENT, NEXT_REPEAT, RECORD};
 
 use crate::call::Numbers;
 
@@ -50,13 +50,14 @@ const WILD: [usize; 10] = [
 /// The numbers of some value of this table.
 fn of_value(random: &mut Random, table: &[u32]) -> Numbers {
     let last = random.below(table.len() / RECORD);
-    let mut numbers = [0; 3];
+    let mut numbers = [0; 4];
     for (number, record) in table.chunks(RECORD).enumerate().take(last + 1) {
         numbers = match (number, record[0]) {
             (0, _) => numbers,
-            (_, NEW_SEGMENT) => [numbers[0] + 1, 0, 0],
-            (_, NEW_ELEMENT) => [numbers[0], numbers[1] + 1, 0],
-            _ => [numbers[0], numbers[1], numbers[2] + 1],
+            (_, NEW_SEGMENT) => [numbers[0] + 1, 0, 0, 0],
+            (_, NEW_ELEMENT) => [numbers[0], numbers[1] + 1, 0, 0],
+            (_, NEXT_REPEAT) => [numbers[0], numbers[1], numbers[2] + 1, 0],
+            _ => [numbers[0], numbers[1], numbers[2], numbers[3] + 1],
         };
     }
     numbers
@@ -66,12 +67,12 @@ fn of_value(random: &mut Random, table: &[u32]) -> Numbers {
 /// wild.
 pub fn numbers(random: &mut Random, table: &[u32]) -> Numbers {
     let mut numbers = of_value(random, table);
-    let place = random.below(3);
+    let place = random.below(4);
     match random.below(10) {
         0 => numbers[place] = random.pick(&WILD),
         // all but the low 32 bits are wild
         1 => numbers[place] |= random.pick(&[1 << 32, 1 << 63, usize::MAX << 32]),
-        2 => numbers = [0; 3].map(|_: usize| random.pick(&WILD)),
+        2 => numbers = [0; 4].map(|_: usize| random.pick(&WILD)),
         3 | 4 => numbers[place] += 1,
         _ => {}
     }

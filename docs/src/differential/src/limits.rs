@@ -39,7 +39,7 @@ pub fn accepted(segments: u32, messages: u32, length: usize) -> Verdict {
         element: b'+',
         mark: b'.',
         release: b'?',
-        reserved: b' ',
+        repetition: b' ',
         terminator: b'\'',
         ..Verdict::default()
     }

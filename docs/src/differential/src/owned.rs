@@ -68,8 +68,9 @@ fn list_of(bytes: &[u8], table: &[u32]) -> Option<ValueList> {
 /// The characters that six bytes name, usable or not.
 fn characters_of(service: &[u8]) -> ServiceCharacters {
     match *service {
-        [component, element, mark, release, _, terminator] => {
-            ServiceCharacters { component, element, mark, release: Some(release), terminator }
+        [component, element, mark, release, repetition, terminator] => {
+            let (release, repetition) = (Some(release), Some(repetition));
+            ServiceCharacters { component, element, mark, release, repetition, terminator }
         }
         _ => ServiceCharacters::STANDARD,
     }

@@ -5,7 +5,8 @@
 //! form": the same contents and mark under any usable characters are the same,
 //! a release character that releases nothing with them; one byte, component,
 //! trailing space or mark makes a difference. Change request 2026-01: line
-//! breaks between segments make none.
+//! breaks between segments make none. Change request 2026-10: nor does the
+//! repetition separator of version 4; one repeat does.
 
 use second::generator::{any_valid, with_breaks, Draft, Random};
 use second::level::{holds, Level};
@@ -19,16 +20,18 @@ pub enum Change {
     Breaks,
     Byte,
     Component,
+    Repeat,
     TrailingSpace,
     Mark,
 }
 
-pub const CHANGES: [Change; 7] = [
+pub const CHANGES: [Change; 8] = [
     Change::Respelled,
     Change::UnusedRelease,
     Change::Breaks,
     Change::Byte,
     Change::Component,
+    Change::Repeat,
     Change::TrailingSpace,
     Change::Mark,
 ];
@@ -41,6 +44,7 @@ impl Change {
             Change::Breaks => "line breaks put in",
             Change::Byte => "one byte changed",
             Change::Component => "one component changed",
+            Change::Repeat => "one repeat changed",
             Change::TrailingSpace => "trailing space",
             Change::Mark => "the mark changed",
         }
@@ -55,18 +59,22 @@ impl Change {
 /// Two accepted interchanges, the second respelled after this change.
 pub fn pair(random: &mut Random, change: Change) -> (Vec<u8>, Vec<u8>) {
     let mut draft = any_valid(random);
+    while change == Change::Repeat && !draft.is_version_4() {
+        draft = any_valid(random);
+    }
     match change {
         Change::UnusedRelease => return one_byte_apart(random, draft),
         Change::Breaks => return breaks_apart(random, &draft),
         _ => {}
     }
     // the sender, which nobody judges, so that there is a byte to change
-    draft.segments[0][2][0].push(b'A');
+    draft.segments[0][2][0][0].push(b'A');
     let mut other = draft.clone();
     match change {
         Change::Respelled | Change::UnusedRelease | Change::Breaks => {}
         Change::Byte => change_byte(random, &mut other),
         Change::Component => change_component(random, &mut other),
+        Change::Repeat => change_repeat(random, &mut other),
         Change::TrailingSpace => {
             let place = any_place(random, &other);
             value_at(&mut other, place).push(b' ');
@@ -84,7 +92,7 @@ pub fn pair(random: &mut Random, change: Change) -> (Vec<u8>, Vec<u8>) {
 fn one_byte_apart(random: &mut Random, mut draft: Draft) -> (Vec<u8>, Vec<u8>) {
     draft.advice = true;
     let may_serve = may_serve(|byte| !holds(Level::B, byte));
-    draft.characters = characters_of(random, draft.characters.mark, &may_serve);
+    draft.characters = characters_of(random, &draft, &may_serve);
     let mut other = draft.clone();
     while other.characters.release == draft.characters.release {
         let six = draft.characters.six();
@@ -106,11 +114,11 @@ fn breaks_apart(random: &mut Random, draft: &Draft) -> (Vec<u8>, Vec<u8>) {
     }
 }
 
-/// Segment, element and component.
-type Place = (usize, usize, usize);
+/// Segment, element, repeat and component.
+type Place = (usize, usize, usize, usize);
 
-fn value_at(draft: &mut Draft, (segment, element, component): Place) -> &mut Vec<u8> {
-    &mut draft.segments[segment][element][component]
+fn value_at(draft: &mut Draft, (segment, element, repeat, component): Place) -> &mut Vec<u8> {
+    &mut draft.segments[segment][element][repeat][component]
 }
 
 /// Every value that nobody judges: UNB's elements 2 to 4, and all but the tag
@@ -118,13 +126,15 @@ fn value_at(draft: &mut Draft, (segment, element, component): Place) -> &mut Vec
 fn places(draft: &Draft) -> Vec<Place> {
     let mut places = Vec::new();
     for (number, segment) in draft.segments.iter().enumerate() {
-        let elements = match &segment[0][0][..] {
+        let elements = match &segment[0][0][0][..] {
             b"UNB" => 2..5,
             tag if tag.starts_with(b"UN") => 0..0,
             _ => 1..segment.len(),
         };
         for element in elements {
-            places.extend((0..segment[element].len()).map(|value| (number, element, value)));
+            for (repeat, values) in segment[element].iter().enumerate() {
+                places.extend((0..values.len()).map(|value| (number, element, repeat, value)));
+            }
         }
     }
     places
@@ -156,9 +166,9 @@ fn change_byte(random: &mut Random, draft: &mut Draft) {
 /// inside a value.
 fn change_component(random: &mut Random, draft: &mut Draft) {
     let place = place_with_bytes(random, draft);
-    let (segment, element, component) = place;
+    let (segment, element, repeat, component) = place;
     let value = value_at(draft, place).clone();
-    let components = &mut draft.segments[segment][element];
+    let components = &mut draft.segments[segment][element][repeat];
     match random.below(3) {
         0 => components.push(b"A".to_vec()),
         1 => components.insert(component, Vec::new()),
@@ -170,12 +180,32 @@ fn change_component(random: &mut Random, draft: &mut Draft) {
     }
 }
 
+/// A repeat more: behind an element, before a repeat that is not empty, or by a
+/// separator inside a value.
+fn change_repeat(random: &mut Random, draft: &mut Draft) {
+    let place = place_with_bytes(random, draft);
+    let (segment, element, repeat, component) = place;
+    let value = value_at(draft, place).clone();
+    let repeats = &mut draft.segments[segment][element];
+    match random.below(3) {
+        0 => repeats.push(vec![b"A".to_vec()]),
+        1 => repeats.insert(repeat, vec![Vec::new()]),
+        _ => {
+            let (left, right) = value.split_at(random.below(value.len()));
+            let mut behind = repeats[repeat].split_off(component);
+            behind[0] = right.to_vec();
+            repeats[repeat].push(left.to_vec());
+            repeats.insert(repeat + 1, behind);
+        }
+    }
+}
+
 /// Spelled under any usable characters with the same mark, and half the time
 /// with empty ends.
 fn respell(random: &mut Random, draft: &mut Draft) {
     draft.advice = true;
     loop {
-        draft.characters = any_characters(random, draft.characters.mark);
+        draft.characters = any_characters(random, draft);
         if draft.is_spellable() {
             break;
         }
@@ -191,34 +221,50 @@ fn may_serve(holds: fn(u8) -> bool) -> Vec<u8> {
     printable.chain([28, 29, 31]).filter(|&byte| holds(byte)).collect()
 }
 
-/// Any usable characters with this mark.
-fn any_characters(random: &mut Random, mark: u8) -> ServiceCharacters {
-    characters_of(random, mark, &may_serve(|_| true))
+/// Any usable characters with this draft's mark.
+fn any_characters(random: &mut Random, draft: &Draft) -> ServiceCharacters {
+    characters_of(random, draft, &may_serve(|_| true))
 }
 
-/// Usable characters of these, one time in five without release.
-fn characters_of(random: &mut Random, mark: u8, may_serve: &[u8]) -> ServiceCharacters {
+/// Usable characters of these with this draft's mark, one time in five without
+/// release; with a repetition separator in version 4 alone, and there too one
+/// time in five without, where no element has a second repeat.
+fn characters_of(random: &mut Random, draft: &Draft, may_serve: &[u8]) -> ServiceCharacters {
+    let mark = draft.characters.mark;
+    let repeated = draft.segments.iter().flatten().any(|repeats| repeats.len() > 1);
     loop {
-        let [component, element, terminator, release] = [0; 4].map(|_: u8| random.pick(may_serve));
+        let [component, element, terminator, release, repetition] =
+            [0; 5].map(|_: u8| random.pick(may_serve));
         let release = if random.chance(20) { b' ' } else { release };
-        if let Some(characters) = from_six(&[component, element, mark, release, b' ', terminator]) {
+        let without = !draft.is_version_4() || (!repeated && random.chance(20));
+        let repetition = if without { b' ' } else { repetition };
+        let six = [component, element, mark, release, repetition, terminator];
+        if let Some(characters) = from_six(&six) {
             return characters;
         }
     }
 }
 
-/// Empty components and elements at ends, which trimming takes away; no
-/// component separator may follow a service segment's tag.
+/// Empty components, repeats and elements at ends, which trimming takes away; no
+/// component separator may follow a service segment's tag, and no repetition
+/// separator any tag.
 fn put_empty_ends(random: &mut Random, draft: &mut Draft) {
+    let repeats = draft.characters.repetition.is_some();
     for segment in &mut draft.segments {
-        let service = segment[0][0].starts_with(b"UN");
-        for element in segment.iter_mut().skip(usize::from(service)) {
-            if random.chance(20) {
-                element.resize(element.len() + random.between(1, 3), Vec::new());
+        let service = segment[0][0][0].starts_with(b"UN");
+        for (number, element) in segment.iter_mut().enumerate().skip(usize::from(service)) {
+            for repeat in element.iter_mut() {
+                if random.chance(20) {
+                    repeat.resize(repeat.len() + random.between(1, 3), Vec::new());
+                }
+            }
+            if repeats && number > 0 && random.chance(20) {
+                let repeat = vec![Vec::new(); random.between(1, 3)];
+                element.resize(element.len() + random.between(1, 3), repeat);
             }
         }
         if random.chance(20) {
-            let element = vec![Vec::new(); random.between(1, 3)];
+            let element = vec![vec![Vec::new(); random.between(1, 3)]];
             segment.resize(segment.len() + random.between(1, 3), element);
         }
     }

@@ -96,7 +96,7 @@ fn say_judged(message: &Message, said: &mut Vec<u8>) -> io::Result<bool> {
             return Ok(false);
         }
     };
-    let sender = part(&message.bytes, 0, 2, 0).escape_ascii();
+    let sender = part(&message.bytes, 0, 2, 0, 0).escape_ascii();
     writeln!(
         said,
         "{name}: accepted, {} segments, {} messages, {} groups, from {sender}",

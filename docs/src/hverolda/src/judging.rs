@@ -15,30 +15,43 @@ pub struct ServiceCharacters {
     /// The release character, where there is one. A space is none: in the six
     /// bytes `Some(b' ')` and `None` are the same, and [`judge`] answers `None`.
     pub release: Option<u8>,
+    /// The repetition separator, where there is one. A space is none, as for the
+    /// release character. With one, versions 1 and 2 are refused by 7; without one, a
+    /// list with repeats is refused by 16.
+    pub repetition: Option<u8>,
     /// The segment terminator.
     pub terminator: u8,
 }
 
 impl ServiceCharacters {
-    /// Those of the normal form and of an interchange that begins `UNB+`.
+    /// Those of versions 1 and 2: of their normal form, and of an interchange of
+    /// theirs that begins `UNB+`.
     pub const STANDARD: ServiceCharacters = ServiceCharacters {
         component: b':',
         element: b'+',
         mark: b'.',
         release: Some(b'?'),
+        repetition: None,
         terminator: b'\'',
     };
 
+    /// Those of version 4: of its normal form, and of an interchange that begins
+    /// `UNB+UNOA:4` or `UNB+UNOB:4`.
+    pub const VERSION_4: ServiceCharacters =
+        ServiceCharacters { repetition: Some(b'*'), ..ServiceCharacters::STANDARD };
+
     /// The six bytes of a service string advice, as [`write()`](crate::write())
-    /// takes them: a space for no release character and for the reserved byte.
+    /// takes them: a space for no release character, and for no repetition separator.
     ///
     /// ```
     /// assert_eq!(&hverolda::ServiceCharacters::STANDARD.six(), b":+.? '");
+    /// assert_eq!(&hverolda::ServiceCharacters::VERSION_4.six(), b":+.?*'");
     /// ```
     #[must_use]
     pub fn six(&self) -> [u8; 6] {
-        let release = self.release.unwrap_or(b' ');
-        [self.component, self.element, self.mark, release, b' ', self.terminator]
+        let or_none = |byte: Option<u8>| byte.unwrap_or(b' ');
+        let (release, repetition) = (or_none(self.release), or_none(self.repetition));
+        [self.component, self.element, self.mark, release, repetition, self.terminator]
     }
 }
 
@@ -80,12 +93,14 @@ pub struct Interchange {
 pub fn judge(input: &[u8]) -> Result<Interchange, Refusal> {
     let verdict = surface::judge(input);
     Refusal::told(verdict.number, verdict.place)?;
+    let present = |byte| Some(byte).filter(|&byte| byte != b' ');
     Ok(Interchange {
         characters: ServiceCharacters {
             component: verdict.component,
             element: verdict.element,
             mark: verdict.mark,
-            release: Some(verdict.release).filter(|&byte| byte != b' '),
+            release: present(verdict.release),
+            repetition: present(verdict.repetition),
             terminator: verdict.terminator,
         },
         segments: verdict.segments,
@@ -98,13 +113,14 @@ pub fn judge(input: &[u8]) -> Result<Interchange, Refusal> {
 #[cfg(test)]
 mod tests {
     use super::*;
-    use crate::examples::{RESPELLED, WRONG_COUNT, X};
+    use crate::examples::{REPEATED, RESPELLED, WRONG_COUNT, X};
     use crate::Fault;
 
     #[test]
     fn service_characters_are_those_in_force() {
         assert_eq!(judge(X).unwrap().characters, ServiceCharacters::STANDARD);
         assert_eq!(&judge(RESPELLED).unwrap().characters.six(), b";*.! ~");
+        assert_eq!(judge(REPEATED).unwrap().characters, ServiceCharacters::VERSION_4);
     }
 
     #[test]

@@ -38,6 +38,30 @@
 //! 33,300, all others less than 2,000, and none recurses: a stack of 96 KB is
 //! enough for a thread that calls them. What [`write()`] can cost stands there.
 //!
+//! # Since 0.2
+//!
+//! Version 4 of the syntax came with change request 2026-10, and three things have
+//! another meaning than in 0.1:
+//!
+//! - [`locate`] and [`part`] take a repeat number between element and component; in
+//!   versions 1 and 2 it is 0.
+//! - A value list has a kind more, [`Kind::NextRepeat`], 3: a next repeat's first
+//!   value. [`read`] stores it, and [`write()`] takes it.
+//! - [`ServiceCharacters`] has the repetition separator, the fifth byte. One that is
+//!   usable and no space is no longer refused by 2: it is by 7 where the version is
+//!   not 4. What 6, 7, 15 and 16 say besides stands at each [`Fault`].
+//!
+//! A program says that it knows this by asking for the feature `caller-2`; without it
+//! this crate does not compile, so that no program for 0.1 misreads an answer:
+//!
+//! ```toml
+//! hverolda = { path = "..", version = "0.2", features = ["caller-2"] }
+//! ```
+//!
+//! The version belongs to it: Cargo builds one crate for all of a workspace, so that a
+//! member without the feature compiles where another asks for it, but not one that asks
+//! for another version.
+//!
 //! To build it, run `rt staticlib surface` in the root of the project: that
 //! proves the library and writes the archive that this crate links. Where the
 //! archive stands elsewhere, `SURFACE_FOLDER` names its folder. The archive is
@@ -45,6 +69,12 @@
 
 #![deny(missing_docs)]
 #![deny(unsafe_code)]
+
+#[cfg(not(feature = "caller-2"))]
+compile_error!(
+    "hverolda 0.2 has another Locate, a new kind of value and a fifth service character: \
+     see \"Since 0.2\" on its first page, then ask for the feature `caller-2`"
+);
 
 mod comparing;
 mod judging;
@@ -97,10 +127,11 @@ pub const LONGEST_FILE: usize = 65_536;
 /// The number of the rules that this crate was written for. It rises with each
 /// change of an answer: whoever stores verdicts or normal forms stores it beside
 /// them, and sees when they are old. See [`rules()`].
-pub const RULES: u32 = 4;
+pub const RULES: u32 = 5;
 
-/// The number of the rules that the linked archive follows. Where it is above
-/// [`RULES`], a [`Fault`] or a [`Kind`] may be one that this crate does not know.
+/// The number of the rules that the linked archive follows. Where it is not
+/// [`RULES`], the archive is not this crate's, and nothing else is to be called; a
+/// [`Fault`] or a [`Kind`] of a newer one may be one that this crate does not know.
 ///
 /// ```
 /// assert_eq!(hverolda::rules(), hverolda::RULES);
@@ -121,4 +152,6 @@ mod examples {
         UNH+1+ORDERS:1:901:UN'BGM+220+A?+B'UNT+3+1'UNZ+1+R1'";
     pub const WRONG_COUNT: &[u8] = b"UNB+UNOA:1+AA+BB+260105:0930+R1'UNH+1+ORDERS:1:901:UN'\
         BGM+220+A?+B'UNT+4+1'UNZ+1+R1'";
+    pub const REPEATED: &[u8] = b"UNB+UNOB:4+AA+BB+20260105:0930+R1'UNH+1+ORDERS:1:901:UN'\
+        RFF+ON:1*ON:2'UNT+3+1'UNZ+1+R1'";
 }

@@ -14,9 +14,9 @@ pub struct Listing {
 }
 
 /// Stores the values of an interchange, end to end, in `bytes` and a record of
-/// three numbers for each in `table`: its kind (0 new segment, 1 new element,
-/// 2 next component), where it starts and how long it is. What is not filled,
-/// and all where it is refused, keeps its values.
+/// three numbers for each in `table`: its kind (0 new segment, 1 new element, 3
+/// next repeat, 2 next component), where it starts and how long it is. What is
+/// not filled, and all where it is refused, keeps its values.
 ///
 /// # Errors
 ///
@@ -30,6 +30,10 @@ pub struct Listing {
 /// let listing = hverolda::read(input, &mut bytes, &mut table)?;
 /// assert_eq!(&bytes[..listing.bytes], b"UNBUNOA11UNH1UNT21UNZ11");
 /// assert_eq!(table[..9], [0, 0, 3, 1, 3, 4, 2, 7, 1]);
+///
+/// let input = b"UNB+UNOB:4+AA*BB+++1'UNH+1'UNT+2+1'UNZ+1+1'";
+/// hverolda::read(input, &mut bytes, &mut table)?;
+/// assert_eq!(table[9..15], [1, 8, 2, 3, 10, 2]);
 /// # Ok::<(), hverolda::Refusal>(())
 /// ```
 pub fn read(input: &[u8], bytes: &mut [u8], table: &mut [u32]) -> Result<Listing, Refusal> {
@@ -65,7 +69,7 @@ pub fn values(input: &[u8]) -> Result<ValueList, Refusal> {
 #[cfg(test)]
 mod tests {
     use super::*;
-    use crate::examples::{RESPELLED, WRONG_COUNT, X};
+    use crate::examples::{REPEATED, RESPELLED, WRONG_COUNT, X};
     use crate::{Fault, Kind};
 
     #[test]
@@ -74,6 +78,20 @@ mod tests {
         assert_eq!(list.len(), 23);
         assert!(list.iter().any(|value| value == (Kind::NewElement, b"A+B")));
         assert_eq!(values(RESPELLED), Ok(list));
+    }
+
+    #[test]
+    fn repeats_have_a_kind_of_their_own() {
+        let list = values(REPEATED).unwrap();
+        let kinds: Vec<_> = list.iter().skip_while(|value| value.1 != b"RFF").take(5).collect();
+        let told: [(Kind, &[u8]); 5] = [
+            (Kind::NewSegment, b"RFF"),
+            (Kind::NewElement, b"ON"),
+            (Kind::NextComponent, b"1"),
+            (Kind::NextRepeat, b"ON"),
+            (Kind::NextComponent, b"2"),
+        ];
+        assert_eq!(kinds, told);
     }
 
     #[test]

@@ -20,9 +20,11 @@ pub enum Fault {
     Release,
     /// 5: the body ends inside a segment.
     InsideSegment,
-    /// 6: a segment's tag breaks the tag rule.
+    /// 6: a segment's tag breaks the tag rule, or its element has a second repeat.
     Tag,
-    /// 7: the level or its version is not one of ours.
+    /// 7: the level or its version is not one of ours, UNB's element 1 has a second
+    /// repeat that trimming leaves, or there is a repetition separator and the version
+    /// is not 4.
     Level,
     /// 8: a byte is outside the level.
     Byte,
@@ -43,7 +45,8 @@ pub enum Fault {
     /// 15: a value list's table is malformed, or a segment of the list begins with
     /// a line break.
     List,
-    /// 16: a value holds a service character and there is no release character.
+    /// 16: a value holds a service character and there is no release character, or it
+    /// begins a next repeat and there is no repetition separator.
     NoRelease,
     /// 17: no slot of the shelf is free.
     NoSlot,
@@ -68,8 +71,8 @@ const FAULTS: [(Fault, &str); 20] = [
     (Fault::Beginning, "the body does not begin with UNB and the element separator"),
     (Fault::Release, "the release character is followed by no service character"),
     (Fault::InsideSegment, "the body ends inside a segment"),
-    (Fault::Tag, "the segment's tag is not one"),
-    (Fault::Level, "the level or its version is not one that is judged"),
+    (Fault::Tag, "the segment's tag is not one, or a repeat follows it"),
+    (Fault::Level, "the level or version is not judged, or not with this fifth service byte"),
     (Fault::Byte, "the byte is outside the level"),
     (Fault::Order, "no such segment or section is allowed here, or the end comes before UNZ"),
     (Fault::Control, "a count or a reference is missing or malformed"),
@@ -78,7 +81,7 @@ const FAULTS: [(Fault, &str); 20] = [
     (Fault::NormalLength, "the normal form has more than 32000 bytes"),
     (Fault::Buffer, "a lent buffer is too short"),
     (Fault::List, "the value list's table is malformed, or the segment begins with a line break"),
-    (Fault::NoRelease, "a service character stands in a value, with none to release it"),
+    (Fault::NoRelease, "a service character in a value, or a repeat, cannot be spelled"),
     (Fault::NoSlot, "all 64 slots of the shelf are occupied"),
     (Fault::NoRoom, "the shelf has too few free bytes"),
     (Fault::Shelf, "there is no sound shelf of the version asked for: 2 with 533 to 65536 bytes, or 1 with 525 to 65536 to carry over"),

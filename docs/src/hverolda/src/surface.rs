@@ -46,20 +46,22 @@ extern "C" {
     ) -> Kept;
 
     /// Says where a component is spelled.
-    pub fn hverolda_locate(
+    pub fn hverolda_locate_value(
         input: *const u8,
         length: usize,
         segment: usize,
         element: usize,
+        repeat: usize,
         component: usize,
     ) -> Location;
 
     /// Says which part of the input spells a component.
-    pub fn hverolda_part(
+    pub fn hverolda_value_part(
         input: *const u8,
         length: usize,
         segment: usize,
         element: usize,
+        repeat: usize,
         component: usize,
     ) -> Part;
 
@@ -153,15 +155,23 @@ pub fn keep(first: &[u8], second: &[u8]) -> Kept {
 }
 
 /// Says where a component is spelled.
-pub fn locate(input: &[u8], segment: usize, element: usize, component: usize) -> Location {
-    // SAFETY: as in `judge`; the three numbers may be any.
-    unsafe { hverolda_locate(input.as_ptr(), input.len(), segment, element, component) }
+pub fn locate(
+    input: &[u8],
+    segment: usize,
+    element: usize,
+    repeat: usize,
+    component: usize,
+) -> Location {
+    // SAFETY: as in `judge`; the four numbers may be any.
+    unsafe {
+        hverolda_locate_value(input.as_ptr(), input.len(), segment, element, repeat, component)
+    }
 }
 
 /// Says which part of the input spells a component.
-pub fn part(input: &[u8], segment: usize, element: usize, component: usize) -> Part {
+pub fn part(input: &[u8], segment: usize, element: usize, repeat: usize, component: usize) -> Part {
     // SAFETY: as in `locate`.
-    unsafe { hverolda_part(input.as_ptr(), input.len(), segment, element, component) }
+    unsafe { hverolda_value_part(input.as_ptr(), input.len(), segment, element, repeat, component) }
 }
 
 /// Stores the value list of one interchange.

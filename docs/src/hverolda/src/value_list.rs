@@ -14,8 +14,10 @@ pub enum Kind {
     NewSegment,
     /// 1: it begins an element of the segment.
     NewElement,
-    /// 2: it is the next component of the element.
+    /// 2: it is the next component of the repeat.
     NextComponent,
+    /// 3: it begins the next repeat of the element, in version 4.
+    NextRepeat,
     /// A number above these, which only an archive that is newer than this crate
     /// reads; see [`rules`](crate::rules()).
     Unknown(u32),
@@ -27,6 +29,7 @@ impl From<Kind> for u32 {
             Kind::NewSegment => 0,
             Kind::NewElement => 1,
             Kind::NextComponent => 2,
+            Kind::NextRepeat => 3,
             Kind::Unknown(number) => number,
         }
     }
@@ -38,7 +41,7 @@ impl From<Kind> for u32 {
 /// use hverolda::Kind;
 ///
 /// assert_eq!(Kind::try_from(1), Ok(Kind::NewElement));
-/// assert_eq!(Kind::try_from(3).unwrap_err().to_string(), "no value is of kind 3");
+/// assert_eq!(Kind::try_from(4).unwrap_err().to_string(), "no value is of kind 4");
 /// ```
 impl TryFrom<u32> for Kind {
     type Error = UnknownKind;
@@ -48,6 +51,7 @@ impl TryFrom<u32> for Kind {
             0 => Ok(Kind::NewSegment),
             1 => Ok(Kind::NewElement),
             2 => Ok(Kind::NextComponent),
+            3 => Ok(Kind::NextRepeat),
             other => Err(UnknownKind(other)),
         }
     }
@@ -242,17 +246,17 @@ mod tests {
 
     #[test]
     fn a_kind_of_a_newer_archive_is_told() {
-        let list = ValueList::of_parts(b"UNBA".to_vec(), vec![0, 0, 3, 3, 3, 1]);
-        assert_eq!(list.iter().last(), Some((Kind::Unknown(3), &b"A"[..])));
+        let list = ValueList::of_parts(b"UNBA".to_vec(), vec![0, 0, 3, 4, 3, 1]);
+        assert_eq!(list.iter().last(), Some((Kind::Unknown(4), &b"A"[..])));
         assert_eq!(list.iter().collect::<ValueList>(), list);
     }
 
     #[test]
-    fn the_kinds_are_zero_to_two() {
-        for number in 0..3 {
+    fn the_kinds_are_zero_to_three() {
+        for number in 0..4 {
             assert_eq!(Kind::try_from(number).map(u32::from), Ok(number));
         }
-        for number in [3, 256, u32::MAX] {
+        for number in [4, 256, u32::MAX] {
             assert_eq!(Kind::try_from(number), Err(UnknownKind(number)));
         }
     }

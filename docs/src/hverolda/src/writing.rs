@@ -24,7 +24,8 @@ use crate::{surface, LONGEST};
 ///
 /// In this order: 15 where the table is malformed or a segment begins with a
 /// line break, 2 where the service bytes are not six usable ones, 16 where a
-/// value needs a release character, 1 where the text has more than 32,000 bytes,
+/// value needs a release character or a repetition separator and there is none, 1
+/// where the text has more than 32,000 bytes,
 /// 14 with the bytes needed where `output` is too short; then as
 /// [`judge`](crate::judge) would refuse the text.
 ///
@@ -72,13 +73,23 @@ pub fn text_of(characters: &ServiceCharacters, list: &ValueList) -> Result<Vec<u
 #[cfg(test)]
 mod tests {
     use super::*;
-    use crate::examples::{NORMAL, X};
+    use crate::examples::{NORMAL, REPEATED, X};
     use crate::{judge, values, Fault, Kind};
 
     #[test]
     fn a_list_that_was_read_is_written_as_the_normal_form() {
         let list = values(X).unwrap();
         assert_eq!(text_of(&ServiceCharacters::STANDARD, &list).as_deref(), Ok(NORMAL));
+    }
+
+    #[test]
+    fn repeats_need_a_repetition_separator() {
+        let list = values(REPEATED).unwrap();
+        let text = text_of(&ServiceCharacters::VERSION_4, &list).unwrap();
+        assert_eq!(values(&text), Ok(list.clone()));
+        let refusal = text_of(&ServiceCharacters::STANDARD, &list).unwrap_err();
+        let repeat = list.iter().position(|(kind, _)| kind == Kind::NextRepeat).unwrap();
+        assert_eq!(refusal, Refusal { fault: Fault::NoRelease, place: repeat });
     }
 
     #[test]

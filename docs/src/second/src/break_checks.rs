@@ -10,7 +10,7 @@ use crate::refusal::{
     OVER_LENGTH, RELEASE, TAG,
 };
 use crate::service_characters::ServiceCharacters;
-use crate::value_list::{NEW_ELEMENT, NEW_SEGMENT, NEXT_COMPONENT, RECORD};
+use crate::value_list::{NEW_ELEMENT, NEW_SEGMENT, NEXT_COMPONENT, NEXT_REPEAT, RECORD};
 
 type Check = Result<(), String>;
 
@@ -37,7 +37,28 @@ pub fn check_breaks() -> Check {
     Ok(())
 }
 
-/// What comes of a break at each place of an accepted interchange without
+/// How an input without an advice begins that has `*`, in bytes.
+const VERSION_4_BEGINNING: usize = 10;
+
+/// A break within this beginning takes `*` away from the service characters, so
+/// that a released one is 4. The place of the first one, one break having been
+/// put before it.
+fn released_asterisk(input: &[u8], characters: &ServiceCharacters) -> Option<usize> {
+    if input.starts_with(b"UNA") || characters.repetition.is_none() {
+        return None;
+    }
+    let mut at = 0;
+    while at + 1 < input.len() {
+        match (Some(input[at]) == characters.release, input[at + 1]) {
+            (true, b'*') => return Some(at + 1),
+            (true, _) => at += 2,
+            (false, _) => at += 1,
+        }
+    }
+    None
+}
+
+/// What comes of one break at each place of an accepted interchange without
 /// breaks: None where it is passed over.
 pub fn fates(input: &[u8], characters: &ServiceCharacters) -> Vec<Option<Refusal>> {
     let refused = |number, place| Some(Refusal { place, number });
@@ -45,15 +66,20 @@ pub fn fates(input: &[u8], characters: &ServiceCharacters) -> Vec<Option<Refusal
     let mut fates: Vec<Option<Refusal>> = (0..body)
         .map(|place| if place < 3 { refused(BEGINNING, 0) } else { refused(ADVICE, 0) })
         .collect();
-    let (mut start, mut element, mut component, mut released) = (body, 0, 0, false);
+    let asterisk = released_asterisk(input, characters);
+    let (mut start, mut element, mut repeat, mut component) = (body, 0, 0, 0);
+    let mut released = false;
     for (place, &byte) in input.iter().enumerate().skip(body) {
-        let in_level = start == body && element == 1 && component < 2;
+        let in_level = start == body && element == 1 && (repeat > 0 || component < 2);
         fates.push(match place {
             0 => refused(BEGINNING, 0),
             _ if place == start => None,
             _ if place <= start + 3 && start == body => refused(BEGINNING, body),
             _ if place <= start + 3 => refused(TAG, start),
             _ if released => refused(RELEASE, place - 1),
+            _ if place < VERSION_4_BEGINNING && asterisk.is_some() => {
+                asterisk.and_then(|place| refused(RELEASE, place))
+            }
             _ if in_level => refused(LEVEL, body),
             _ => refused(BYTE, place),
         });
@@ -63,10 +89,12 @@ pub fn fates(input: &[u8], characters: &ServiceCharacters) -> Vec<Option<Refusal
             released = true;
         } else if byte == characters.component {
             component += 1;
+        } else if Some(byte) == characters.repetition {
+            (repeat, component) = (repeat + 1, 0);
         } else if byte == characters.element {
-            (element, component) = (element + 1, 0);
+            (element, repeat, component) = (element + 1, 0, 0);
         } else if byte == characters.terminator {
-            (start, element, component) = (place + 1, 0, 0);
+            (start, element, repeat, component) = (place + 1, 0, 0, 0);
         }
     }
     fates.push(None);
@@ -80,8 +108,11 @@ fn check_every_place(input: &[u8]) -> Check {
     for (place, fate) in fates(input, &verdict.characters).into_iter().enumerate() {
         for breaks in [&b"\n"[..], b"\r", b"\r\n"] {
             let broken = [&input[..place], breaks, &input[place..]].concat();
+            // a second break moves what stands behind the first
+            let moved =
+                |refused: usize| refused + (breaks.len() - 1) * usize::from(refused > place);
             let expected = match fate {
-                Some(refusal) => Err(refusal),
+                Some(refusal) => Err(Refusal { place: moved(refusal.place), ..refusal }),
                 None => Ok(verdict),
             };
             ensure(judge(&broken) == expected, &format!("a break at {place}"), &broken)?;
@@ -113,14 +144,13 @@ fn check_passed_over(plain: &[u8], broken: &Broken) -> Check {
     }
     ensure(compare(plain, &broken.input) == Comparison::Same, "same", &broken.input)?;
     ensure(list_of(plain) == list_of(&broken.input), "the values", &broken.input)?;
-    for segment in 0..5 {
-        for element in 0..3 {
-            let numbers = Numbers { segment, element, component: 0 };
-            let at = |input| locate(input, numbers).ok().flatten();
-            let moved = at(plain).map(|part| (broken.moved(part.range().start), part.length));
-            let found = at(&broken.input).map(|part| (part.range().start, part.length));
-            ensure(moved == found, "locate", &broken.input)?;
-        }
+    for number in 0..5 * 3 * 2 {
+        let (segment, element, repeat) = (number / 6, number / 2 % 3, number % 2);
+        let numbers = Numbers { segment, element, repeat, component: 0 };
+        let at = |input| locate(input, numbers).ok().flatten();
+        let moved = at(plain).map(|part| (broken.moved(part.range().start), part.length));
+        let found = at(&broken.input).map(|part| (part.range().start, part.length));
+        ensure(moved == found, "locate", &broken.input)?;
     }
     Ok(())
 }
@@ -136,9 +166,12 @@ fn list_of(input: &[u8]) -> Answer<List> {
     Ok((bytes, table))
 }
 
-/// The refusal of this list under usable service bytes, if any.
+/// The refusal of this list under usable service bytes, if any; they have a
+/// repetition separator where the list has repeats.
 fn refusal_of((bytes, table): &List) -> Option<Refusal> {
-    write(b":+.? '", bytes, table, &mut vec![0; LONGEST]).err()
+    let repeats = table.iter().step_by(RECORD).any(|&kind| kind == NEXT_REPEAT);
+    let service = if repeats { b":+.?*'" } else { b":+.? '" };
+    write(service, bytes, table, &mut vec![0; LONGEST]).err()
 }
 
 /// The list with this as the value of a record.
@@ -171,7 +204,7 @@ fn check_lists(random: &mut Random, input: &[u8]) -> Check {
     let (one, other) = (random.below(records), random.below(records));
     let mut both = with_value(&list, one, b"\n");
     both.1[RECORD * one] = NEW_SEGMENT;
-    both.1[RECORD * other] = NEXT_COMPONENT + 1;
+    both.1[RECORD * other] = NEXT_REPEAT + 1;
     let lowest = Refusal { place: one.min(other), number: LIST };
     ensure(refusal_of(&both) == Some(lowest), "the lowest record", input)?;
     let (bytes, table) = with_value(&list, 0, b"\n");
@@ -185,7 +218,7 @@ fn check_empty_tag(list: &List, input: &[u8]) -> Check {
     let (mut bytes, mut table) = list.clone();
     let end = bytes.len() as u32;
     bytes.extend(b"\nA");
-    for kind in [NEW_ELEMENT, NEXT_COMPONENT] {
+    for kind in [NEW_ELEMENT, NEXT_COMPONENT, NEXT_REPEAT] {
         let numbers = table.len();
         table.extend([NEW_SEGMENT, end, 0, kind, end, 2]);
         let found = refusal_of(&(bytes.clone(), table.clone()));

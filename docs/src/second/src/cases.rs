@@ -14,6 +14,7 @@ use crate::operations::{compare, judge};
 use crate::report_lines::{compare_line, judge_line};
 use crate::section_cases::{section_cases, section_pairs};
 use crate::standard_examples::{standard_cases, standard_pairs};
+use crate::version_cases::{version_cases, version_pairs};
 
 /// X of the paper: 84 bytes.
 pub const X: &str = "UNB+UNOA:1+AA+BB+260105:0930+R1'UNH+1+ORDERS:1:901:UN'\
@@ -76,7 +77,8 @@ fn stated_cases() -> Vec<Case> {
         case("14-respelled-comma", respelled("UNA;*,! ~"), "accepted 5 1 0 93"),
         case("15-empty", "", "refused 3 0"),
         case("16-advice-alone", "UNA:+.? '", "refused 3 9"),
-        case("17-reserved-star", "UNA:+.?*'", "refused 2 0"),
+        // Stated as 2 at 0; request 2026-10 makes the asterisk usable.
+        case("17-reserved-star", "UNA:+.?*'", "refused 3 9"),
         case("18-normal-length-32004", interchange_of_31995(), "refused 13 32004"),
     ]
 }
@@ -135,6 +137,7 @@ pub fn all_cases() -> Vec<Case> {
     cases.extend(standard_cases());
     cases.extend(section_cases());
     cases.extend(break_cases());
+    cases.extend(version_cases());
     cases
 }
 
@@ -151,6 +154,7 @@ pub fn all_pairs() -> Vec<Pair> {
     pairs.extend(standard_pairs());
     pairs.extend(section_pairs());
     pairs.extend(break_pairs());
+    pairs.extend(version_pairs());
     pairs
 }
 

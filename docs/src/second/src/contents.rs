@@ -1,9 +1,11 @@
-//! Segments, elements and values, and the bytes of a value.
+//! Segments, elements, repeats and values, and the bytes of a value.
 //!
 //! Paper, clause "From bytes to values": a segment is one or more elements,
-//! the first being the tag; an element is one or more values. A value is kept
-//! as the part of some source bytes where it is spelled. All parts stand in
-//! one list; an element is a run of parts and a segment a run of elements.
+//! the first being the tag. Change request 2026-10, "Syntax version 4": an
+//! element is one or more repeats, one in the older versions, and a repeat is
+//! one or more values, its components. A value is kept as the part of some
+//! source bytes where it is spelled. All parts stand in one list; a repeat is a
+//! run of parts, an element a run of repeats and a segment a run of elements.
 
 use std::ops::Range;
 
@@ -32,6 +34,7 @@ impl Part {
 pub enum ValueKind {
     NewSegment,
     NewElement,
+    NextRepeat,
     NextComponent,
 }
 
@@ -62,6 +65,9 @@ impl Run {
 }
 
 /// A run of components.
+pub type Repeat = Run;
+
+/// A run of repeats.
 pub type Element = Run;
 
 /// A run of elements, the tag first.
@@ -74,6 +80,7 @@ pub struct Contents<'a> {
     pub source: &'a [u8],
     pub release: Option<u8>,
     pub parts: Vec<Part>,
+    pub repeats: Vec<Repeat>,
     pub elements: Vec<Element>,
     pub segments: Vec<Segment>,
 }
@@ -81,32 +88,46 @@ pub struct Contents<'a> {
 impl<'a> Contents<'a> {
     /// No segments yet.
     pub fn new(source: &'a [u8], release: Option<u8>) -> Contents<'a> {
-        Contents { source, release, parts: Vec::new(), elements: Vec::new(), segments: Vec::new() }
+        Contents {
+            source,
+            release,
+            parts: Vec::new(),
+            repeats: Vec::new(),
+            elements: Vec::new(),
+            segments: Vec::new(),
+        }
     }
 
     /// Adds a value. The first value of a list begins a segment.
     pub fn add(&mut self, kind: ValueKind, part: Part) {
-        let (part_number, element_number) = (self.parts.len(), self.elements.len());
         self.parts.push(part);
-        match (kind, self.elements.last_mut(), self.segments.last_mut()) {
-            (ValueKind::NextComponent, Some(element), _) => element.end += 1,
-            (ValueKind::NewElement, _, Some(segment)) => {
-                segment.end += 1;
-                self.elements.push(Run::of_one(part_number));
-            }
-            _ => {
-                self.elements.push(Run::of_one(part_number));
-                self.segments.push(Run::of_one(element_number));
-            }
+        if let (ValueKind::NextComponent, Some(repeat)) = (kind, self.repeats.last_mut()) {
+            repeat.end += 1;
+            return;
         }
+        self.repeats.push(Run::of_one(self.parts.len() - 1));
+        if let (ValueKind::NextRepeat, Some(element)) = (kind, self.elements.last_mut()) {
+            element.end += 1;
+            return;
+        }
+        self.elements.push(Run::of_one(self.repeats.len() - 1));
+        if let (ValueKind::NewElement, Some(segment)) = (kind, self.segments.last_mut()) {
+            segment.end += 1;
+            return;
+        }
+        self.segments.push(Run::of_one(self.elements.len() - 1));
     }
 
     pub fn elements_of(&self, segment: &Segment) -> &[Element] {
         &self.elements[segment.range()]
     }
 
-    pub fn components_of(&self, element: &Element) -> &[Part] {
-        &self.parts[element.range()]
+    pub fn repeats_of(&self, element: &Element) -> &[Repeat] {
+        &self.repeats[element.range()]
+    }
+
+    pub fn components_of(&self, repeat: &Repeat) -> &[Part] {
+        &self.parts[repeat.range()]
     }
 
     /// The first element: the tag with its repetition figures, if any.
@@ -116,7 +137,8 @@ impl<'a> Contents<'a> {
 
     /// The tag without its repetition figures.
     pub fn tag_of(&self, segment: &Segment) -> &Part {
-        &self.parts[self.first_element_of(segment).first as usize]
+        let repeat = &self.repeats[self.first_element_of(segment).first as usize];
+        &self.parts[repeat.first as usize]
     }
 
     /// A segment starts where its tag is spelled.
@@ -124,11 +146,28 @@ impl<'a> Contents<'a> {
         self.tag_of(segment).offset as usize
     }
 
-    /// The components of an element, the elements of a segment being numbered
-    /// from 0 and element 0 being the tag.
-    pub fn numbered(&self, segment: &Segment, element: usize) -> Option<&[Part]> {
+    /// The repeats of an element, the elements of a segment being numbered from
+    /// 0 and element 0 being the tag.
+    pub fn numbered(&self, segment: &Segment, element: usize) -> Option<&[Repeat]> {
         let element = self.elements_of(segment).get(element)?;
-        Some(self.components_of(element))
+        Some(self.repeats_of(element))
+    }
+
+    /// The components of an element that is there and has one repeat.
+    pub fn only_repeat(&self, segment: &Segment, element: usize) -> Option<&[Part]> {
+        match self.numbered(segment, element)? {
+            [repeat] => Some(self.components_of(repeat)),
+            _ => None,
+        }
+    }
+
+    /// The value of an element that is there and has one repeat of one
+    /// component.
+    pub fn only_value(&self, segment: &Segment, element: usize) -> Option<&Part> {
+        match self.only_repeat(segment, element)? {
+            [value] => Some(value),
+            _ => None,
+        }
     }
 
     /// The bytes of a value, without release characters, each with its offset
@@ -150,7 +189,8 @@ impl<'a> Contents<'a> {
     /// Every value of the list, in its order.
     pub fn all_parts(&self) -> impl Iterator<Item = &Part> {
         let elements = self.segments.iter().flat_map(|segment| self.elements_of(segment));
-        elements.flat_map(|element| self.components_of(element))
+        let repeats = elements.flat_map(|element| self.repeats_of(element));
+        repeats.flat_map(|repeat| self.components_of(repeat))
     }
 }
 

@@ -1,8 +1,9 @@
 //! References and counts of the service segments: stage (10 11 12).
 //!
-//! Paper, clause "Control elements" and refusals 10, 11 and 12. The faults of
-//! all headers with their trailers are gathered, and the lowest place, then
-//! the lowest number, answers.
+//! Paper, clause "Control elements" and refusals 10, 11 and 12; change request
+//! 2026-10: control elements have one repeat. The faults of all headers with
+//! their trailers are gathered, and the lowest place, then the lowest number,
+//! answers.
 
 use crate::contents::{Contents, Part, Segment};
 use crate::order::{Inner, Interchange, Message};
@@ -106,24 +107,17 @@ fn lowest_fault(contents: &Contents, pair: &Pair) -> Option<Refusal> {
     None
 }
 
-/// The value of an element that is there and is a single component.
-fn single_value<'a>(contents: &'a Contents, segment: &Segment, number: usize) -> Option<&'a Part> {
-    match contents.numbered(segment, number)? {
-        [value] => Some(value),
-        _ => None,
-    }
-}
-
-/// A reference: one component of 1 to 14 bytes.
+/// A reference: one repeat of one component of 1 to 14 bytes.
 fn reference_of<'a>(contents: &'a Contents, segment: &Segment, number: usize) -> Option<&'a Part> {
-    let value = single_value(contents, segment, number)?;
+    let value = contents.only_value(segment, number)?;
     let length = contents.bytes(value).count();
     (1..=LONGEST_REFERENCE).contains(&length).then_some(value)
 }
 
-/// A count: one component of 1 to 6 digits, leading zeros allowed.
+/// A count: one repeat of one component of 1 to 6 digits, leading zeros
+/// allowed.
 fn count_of(contents: &Contents, segment: &Segment, number: usize) -> Option<usize> {
-    let value = single_value(contents, segment, number)?;
+    let value = contents.only_value(segment, number)?;
     let length = contents.bytes(value).count();
     let digits_only = contents.bytes(value).all(|byte| byte.is_ascii_digit());
     let sum = |count: usize, digit: u8| count * 10 + usize::from(digit - b'0');

@@ -5,7 +5,7 @@
 
 use crate::contents::Contents;
 use crate::control::check_control;
-use crate::level::{check_bytes, named_level};
+use crate::level::{check_bytes, named_syntax, Version};
 use crate::normal_form::{normal_characters, text, text_length};
 use crate::order::interchange_of;
 use crate::reading::read_body;
@@ -16,6 +16,7 @@ use crate::trimming::trim;
 /// What is known of an accepted interchange.
 pub struct Accepted<'a> {
     pub characters: ServiceCharacters,
+    pub version: Version,
     /// Trimmed.
     pub contents: Contents<'a>,
     pub messages: usize,
@@ -25,7 +26,7 @@ pub struct Accepted<'a> {
 
 impl Accepted<'_> {
     pub fn normal_form(&self) -> Vec<u8> {
-        text(&self.contents, &normal_characters(self.characters.mark))
+        text(&self.contents, &normal_characters(self.characters.mark, self.version))
     }
 }
 
@@ -38,16 +39,18 @@ pub fn accept(input: &[u8]) -> Answer<Accepted<'_>> {
     let characters = opening.characters;
     let mut contents = read_body(input, opening.body, &characters)?;
     trim(&mut contents);
-    let level = named_level(&contents, opening.body)?;
-    check_bytes(&contents, level)?;
+    let syntax = named_syntax(&contents, &opening)?;
+    check_bytes(&contents, syntax.level)?;
     let interchange = interchange_of(&contents)?;
     check_control(&contents, &interchange)?;
-    let normal_length = text_length(&contents, &normal_characters(characters.mark)) as usize;
+    let normal = normal_characters(characters.mark, syntax.version);
+    let normal_length = text_length(&contents, &normal) as usize;
     if normal_length > LONGEST {
         return refuse(NORMAL_LENGTH, normal_length);
     }
     Ok(Accepted {
         characters,
+        version: syntax.version,
         contents,
         messages: interchange.message_count(),
         groups: interchange.group_count(),

@@ -2,10 +2,13 @@
 //! and 8.
 //!
 //! Paper, clause "From bytes to values", the paragraph "Levels", and refusals
-//! 7 and 8.
+//! 7 and 8; change request 2026-10, "Syntax version 4": version `4` is ours too,
+//! UNB's first element has one repeat, and only version 4 has a repetition
+//! separator.
 
 use crate::contents::Contents;
 use crate::refusal::{refuse, Answer, BYTE, LEVEL};
+use crate::service_characters::Opening;
 
 #[derive(Clone, Copy, Debug, PartialEq, Eq)]
 pub enum Level {
@@ -46,24 +49,55 @@ pub fn holds(level: Level, byte: u8) -> bool {
     }
 }
 
-/// Stage 7: the level that UNB's element 1 names, its version being ours.
-pub fn named_level(contents: &Contents, body: usize) -> Answer<Level> {
-    let header = contents.segments.first();
-    let components = header.and_then(|header| contents.numbered(header, 1)).unwrap_or(&[]);
-    let is = |number: usize, bytes: &[u8]| {
-        components.get(number).map_or(false, |part| contents.value_is(part, bytes))
-    };
-    let level = if is(0, b"UNOA") {
-        Some(Level::A)
-    } else if is(0, b"UNOB") {
-        Some(Level::B)
-    } else {
-        None
-    };
-    match level {
-        Some(level) if is(1, b"1") || is(1, b"2") => Ok(level),
-        _ => refuse(LEVEL, body),
+/// The versions of the syntax that are ours.
+#[derive(Clone, Copy, Debug, PartialEq, Eq)]
+pub enum Version {
+    One,
+    Two,
+    Four,
+}
+
+/// What UNB's element 1 names.
+#[derive(Clone, Copy, Debug, PartialEq, Eq)]
+pub struct Syntax {
+    pub level: Level,
+    pub version: Version,
+}
+
+fn level_of(name: &[u8]) -> Option<Level> {
+    match name {
+        b"UNOA" => Some(Level::A),
+        b"UNOB" => Some(Level::B),
+        _ => None,
     }
+}
+
+fn version_of(name: &[u8]) -> Option<Version> {
+    match name {
+        b"1" => Some(Version::One),
+        b"2" => Some(Version::Two),
+        b"4" => Some(Version::Four),
+        _ => None,
+    }
+}
+
+/// Stage 7: the level and the version that UNB's element 1 names, both ours,
+/// and no repetition separator unless the version is 4.
+pub fn named_syntax(contents: &Contents, opening: &Opening) -> Answer<Syntax> {
+    let repetition = opening.characters.repetition;
+    match syntax_of(contents) {
+        Some(syntax) if repetition.is_none() || syntax.version == Version::Four => Ok(syntax),
+        _ => refuse(LEVEL, opening.body),
+    }
+}
+
+/// A third component is not judged.
+fn syntax_of(contents: &Contents) -> Option<Syntax> {
+    let components = contents.only_repeat(contents.segments.first()?, 1)?;
+    let value = |number: usize| -> Option<Vec<u8>> {
+        components.get(number).map(|part| contents.bytes(part).collect())
+    };
+    Some(Syntax { level: level_of(&value(0)?)?, version: version_of(&value(1)?)? })
 }
 
 /// Stage 8: every value byte, released ones too, is in the level. The values

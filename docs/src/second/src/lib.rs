@@ -44,3 +44,5 @@ pub mod shelf_lines;
 pub mod standard_examples;
 pub mod trimming;
 pub mod value_list;
+pub mod version_cases;
+pub mod version_checks;

@@ -49,7 +49,7 @@ fn check_pieces() -> Check {
     let other = "UNA;*.! ~UNB*UNOA;1*AA*BB*260105;0930*R1~UNH*1*ORDERS;1;901;UN~\
                  BGM*220*A+B~UNT*3*1~UNZ*1*R1~";
     let open = &X[..75];
-    let rows: [(String, &[usize]); 27] = [
+    let rows: [(String, &[usize]); 33] = [
         (String::new(), &[]),
         (X.into(), &[84]),
         (format!("{X}{X}{X}"), &[84, 84, 84]),
@@ -69,12 +69,13 @@ fn check_pieces() -> Check {
         (format!("{open}{X}{X}"), &[159, 84]),
         // faults 2 to 6: the rest is one piece
         (format!("{X}UNA{X}"), &[84, 87]),
-        (format!("{X}UNA:+.?*'{X}"), &[84, 93]),
+        (format!("{X}UNA:+.?A'{X}{X}"), &[84, 177]),
         (format!("{X}UNZ+1+R1'{X}"), &[84, 93]),
         (format!("{}{X}", x_with("A?+B", "A?B")), &[167]),
         (format!("{}{X}", x_with("BGM", "bgm")), &[168]),
         // 7 to 13 never stop the cutting
         (format!("{}{X}", x_with("UNOA", "UNOC")), &[84, 84]),
+        (format!("{X}UNA:+.?*'{X}{X}"), &[84, 93, 84]),
         (format!("{}{X}", x_with("A?+B", "A?+b")), &[84, 84]),
         (format!("{}{X}", x_with("UNT+3+1'", "UNT+4+1'")), &[84, 84]),
         // the first UNZ, wherever it stands and whatever it has
@@ -86,6 +87,13 @@ fn check_pieces() -> Check {
         ("UNB+?'UNZ'UNZ'UNB+'UNZ'".into(), &[14, 9]),
         ("UNB+UNZ'UNB+UNZ+UNZ'".into(), &[20]),
         ("UNA:+.? ~UNB+'UNZ'~UNZ~UNB+'UNZ'".into(), &[23, 9]),
+        // version 4: each piece has a repetition separator by its own beginning
+        ("UNB+UNOA:4+?*'UNZ'UNB+UNOA:1+*'UNZ'".into(), &[18, 17]),
+        ("UNB+UNOA:4+?*'UNZ'UNB+UNOA:1+?*'UNZ'".into(), &[18, 18]),
+        ("UNB+UNOA:1+?*'UNZ'UNB+UNOA:4+?*'UNZ'".into(), &[36]),
+        ("UNB+UNOA:4'UNZ+1*2'UNB+'UNZ'".into(), &[19, 9]),
+        // a repeat in a tag element is fault 6
+        ("UNB+UNOA:4'BGM*'UNZ'UNB+'UNZ'".into(), &[29]),
     ];
     rows.iter().try_for_each(|(file, lengths)| {
         let found: Vec<usize> = pieces(file.as_bytes()).iter().map(|piece| piece.len()).collect();

@@ -13,7 +13,7 @@ use second::{
 };
 
 const USAGE: &str = "usage: second judge [FILE] | compare FIRST SECOND .. | \
-                     locate SEGMENT ELEMENT COMPONENT FILE.. | respell SERVICE FILE.. | \
+                     locate SEGMENT ELEMENT REPEAT COMPONENT FILE.. | respell SERVICE FILE.. | \
                      report FILE.. | \
                      shelf SIZE [put FILE | get SLOT | remove SLOT | slots - | sums - | \
                      carry - | back -].. | \
@@ -26,8 +26,8 @@ fn main() -> ExitCode {
         ["judge"] => judge(None),
         ["judge", file] => judge(Some(file)),
         ["compare", ref files @ ..] if files.len() % 2 == 0 => compare(files),
-        ["locate", segment, element, component, ref files @ ..] => {
-            locate([segment, element, component], files)
+        ["locate", segment, element, repeat, component, ref files @ ..] => {
+            locate([segment, element, repeat, component], files)
         }
         ["respell", service, ref files @ ..] => respell(service, files),
         ["shelf", size, ref history @ ..] if history.len() % 2 == 0 => shelf(size, history),
@@ -79,12 +79,13 @@ fn compare(files: &[&str]) -> io::Result<ExitCode> {
     Ok(ExitCode::SUCCESS)
 }
 
-fn locate(words: [&str; 3], files: &[&str]) -> io::Result<ExitCode> {
+fn locate(words: [&str; 4], files: &[&str]) -> io::Result<ExitCode> {
     let number = |word: &str| word.parse().map_err(|_| fault("no number"));
-    let [segment, element, component] = words;
+    let [segment, element, repeat, component] = words;
     let numbers = Numbers {
         segment: number(segment)?,
         element: number(element)?,
+        repeat: number(repeat)?,
         component: number(component)?,
     };
     let mut out = BufWriter::new(io::stdout());

@@ -1,7 +1,7 @@
 //! The public operations over lent byte slices.
 //!
 //! Paper, clause "Operations" and the stages and exit buffers of clause
-//! "Refusals by number".
+//! "Refusals by number"; change request 2026-10: Locate has a repeat number.
 
 use crate::contents::{Contents, Part};
 use crate::judging::{accept, Accepted};
@@ -93,11 +93,12 @@ pub fn keep<'a>(first: &'a [u8], second: &'a [u8]) -> Kept<'a> {
     }
 }
 
-/// Numbers of a segment, an element and a component, each from 0.
+/// Numbers of a segment, an element, a repeat and a component, each from 0.
 #[derive(Clone, Copy, Debug, PartialEq, Eq)]
 pub struct Numbers {
     pub segment: u32,
     pub element: u32,
+    pub repeat: u32,
     pub component: u32,
 }
 
@@ -109,7 +110,8 @@ pub fn locate(input: &[u8], numbers: Numbers) -> Answer<Option<Part>> {
 
 fn located(contents: &Contents, numbers: Numbers) -> Option<Part> {
     let segment = contents.segments.get(numbers.segment as usize)?;
-    let components = contents.numbered(segment, numbers.element as usize)?;
+    let repeats = contents.numbered(segment, numbers.element as usize)?;
+    let components = contents.components_of(repeats.get(numbers.repeat as usize)?);
     components.get(numbers.component as usize).copied()
 }
 

@@ -1,4 +1,5 @@
-//! From the bytes of the body to segments, elements and values: stage (4 5 6).
+//! From the bytes of the body to segments, elements, repeats and values: stage
+//! (4 5 6).
 //!
 //! Paper, clause "From bytes to values" and refusals 4, 5 and 6. The body is
 //! read from its start to its end and the first fault answers: a broken tag
@@ -7,6 +8,9 @@
 //!
 //! Change request 2026-01: a segment starts after the breaks that stand behind
 //! the terminator before it. Breaks anywhere else are bytes like any other.
+//!
+//! Change request 2026-10: no repetition separator may follow within a tag
+//! element, as it is spelled.
 
 use crate::contents::{Contents, Part, Segment, ValueKind};
 use crate::line_breaks::after_breaks;
@@ -54,6 +58,8 @@ pub fn read_segment(
 fn kind_after(byte: u8, characters: &ServiceCharacters) -> ValueKind {
     if byte == characters.component {
         ValueKind::NextComponent
+    } else if Some(byte) == characters.repetition {
+        ValueKind::NextRepeat
     } else if byte == characters.element {
         ValueKind::NewElement
     } else {
@@ -99,9 +105,12 @@ fn keeps_tag_rule(contents: &Contents, segment: &Segment) -> bool {
     if tag.len() != 3 || !tag.iter().all(may_stand) {
         return false;
     }
+    let components = match contents.only_repeat(segment, 0) {
+        Some(components) => components.len(),
+        None => return false,
+    };
     if !tag.starts_with(b"UN") {
         return true;
     }
-    let figures = contents.first_element_of(segment).length() > 1;
-    matches!(tag[2], b'B' | b'G' | b'H' | b'S' | b'T' | b'E' | b'Z') && !figures
+    matches!(tag[2], b'B' | b'G' | b'H' | b'S' | b'T' | b'E' | b'Z') && components == 1
 }

@@ -80,8 +80,10 @@ fn table(stream: &mut impl Read) -> io::Result<Vec<u32>> {
 
 fn numbers(stream: &mut impl Read) -> io::Result<Numbers> {
     match table(stream)?[..] {
-        [segment, element, component] => Ok(Numbers { segment, element, component }),
-        _ => Err(malformed("not three numbers")),
+        [segment, element, repeat, component] => {
+            Ok(Numbers { segment, element, repeat, component })
+        }
+        _ => Err(malformed("not four numbers")),
     }
 }
 
@@ -154,5 +156,5 @@ fn table_bytes(table: &[u32]) -> Vec<u8> {
 }
 
 fn number_bytes(numbers: Numbers) -> Vec<u8> {
-    table_bytes(&[numbers.segment, numbers.element, numbers.component])
+    table_bytes(&[numbers.segment, numbers.element, numbers.repeat, numbers.component])
 }

@@ -8,7 +8,7 @@ use crate::break_checks::check_breaks;
 use crate::carrying_checks::check_carrying;
 use crate::either_order::check_either_order;
 use crate::generator::{any_input, any_valid, request, same_contents, Random};
-use crate::level::{holds, Level};
+use crate::level::{holds, Level, Version};
 use crate::mailbox_checks::check_mailbox;
 use crate::normal_form::normal_characters;
 use crate::operations::{
@@ -19,7 +19,8 @@ use crate::refusal::{Answer, Refusal, BUFFER, LONGEST, LONGEST_TABLE};
 use crate::request_stream::{next_request, put_request, Request};
 use crate::section_checks::check_sections;
 use crate::shelf_checks::check_shelf;
-use crate::value_list::{NEW_ELEMENT, NEW_SEGMENT, RECORD};
+use crate::value_list::{NEW_ELEMENT, NEW_SEGMENT, NEXT_REPEAT, RECORD};
+use crate::version_checks::check_versions;
 
 /// How many inputs of each sort are tried.
 const ROUNDS: u64 = 3_000;
@@ -42,6 +43,7 @@ pub fn run() -> Result<usize, String> {
     let mut tried = 0;
     check_levels()?;
     check_sections()?;
+    check_versions()?;
     check_breaks()?;
     check_shelf()?;
     check_carrying()?;
@@ -86,12 +88,22 @@ fn normal_form(input: &[u8]) -> Answer<Vec<u8>> {
     Ok(buffer)
 }
 
+/// The version that UNB names, as Locate finds it.
+fn version_of(input: &[u8]) -> Version {
+    let numbers = Numbers { segment: 0, element: 1, repeat: 0, component: 1 };
+    match spelled(input, numbers).bytes {
+        b"4" => Version::Four,
+        _ => Version::One,
+    }
+}
+
 fn check_normal_form(input: &[u8], verdict: &Verdict) -> Check {
     let form = normal_form(input).map_err(|_| "accepted and not normalised".to_string())?;
     let length = verdict.normal_length;
     ensure(form.len() == length && length <= 2 * input.len() + 9, "normal length", input)?;
     let again = judge(&form);
-    let expected = Verdict { characters: normal_characters(verdict.characters.mark), ..*verdict };
+    let characters = normal_characters(verdict.characters.mark, version_of(input));
+    let expected = Verdict { characters, ..*verdict };
     ensure(again == Ok(expected), "normal form is judged alike", input)?;
     ensure(normal_form(&form) == Ok(form.clone()), "normal form of itself", input)?;
     ensure(compare(input, &form) == Comparison::Same, "same as its normal form", input)?;
@@ -111,7 +123,7 @@ fn check_refused(input: &[u8], refusal: Refusal) -> Check {
     ensure(read(input, &mut bytes, &mut table) == Err(refusal), "read refuses", input)?;
     let unchanged = bytes.iter().all(|&b| b == FILL) && table.iter().all(|&n| n == FILL_NUMBER);
     ensure(unchanged, "buffers after a refusal", input)?;
-    let zero = Numbers { segment: 0, element: 0, component: 0 };
+    let zero = Numbers { segment: 0, element: 0, repeat: 0, component: 0 };
     ensure(locate(input, zero) == Err(refusal), "locate refuses", input)?;
     let part = spelled(input, zero);
     ensure(part.offset == 0 && part.bytes.is_empty(), "nothing spelled", input)?;
@@ -148,7 +160,7 @@ fn check_read(input: &[u8], verdict: &Verdict) -> Check {
     check_read_buffers(input, &list)?;
     check_located(input, &list, verdict)?;
     let mut output = vec![FILL; LONGEST];
-    let six = normal_characters(verdict.characters.mark).six();
+    let six = normal_characters(verdict.characters.mark, version_of(input)).six();
     let length = write(&six, &list.bytes, &list.table, &mut output);
     ensure(length == Ok(verdict.normal_length), "written list's length", input)?;
     let text = &output[..verdict.normal_length];
@@ -175,15 +187,9 @@ fn check_read_buffers(input: &[u8], list: &Stored) -> Check {
 
 /// What Locate finds is spelled as Read read it; at most some 200 records.
 fn check_located(input: &[u8], list: &Stored, verdict: &Verdict) -> Check {
-    let mut numbers = Numbers { segment: u32::MAX, element: 0, component: 0 };
+    let mut numbers = Numbers { segment: u32::MAX, element: 0, repeat: 0, component: 0 };
     for record in list.table.chunks(RECORD).take(200) {
-        numbers = match record[0] {
-            NEW_SEGMENT => {
-                Numbers { segment: numbers.segment.wrapping_add(1), element: 0, component: 0 }
-            }
-            NEW_ELEMENT => Numbers { element: numbers.element + 1, component: 0, ..numbers },
-            _ => Numbers { component: numbers.component + 1, ..numbers },
-        };
+        numbers = numbers_after(numbers, record[0]);
         let part = spelled(input, numbers);
         let value = &list.bytes[record[1] as usize..(record[1] + record[2]) as usize];
         let found = unreleased(part.bytes, verdict.characters.release) == value;
@@ -192,13 +198,29 @@ fn check_located(input: &[u8], list: &Stored, verdict: &Verdict) -> Check {
         let range = part.offset..part.offset + part.bytes.len();
         ensure(located.map(|at| at.range()) == Some(range), "companion", input)?;
     }
-    let beyond = Numbers { segment: verdict.segments as u32, element: 0, component: 0 };
+    let beyond = Numbers { segment: verdict.segments as u32, element: 0, repeat: 0, component: 0 };
     ensure(locate(input, beyond) == Ok(None), "absent segment", input)?;
     if list.table.len() <= 200 * RECORD {
         let next = Numbers { component: numbers.component + 1, ..numbers };
         ensure(locate(input, next) == Ok(None), "absent component", input)?;
+        let next = Numbers { repeat: numbers.repeat + 1, component: 0, ..numbers };
+        ensure(locate(input, next) == Ok(None), "absent repeat", input)?;
     }
     Ok(())
+}
+
+/// The numbers of the value that comes after these by a record of this kind;
+/// the first record comes after the last segment number there is.
+fn numbers_after(last: Numbers, kind: u32) -> Numbers {
+    match kind {
+        NEW_SEGMENT => {
+            let segment = last.segment.wrapping_add(1);
+            Numbers { segment, element: 0, repeat: 0, component: 0 }
+        }
+        NEW_ELEMENT => Numbers { element: last.element + 1, repeat: 0, component: 0, ..last },
+        NEXT_REPEAT => Numbers { repeat: last.repeat + 1, component: 0, ..last },
+        _ => Numbers { component: last.component + 1, ..last },
+    }
 }
 
 fn unreleased(spelled: &[u8], release: Option<u8>) -> Vec<u8> {

@@ -190,18 +190,20 @@ fn check_start() -> Check {
 }
 
 /// Texts in any order of slots, at the smallest size and at any other, under
-/// either mark.
+/// either mark, and of version 4.
 fn check_sound_shelves() -> Check {
     let (x, one, two) = (normal_form(X.as_bytes()), normal_form(&small(1)), normal_form(&small(2)));
     let comma = normal_form(&[b"UNA:+,? '", X.as_bytes()].concat());
+    let four = b"UNA:+.?*'UNB+UNOA:4+A*?*+++1'UNH+1'UNT+2+1'UNZ+1+1'";
     ensure(x.len() == 93 && one.len() == 47 && comma.len() == 93, "the texts")?;
-    let rows: [&[(usize, &[u8])]; 6] = [
+    let rows: [&[(usize, &[u8])]; 7] = [
         &[(0, &x)],
         &[(63, &x)],
         &[(3, &x), (0, &one)],
         &[(0, &one), (3, &x), (1, &two)],
         &[(63, &two), (62, &one), (0, &x), (7, &comma)],
         &[(5, &comma), (6, &x)],
+        &[(9, &four[..]), (8, &one)],
     ];
     for texts in rows {
         let needed = texts.iter().map(|(_, text)| text.len()).sum::<usize>() + SMALLEST;
@@ -273,6 +275,7 @@ fn check_unsound_shelves() -> Check {
     let respelled = b"UNA;*.! ~UNB*UNOA;1****1~UNH*1~UNT*2*1~UNZ*1*1~";
     let padded = b"UNA:+.? 'UNB+UNOA:1++++1'UNH+1+'UNT+2+1'UNZ+1+1'";
     let section = b"UNA:+.? 'UNB+UNOA:1++++1'UNH+1'UNS+D'UNS+D'UNT+4+1'UNZ+1+1'";
+    let fifth_byte = b"UNA:+.? 'UNB+UNOA:4++++1'UNH+1'UNT+2+1'UNZ+1+1'";
     let unsound = [
         ("a version 1 shelf", version_1(1_000, &both)),
         ("an empty version 1 shelf", version_1(1_000, &[])),
@@ -347,12 +350,13 @@ fn check_unsound_shelves() -> Check {
         ("a normal form and breaks", laid_out(1_000, &[(0, &two_breaks)])),
         ("another spelling", laid_out(1_000, &[(0, respelled)])),
         ("a spelling with empty ends", laid_out(1_000, &[(0, padded)])),
+        ("version 4 and a space as fifth byte", laid_out(1_000, &[(0, fifth_byte)])),
         ("a text refused by the rules as they stand", laid_out(1_000, &[(0, section)])),
         ("a text of no interchange", laid_out(1_000, &[(0, b"A")])),
     ];
     let by_section = judge(section).map_err(|refusal| refusal.number);
     ensure(by_section == Err(ORDER), "a D twice")?;
-    for accepted in [&two_breaks[..], respelled, padded] {
+    for accepted in [&two_breaks[..], respelled, padded, fifth_byte] {
         ensure(judge(accepted).is_ok(), "accepted, and no normal form")?;
     }
     unsound.iter().try_for_each(|(why, shelf)| check_unsound(shelf, why))

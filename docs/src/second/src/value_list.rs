@@ -2,8 +2,8 @@
 //! from records to segments and back.
 //!
 //! Paper, clause "Operations" (Read, Write) and refusals 15 and 16; change
-//! request 2026-01: no segment of a list may begin with a break. Records are
-//! numbered from 0.
+//! request 2026-01: no segment of a list may begin with a break; change request
+//! 2026-10: kind 3, a next repeat's first value. Records are numbered from 0.
 
 use crate::contents::{Contents, Part, ValueKind};
 use crate::line_breaks::is_break;
@@ -16,6 +16,9 @@ pub const RECORD: usize = 3;
 pub const NEW_SEGMENT: u32 = 0;
 pub const NEW_ELEMENT: u32 = 1;
 pub const NEXT_COMPONENT: u32 = 2;
+pub const NEXT_REPEAT: u32 = 3;
+
+const HIGHEST_KIND: u32 = NEXT_REPEAT;
 
 #[derive(Clone, Copy, Debug, PartialEq, Eq)]
 pub struct Record {
@@ -33,7 +36,7 @@ impl Record {
         let first_is_no_segment = number == 0 && self.kind != NEW_SEGMENT;
         let end = u64::from(self.start) + u64::from(self.length);
         first_is_no_segment
-            || self.kind > NEXT_COMPONENT
+            || self.kind > HIGHEST_KIND
             || end > values.len() as u64
             || self.begins_segment_with_break(values)
     }
@@ -62,20 +65,21 @@ pub fn records_of(table: &[u32], values: &[u8]) -> Answer<Vec<Record>> {
     }
 }
 
-/// Refusal 16: a value holds a service character and there is no release.
+/// Refusal 16: a value holds a service character and there is no release, or a
+/// record begins a next repeat and there is no repetition separator.
 pub fn check_spellable(
     records: &[Record],
     values: &[u8],
     characters: &ServiceCharacters,
 ) -> Answer<()> {
-    if characters.release.is_some() {
-        return Ok(());
-    }
-    let holds_service = |record: &Record| {
+    let cannot_release = |record: &Record| {
         let value = record.part().of(values);
-        value.iter().any(|&byte| characters.is_service(byte))
+        characters.release.is_none() && value.iter().any(|&byte| characters.is_service(byte))
     };
-    match records.iter().position(holds_service) {
+    let cannot_repeat =
+        |record: &Record| characters.repetition.is_none() && record.kind == NEXT_REPEAT;
+    let faulty = records.iter().position(|record| cannot_repeat(record) || cannot_release(record));
+    match faulty {
         Some(number) => refuse(NO_RELEASE, number),
         None => Ok(()),
     }
@@ -89,7 +93,8 @@ pub fn contents_of<'a>(records: &[Record], values: &'a [u8]) -> Contents<'a> {
         let kind = match record.kind {
             NEW_SEGMENT => ValueKind::NewSegment,
             NEW_ELEMENT => ValueKind::NewElement,
-            _ => ValueKind::NextComponent,
+            NEXT_COMPONENT => ValueKind::NextComponent,
+            _ => ValueKind::NextRepeat,
         };
         contents.add(kind, record.part());
     }
@@ -100,19 +105,29 @@ pub fn contents_of<'a>(records: &[Record], values: &'a [u8]) -> Contents<'a> {
 pub fn list_of(contents: &Contents) -> (Vec<u8>, Vec<u32>) {
     let mut bytes: Vec<u8> = Vec::new();
     let mut table: Vec<u32> = Vec::new();
-    for segment in &contents.segments {
-        for (element_number, element) in contents.elements_of(segment).iter().enumerate() {
-            for (number, part) in contents.components_of(element).iter().enumerate() {
-                let kind = match (element_number, number) {
-                    (0, 0) => NEW_SEGMENT,
-                    (_, 0) => NEW_ELEMENT,
-                    _ => NEXT_COMPONENT,
-                };
-                let start = bytes.len();
-                bytes.extend(contents.bytes(part));
-                table.extend([kind, start as u32, (bytes.len() - start) as u32]);
-            }
-        }
+    for (kind, part) in kinds_and_parts(contents) {
+        let start = bytes.len();
+        bytes.extend(contents.bytes(part));
+        table.extend([kind, start as u32, (bytes.len() - start) as u32]);
     }
     (bytes, table)
+}
+
+/// Every value of the list with the kind of its record, in the list's order.
+fn kinds_and_parts<'a>(contents: &'a Contents) -> Vec<(u32, &'a Part)> {
+    let mut found = Vec::new();
+    for segment in &contents.segments {
+        let mut kind = NEW_SEGMENT;
+        for element in contents.elements_of(segment) {
+            for repeat in contents.repeats_of(element) {
+                for part in contents.components_of(repeat) {
+                    found.push((kind, part));
+                    kind = NEXT_COMPONENT;
+                }
+                kind = NEXT_REPEAT;
+            }
+            kind = NEW_ELEMENT;
+        }
+    }
+    found
 }

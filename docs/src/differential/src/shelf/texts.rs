@@ -7,7 +7,7 @@ use second::generator::{any_input, any_valid, same_contents, with_breaks, Draft,
 use second::level::Level;
 use second::operations::{judge, normalise};
 use second::refusal::LONGEST;
-use second::service_characters::PRINTABLE;
+use second::service_characters::{PRINTABLE, PRINTABLE_4};
 
 /// How an input spells its text.
 pub const NORMAL: &str = "the normal form itself";
@@ -42,11 +42,11 @@ pub struct Pool {
 const SMALL: usize = 110;
 const MIDDLE: usize = 24;
 
-type Segment = Vec<Vec<Vec<u8>>>;
+type Segment = Vec<Vec<Vec<Vec<u8>>>>;
 
 /// A segment whose elements have one value each.
 fn segment(values: &[&str]) -> Segment {
-    values.iter().map(|value| vec![value.as_bytes().to_vec()]).collect()
+    values.iter().map(|value| vec![vec![value.as_bytes().to_vec()]]).collect()
 }
 
 /// An interchange of one message, the text of which has some 50 bytes.
@@ -54,17 +54,22 @@ fn small_draft(random: &mut Random, number: usize) -> Draft {
     let width = random.pick(&[3, 3, 3, 4, 5, 14]);
     let reference = format!("{number:0width$}");
     let mut header = segment(&["UNB", "UNOA", "", "", "", &reference]);
-    header[1].push(random.pick(&["1", "2"]).into());
+    let version = random.pick(&["1", "2", "4"]);
+    header[1][0].push(version.into());
     let mut segments = vec![header, segment(&["UNH", "1"])];
     if random.chance(30) {
         let length = random.pick(&[1, 5, 12]);
         let value = "+:?'A".chars().cycle().take(length).collect::<String>();
-        segments.push(segment(&["BGM", &value]));
+        let mut order = segment(&["BGM", &value]);
+        if version == "4" && random.chance(50) {
+            order[1].push(vec![b"A*B".to_vec()]);
+        }
+        segments.push(order);
     }
     let count = segments.len().to_string();
     segments.extend([segment(&["UNT", &count, "1"]), segment(&["UNZ", "1", &reference])]);
     let comma = random.chance(20);
-    let mut characters = PRINTABLE;
+    let mut characters = if version == "4" { PRINTABLE_4 } else { PRINTABLE };
     characters.mark = if comma { b',' } else { b'.' };
     Draft { characters, advice: comma, level: Level::A, segments }
 }
@@ -76,7 +81,7 @@ fn long_draft(bytes: usize) -> Draft {
     draft.segments.insert(2, segment(&["FTX", &value]));
     let count = (draft.segments.len() - 2).to_string();
     let trailer = draft.segments.len() - 2;
-    draft.segments[trailer][1][0] = count.into();
+    draft.segments[trailer][1][0][0] = count.into();
     draft
 }
 
@@ -92,7 +97,7 @@ fn text(random: &mut Random, draft: &Draft) -> Text {
     let form = normal_form(&plain);
     let mut padded = draft.clone();
     let last = padded.segments.len() - 1;
-    padded.segments[random.between(1, last)].push(vec![Vec::new(); 2]);
+    padded.segments[random.between(1, last)].push(vec![vec![Vec::new(); 2]]);
     let mut spellings = vec![
         Spelling { input: form.clone(), name: NORMAL },
         Spelling { input: with_breaks(random, &form).input, name: BREAKS },

@@ -28,8 +28,8 @@ pub struct Verdict {
     pub mark: u8,
     /// The release character, a space where there is none.
     pub release: u8,
-    /// The reserved byte, a space.
-    pub reserved: u8,
+    /// The repetition separator, a space where there is none.
+    pub repetition: u8,
     /// The segment terminator.
     pub terminator: u8,
 }

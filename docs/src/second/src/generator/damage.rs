@@ -1,11 +1,14 @@
 //! Damages: each aims at one refusal number, on the draft or on its bytes.
 //!
 //! Paper, clause "Refusals by number", numbers 2 to 12; the long inputs of 1
-//! and 13 stand in `limits`.
+//! and 13 stand in `limits`. Change request 2026-10: repeats in tags, in control
+//! elements, in UNB's and UNS's first elements, other versions and other fifth
+//! bytes. Under a space as fifth byte the repeats become plain asterisks.
 
-use super::draft::{single, Draft, DraftSegment, Value};
+use super::draft::{single, tag_of, Draft, DraftElement, DraftSegment, Value};
 use super::random::Random;
 use crate::level::{holds, Level};
+use crate::service_characters::{from_six, ServiceCharacters};
 
 const HEADERS: [&str; 3] = ["UNB", "UNG", "UNH"];
 const TRAILERS: [&str; 3] = ["UNT", "UNE", "UNZ"];
@@ -46,14 +49,15 @@ fn damage_tag(random: &mut Random, draft: &mut Draft) {
     if number >= draft.segments.len() {
         return;
     }
-    let mut tag = draft.segments[number][0][0].clone();
-    match random.below(7) {
+    let mut tag = tag_of(&draft.segments[number]).clone();
+    match random.below(8) {
         0 => tag.push(b'A'),
         1 => drop(tag.pop()),
         2 => tag.clear(),
         3 => tag = random.pick(&["UNA", "UNX", "UN0", "UNb", "bgm", "B M", "B+M"]).into(),
         4 => tag.make_ascii_lowercase(),
-        5 => draft.segments[number][0].push(random.pick(&["", "1"]).into()),
+        5 => draft.segments[number][0][0].push(random.pick(&["", "1"]).into()),
+        6 => put_repeat(random, &mut draft.segments[number][0]),
         _ => {
             let place = random.below(tag.len());
             tag.truncate(place);
@@ -61,26 +65,56 @@ fn damage_tag(random: &mut Random, draft: &mut Draft) {
             tag.resize(3, b'A');
         }
     }
-    draft.segments[number][0][0] = tag;
+    draft.segments[number][0][0][0] = tag;
+}
+
+/// A repeat more, empty or not, at the end or before it.
+fn put_repeat(random: &mut Random, element: &mut DraftElement) {
+    let repeat = random.pick(&[&[""][..], &["1"], &["X"], &["", ""], &["", "1"], &["1", "2"]]);
+    let repeat = repeat.iter().map(|&value| value.into()).collect();
+    let place = if random.chance(75) { element.len() } else { random.below(element.len()) };
+    element.insert(place, repeat);
 }
 
 fn damage_level(random: &mut Random, draft: &mut Draft) {
-    let header = &mut draft.segments[0];
-    if header.len() < 2 {
+    if draft.segments[0].len() < 2 {
         return;
     }
-    match random.below(4) {
+    let header = &mut draft.segments[0];
+    let names = &mut header[1][0];
+    match random.below(8) {
         0 => {
             let levels = ["UNOC", "UNO", "UNOAA", "unoa", "", "UNOa", "UNO:", " UNOA", "UNOA "];
-            header[1][0] = random.pick(&levels).into();
+            names[0] = random.pick(&levels).into();
         }
-        1 => {
-            let versions = ["0", "3", "01", "", "12", " 1", "1 ", "+", "a"];
-            header[1].resize(2, Vec::new());
-            header[1][1] = random.pick(&versions).into();
+        1 | 2 => {
+            let versions = [
+                "0", "3", "01", "", "12", " 1", "1 ", "+", "a", "1", "2", "4", "4", "44", "41",
+                "04", "4 ", "*", "4*",
+            ];
+            names.resize(2, Vec::new());
+            names[1] = random.pick(&versions).into();
         }
-        2 => header[1].truncate(1),
-        _ => header.truncate(random.between(1, 2)),
+        3 => names.truncate(1),
+        4 => header.truncate(random.between(1, 2)),
+        5 => put_repeat(random, &mut header[1]),
+        6 => {
+            names.resize(2, Vec::new());
+            names[0] = random.pick(&["UNOC", "UNOY", "UNO", "UNOA*"]).into();
+            names[1] = b"4".to_vec();
+        }
+        _ => damage_repetition(random, draft),
+    }
+}
+
+/// An advice with another fifth byte: a space, or one that serves.
+fn damage_repetition(random: &mut Random, draft: &mut Draft) {
+    draft.advice = true;
+    let other = random.pick(b" **;!~\x1f");
+    let repetition = (other != b' ').then_some(other);
+    let characters = ServiceCharacters { repetition, ..draft.characters };
+    if from_six(&characters.six()).is_some() {
+        draft.characters = characters;
     }
 }
 
@@ -89,8 +123,9 @@ fn damage_byte(random: &mut Random, draft: &mut Draft) {
     let segment = &mut draft.segments[number];
     let least = if segment.len() > 1 { 1 } else { 0 };
     let element = random.between(least, segment.len() - 1);
-    let component = random.below(segment[element].len());
-    let value = &mut segment[element][component];
+    let repeat = random.below(segment[element].len());
+    let component = random.below(segment[element][repeat].len());
+    let value = &mut segment[element][repeat][component];
     let outside: Vec<u8> = (0..=255u8).filter(|&byte| !holds(draft.level, byte)).collect();
     let near = b"#$@[]^_`{|}~\x00\x1b\x1c\x1d\x1e\x1f\n\x7f\x80\xff";
     let service = draft.characters.six();
@@ -129,12 +164,17 @@ fn damage_order(random: &mut Random, draft: &mut Draft) {
 /// What stands in a UNS after its tag, more often a section than not.
 fn any_marker(random: &mut Random) -> DraftSegment {
     let value = random.pick(&["D", "D", "D", "S", "S", "S", "", "X", "DS", "D ", " S", "?"]);
-    match random.below(12) {
+    match random.below(14) {
         0 => Vec::new(),
-        1 => vec![vec![value.into(), random.pick(&["S", "D", ""]).into()]],
+        1 => vec![vec![vec![value.into(), random.pick(&["S", "D", ""]).into()]]],
         2 => vec![single(""), single(value)],
-        3 => vec![vec![Vec::new(), value.into()]],
+        3 => vec![vec![vec![Vec::new(), value.into()]]],
         4 => vec![single(value), single("X")],
+        5 | 6 => {
+            let mut element = single(value);
+            put_repeat(random, &mut element);
+            vec![element]
+        }
         _ => vec![single(value)],
     }
 }
@@ -165,9 +205,9 @@ fn recount(draft: &mut Draft) {
     let mut first = 0;
     for number in 0..draft.segments.len() {
         let segment = &mut draft.segments[number];
-        if segment[0][0] == b"UNH" {
+        if tag_of(segment) == b"UNH" {
             first = number;
-        } else if segment[0][0] == b"UNT" && segment.len() > 1 {
+        } else if tag_of(segment) == b"UNT" && segment.len() > 1 {
             segment[1] = single((number - first + 1).to_string());
         }
     }
@@ -196,22 +236,26 @@ fn damage_control(random: &mut Random, draft: &mut Draft) {
         None => return,
     };
     let segment = &mut draft.segments[number];
-    let place = if of_count { 1 } else { reference_number(&segment[0][0]) };
+    let place = if of_count { 1 } else { reference_number(tag_of(segment)) };
     if random.chance(20) || segment.len() <= place {
         segment.truncate(random.between(1, place));
         return;
     }
-    let element = &mut segment[place];
+    if random.chance(25) {
+        put_repeat(random, &mut segment[place]);
+        return;
+    }
+    let components = &mut segment[place][0];
     match random.below(6) {
-        0 => element.push(b"1".to_vec()),
-        1 => element.insert(0, Vec::new()),
-        2 => element[0].clear(),
-        3 => element.push(Vec::new()),
+        0 => components.push(b"1".to_vec()),
+        1 => components.insert(0, Vec::new()),
+        2 => components[0].clear(),
+        3 => components.push(Vec::new()),
         4 if of_count => {
             let counts = ["1A", "-1", "+1", " 1", "1 ", "1.0", "0000001", "1000000", "1:", "?"];
-            element[0] = random.pick(&counts).into();
+            components[0] = random.pick(&counts).into();
         }
-        _ => lengthen(random, &mut element[0], if of_count { 7 } else { 15 }),
+        _ => lengthen(random, &mut components[0], if of_count { 7 } else { 15 }),
     }
 }
 
@@ -230,9 +274,9 @@ fn damage_reference(random: &mut Random, draft: &mut Draft) {
         None => return,
     };
     let segment = &mut draft.segments[number];
-    let place = reference_number(&segment[0][0]);
+    let place = reference_number(tag_of(segment));
     let value = match segment.get_mut(place) {
-        Some(element) => &mut element[0],
+        Some(element) => &mut element[0][0],
         None => return,
     };
     match random.below(5) {
@@ -253,18 +297,18 @@ fn damage_count(random: &mut Random, draft: &mut Draft) {
         Some(number) => number,
         None => return,
     };
-    let element = match draft.segments[number].get_mut(1) {
-        Some(element) => element,
+    let value = match draft.segments[number].get_mut(1) {
+        Some(element) => &mut element[0][0],
         None => return,
     };
-    let count: i64 = String::from_utf8_lossy(&element[0]).parse().unwrap_or(1);
+    let count: i64 = String::from_utf8_lossy(value).parse().unwrap_or(1);
     let wrong = match random.below(5) {
         0 | 1 => (count + 1).to_string(),
         2 => (count - 1).max(0).to_string(),
         3 => random.pick(&["0", "00", "000000", "999999", "10", "100000"]).to_string(),
         _ => format!("{:06}", count + 1),
     };
-    element[0] = wrong.into_bytes();
+    *value = wrong.into_bytes();
     if random.chance(20) {
         lengthen_reference(random, &mut draft.segments[number]);
     }
@@ -274,7 +318,7 @@ fn damage_count(random: &mut Random, draft: &mut Draft) {
 fn lengthen_reference(random: &mut Random, trailer: &mut DraftSegment) {
     if let Some(element) = trailer.get_mut(2) {
         let byte = random.pick(b"AB");
-        element[0].extend(vec![byte; random.pick(&[1, 1, 1, 14])]);
+        element[0][0].extend(vec![byte; random.pick(&[1, 1, 1, 14])]);
     }
 }
 
@@ -286,11 +330,13 @@ fn damage_advice(random: &mut Random, input: &mut Vec<u8>) {
         return;
     }
     let place = random.between(3, 8);
-    match random.below(4) {
+    match random.below(6) {
         0 => input.truncate(random.between(3, 8)),
         1 => input[place] = input[random.between(3, 8)],
         2 => input[place] = random.pick(b"A0z \x1b\x1e\x20\x7f\x80.,;\x00"),
-        _ => drop(input.remove(place)),
+        3 => drop(input.remove(place)),
+        4 => input[7] = input[random.between(3, 8)],
+        _ => input[7] = random.pick(b"A0z \x1b\x1d\x1e\x7f\x80.,;*\x00"),
     }
 }
 
@@ -315,10 +361,11 @@ fn damage_release(random: &mut Random, draft: &Draft, input: &mut Vec<u8>) {
         return;
     }
     let place = random.between(body, input.len());
-    match random.below(4) {
+    match random.below(5) {
         0 => input.insert(place, release),
         1 => drop(input.splice(place..place, [release, b'A'])),
         2 => input.push(release),
+        3 => drop(input.splice(place..place, [release, b'*'])),
         _ => drop(input.splice(place..place, [release, draft.characters.mark])),
     }
 }

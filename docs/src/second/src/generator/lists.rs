@@ -1,11 +1,12 @@
 //! Value lists for Write: true ones in several layouts, and faulty ones.
 //!
 //! Paper, clause "Operations" (Read, Write) and refusals 15 and 16; change
-//! request 2026-01: no segment of a list may begin with a break.
+//! request 2026-01: no segment of a list may begin with a break; change request
+//! 2026-10: kind 3.
 
-use super::draft::Draft;
+use super::draft::{Draft, Value};
 use super::random::Random;
-use crate::value_list::{NEW_ELEMENT, NEW_SEGMENT, NEXT_COMPONENT, RECORD};
+use crate::value_list::{NEW_ELEMENT, NEW_SEGMENT, NEXT_COMPONENT, NEXT_REPEAT, RECORD};
 
 #[derive(Clone, Debug, Default)]
 pub struct List {
@@ -44,23 +45,35 @@ pub fn list_of_draft(random: &mut Random, draft: &Draft) -> List {
     let small = draft.segments.len() < 50;
     let layout = if small { random.pick(&layouts) } else { Layout::EndToEnd };
     let mut list = List::default();
-    for segment in &draft.segments {
-        for (element_number, element) in segment.iter().enumerate() {
-            for (component_number, value) in element.iter().enumerate() {
-                let kind = match (element_number, component_number) {
-                    (0, 0) => NEW_SEGMENT,
-                    (_, 0) => NEW_ELEMENT,
-                    _ => NEXT_COMPONENT,
-                };
-                let start = place_value(random, &mut list, layout, value);
-                list.push(kind, start, value.len());
-            }
-        }
+    for (kind, value) in kinds_and_values(draft) {
+        let start = place_value(random, &mut list, layout, value);
+        list.push(kind, start, value.len());
     }
     if random.chance(20) {
         list.values.extend(random.bytes(3));
     }
     list
+}
+
+/// Every value of the draft with the kind of its record.
+fn kinds_and_values(draft: &Draft) -> Vec<(u32, &Value)> {
+    let mut found = Vec::new();
+    for segment in &draft.segments {
+        for (element_number, element) in segment.iter().enumerate() {
+            for (repeat_number, repeat) in element.iter().enumerate() {
+                for (component_number, value) in repeat.iter().enumerate() {
+                    let kind = match (element_number, repeat_number, component_number) {
+                        (0, 0, 0) => NEW_SEGMENT,
+                        (_, 0, 0) => NEW_ELEMENT,
+                        (_, _, 0) => NEXT_REPEAT,
+                        _ => NEXT_COMPONENT,
+                    };
+                    found.push((kind, value));
+                }
+            }
+        }
+    }
+    found
 }
 
 /// Puts a value among the bytes and gives its start.
@@ -91,10 +104,10 @@ fn place_value(random: &mut Random, list: &mut List, layout: Layout, value: &[u8
 
 /// A list of few records with any kinds and parts.
 pub fn random_list(random: &mut Random) -> List {
-    let values = b"UNBUNOA1+:'?R ".to_vec();
+    let values = b"UNBUNOA14*+:'?R ".to_vec();
     let mut list = List { values, table: Vec::new() };
     for number in 0..random.below(8) {
-        let kind = if number == 0 { 0 } else { random.below(3) as u32 };
+        let kind = if number == 0 { 0 } else { random.below(4) as u32 };
         let start = random.below(list.values.len());
         let length = random.below(list.values.len() - start + 1);
         list.push(kind, start, length.min(3));
@@ -121,7 +134,8 @@ fn put_break(random: &mut Random, list: &mut List) {
         0 => (record[1], record[2]) = (start as u32, 0),
         1 => {
             record[2] = 0;
-            let next = [NEXT_COMPONENT, start as u32, value.len() as u32];
+            let kind = random.pick(&[NEXT_COMPONENT, NEXT_COMPONENT, NEXT_REPEAT, NEW_ELEMENT]);
+            let next = [kind, start as u32, value.len() as u32];
             list.table.splice((number + 1) * RECORD..(number + 1) * RECORD, next);
         }
         _ => (record[1], record[2]) = (start as u32, value.len() as u32),
@@ -145,8 +159,8 @@ fn break_once(random: &mut Random, list: &mut List) {
         3 => list.table.clear(),
         _ if list.table.len() < number + RECORD => {}
         8..=10 => put_break(random, list),
-        4 => list.table[0] = random.pick(&[1, 2, 3, u32::MAX]),
-        5 => list.table[number] = random.pick(&[3, 4, 1 << 31, u32::MAX, 2, 1, 0]),
+        4 => list.table[0] = random.pick(&[1, 2, 3, 4, u32::MAX]),
+        5 => list.table[number] = random.pick(&[3, 3, 4, 4, 5, 1 << 31, u32::MAX, 2, 1, 0]),
         6 => {
             list.table[number + 1] =
                 random.pick(&[byte_count, byte_count + 1, u32::MAX, 1 << 31, 0])
@@ -171,10 +185,11 @@ fn break_once(random: &mut Random, list: &mut List) {
     }
 }
 
-/// Adds empty components to the end until the table has so many numbers.
-pub fn fill_table(list: &mut List, numbers: usize) {
+/// Adds empty values of this kind to the end until the table has so many
+/// numbers.
+pub fn fill_table(list: &mut List, kind: u32, numbers: usize) {
     while list.table.len() + RECORD <= numbers {
-        list.push(NEXT_COMPONENT, 0, 0);
+        list.push(kind, 0, 0);
     }
     while list.table.len() < numbers {
         list.table.push(0);

@@ -5,13 +5,13 @@
 
 use super::breaks::{filled_with_breaks, with_breaks};
 use super::damage::damage_anywhere;
-use super::draft::{respelled, usable_characters, valid_draft};
+use super::draft::{any_version, respelled, single, usable_characters, valid_draft};
 use super::limits::{long_draft, long_input, Measure};
 use super::random::Random;
 use super::{any_input, any_valid, damaged_after_cutting, spelled};
 use crate::operations::normalise;
 use crate::refusal::LONGEST;
-use crate::service_characters::PRINTABLE;
+use crate::service_characters::{PRINTABLE, PRINTABLE_4};
 
 const LONGEST_FILE: usize = 65_536;
 
@@ -88,7 +88,8 @@ fn normal_form(random: &mut Random) -> Vec<u8> {
     form
 }
 
-/// UNZ at every place: with no elements, twice, in a message, right behind UNB.
+/// UNZ at every place: with no elements, twice, in a message, right behind UNB,
+/// with repeats. The last few stop the cutting.
 fn trailers(random: &mut Random) -> Vec<u8> {
     let words = [
         "UNB+'UNZ'",
@@ -100,13 +101,20 @@ fn trailers(random: &mut Random) -> Vec<u8> {
         "UNA:+.? 'UNB+UNOA:1++++1'UNZ'",
         "UNA:+.? '\nUNB+'\nUNZ'\n",
         "UNB\x1d\x1cUNZ\x1c",
+        "UNB+UNOA:4++++1'UNH+1'UNT+2+1'UNZ+1+1*'",
+        "UNB+UNOB:4+A*B'UNZ+*'",
+        "UNA:+.?*'UNB+UNOA:1+?*'UNZ'",
+        "UNA:+.?*'UNB+UNOA:4++++1'UNH+1'UNT+2+1'UNZ*'UNZ+1+1'",
         "UNZ'",
         "UNZ:1'",
         "UNB+'UNZ:1'UNZ'",
+        "UNB+UNOA:4'UNZ*'UNZ'",
+        "UNB+UNOA:1+?*'UNZ'",
     ];
+    let stopping = 6;
     let most = random.pick(&[1, 2, 5, 12]);
     let count = random.between(1, most);
-    let last = if random.chance(85) { 9 } else { words.len() };
+    let last = if random.chance(85) { words.len() - stopping } else { words.len() };
     (0..count).flat_map(|_| words[random.below(last)].bytes()).collect()
 }
 
@@ -118,7 +126,7 @@ fn with_hidden_trailers(random: &mut Random) -> Vec<u8> {
         let mut draft = valid_draft(random);
         let value = random.pick(&["'UNZ+1+1'", "~UNZ~", "UNZ", "'UNZ'", "'", "?'UNZ'", "'UNZ"]);
         let number = random.below(draft.segments.len());
-        draft.segments[number].extend([vec![value.into()], vec![value.into()]]);
+        draft.segments[number].extend([single(value), single(value)]);
         let other = respelled(random, &draft);
         file.extend(spelled(random, &other));
     }
@@ -141,11 +149,13 @@ fn alike(random: &mut Random) -> Vec<u8> {
 fn with_long_piece(random: &mut Random) -> Vec<u8> {
     let before = random.below(3);
     let mut file = pieces(random, before);
-    let advised = usable_characters(random);
+    let version = any_version(random);
+    let advised = usable_characters(random, version);
+    let printable = random.pick(&[PRINTABLE, PRINTABLE, PRINTABLE_4]);
     let target = random.pick(&[31_990, 32_000, 32_001, 32_002, 36_000, 50_000]);
     let long = match random.below(5) {
         0 => long_input(random),
-        1 => long_draft(random, PRINTABLE, false, Measure::Text, target).spelled(),
+        1 => long_draft(random, printable, false, Measure::Text, target).spelled(),
         2 => long_draft(random, advised, true, Measure::Text, target).spelled(),
         3 => {
             let input = any_valid(random).spelled();

@@ -1,8 +1,9 @@
 //! The generator: seeded pseudo-random requests that aim at every rule.
 //!
-//! Paper, clauses "Operations" and "Refusals by number"; change request
-//! 2026-01, "Line breaks between segments". Most inputs are small; about one in
-//! a hundred is about a limit. About one in three has line breaks.
+//! Paper, clauses "Operations" and "Refusals by number"; change requests
+//! 2026-01, "Line breaks between segments", and 2026-10, "Syntax version 4".
+//! Most inputs are small; about one in a hundred is about a limit. About one in
+//! three has line breaks, and one in three is of version 4.
 
 mod breaks;
 mod damage;
@@ -22,14 +23,15 @@ use crate::cases::all_cases;
 use crate::operations::{self, Numbers};
 use crate::refusal::BUFFER;
 use crate::request_stream::{put_request, Request};
+use crate::value_list::{NEXT_COMPONENT, NEXT_REPEAT};
 use breaks::with_misplaced_breaks;
 use damage::{damage_anywhere, damage_bytes, damage_draft, is_done_to_draft, AIMS};
-use draft::{pad, respelled, usable_characters, valid_draft};
+use draft::{any_version, pad, respelled, single, usable_characters, valid_draft};
 use limits::{long_draft, long_input, Measure};
 use lists::{break_list, fill_table, list_of_draft, random_list, List};
 
 pub use breaks::{filled_with_breaks, in_lines, with_breaks, Broken};
-pub use draft::Draft;
+pub use draft::{Draft, DraftElement, DraftRepeat, DraftSegment, Value};
 pub use mailboxes::any_file;
 pub use orders::{two_orders, TwoOrders};
 pub use random::Random;
@@ -233,14 +235,20 @@ fn nearly(random: &mut Random, mut draft: Draft) -> Draft {
     let segment = &mut draft.segments[number];
     let last = segment.len() - 1;
     let element = &mut segment[last];
-    let component = random.below(element.len());
+    let repeat = random.below(element.len());
+    if draft.characters.repetition.is_some() && last > 0 && random.chance(40) {
+        nearly_repeats(random, element, repeat);
+        return draft;
+    }
+    let components = &mut element[repeat];
+    let component = random.below(components.len());
     match random.below(7) {
-        0 => element[component].push(b' '),
-        1 => element[component].push(b'0'),
-        2 => element[component].insert(0, b'0'),
-        3 => element.push(b"A".to_vec()),
-        4 => element.insert(component, Vec::new()),
-        5 => drop(element[component].pop()),
+        0 => components[component].push(b' '),
+        1 => components[component].push(b'0'),
+        2 => components[component].insert(0, b'0'),
+        3 => components.push(b"A".to_vec()),
+        4 => components.insert(component, Vec::new()),
+        5 => drop(components[component].pop()),
         _ => {
             draft.advice = true;
             draft.characters.mark = if draft.characters.mark == b'.' { b',' } else { b'.' };
@@ -249,18 +257,39 @@ fn nearly(random: &mut Random, mut draft: Draft) -> Draft {
     draft
 }
 
+/// A repeat more or less than before, or a repeat for a component.
+fn nearly_repeats(random: &mut Random, element: &mut DraftElement, repeat: usize) {
+    match random.below(5) {
+        0 => element.push(vec![b"A".to_vec()]),
+        1 => element.insert(repeat, vec![Vec::new()]),
+        2 if element.len() > 1 => drop(element.remove(repeat)),
+        3 if repeat > 0 => {
+            let components = element.remove(repeat);
+            element[repeat - 1].extend(components);
+        }
+        _ => {
+            let components = element[repeat].len();
+            let behind = element[repeat].split_off(random.between(1, components));
+            if !behind.is_empty() {
+                element.insert(repeat + 1, behind);
+            }
+        }
+    }
+}
+
 /// Numbers in range, just out of range, or huge.
 fn numbers_and_input(random: &mut Random) -> (Numbers, Vec<u8>) {
     if random.chance(15) {
-        let numbers = [0, 1, 2].map(|_| random.below(5) as u32);
+        let numbers = [5, 5, 2, 4].map(|bound| random.below(bound) as u32);
         return (numbers_of(numbers), any_input(random));
     }
     let draft = any_valid(random);
     let segment = random.below(draft.segments.len());
     let element = random.below(draft.segments[segment].len());
-    let component = random.below(draft.segments[segment][element].len());
-    let mut numbers = [segment as u32, element as u32, component as u32];
-    let place = random.below(3);
+    let repeat = random.below(draft.segments[segment][element].len());
+    let component = random.below(draft.segments[segment][element][repeat].len());
+    let mut numbers = [segment, element, repeat, component].map(|number| number as u32);
+    let place = random.below(4);
     match random.below(8) {
         0 => numbers[place] += 1,
         1 => numbers[place] = random.pick(&[u32::MAX, 1 << 31, 1 << 16, 256, u32::MAX - 1]),
@@ -270,8 +299,8 @@ fn numbers_and_input(random: &mut Random) -> (Numbers, Vec<u8>) {
     (numbers_of(numbers), spelled(random, &draft))
 }
 
-fn numbers_of(numbers: [u32; 3]) -> Numbers {
-    Numbers { segment: numbers[0], element: numbers[1], component: numbers[2] }
+fn numbers_of([segment, element, repeat, component]: [u32; 4]) -> Numbers {
+    Numbers { segment, element, repeat, component }
 }
 
 fn write_request(random: &mut Random) -> Request {
@@ -279,7 +308,8 @@ fn write_request(random: &mut Random) -> Request {
         0..=1 => long_list(random),
         2..=3 => list_about_table_limit(random),
         4..=9 => {
-            let six = usable_characters(random).six();
+            let version = any_version(random);
+            let six = usable_characters(random, version).six();
             (service_bytes(random, &six), random_list(random))
         }
         _ => short_list(random),
@@ -312,15 +342,19 @@ fn short_list(random: &mut Random) -> (Vec<u8>, List) {
 
 /// A list whose body does not begin `UNB` and the element separator.
 fn damage_first_segment(random: &mut Random, draft: &mut Draft) {
-    match random.below(5) {
-        0 => draft.segments[0][0][0] = random.pick(&["UNA", "", "UN", "UNBB", "unb", "UNH"]).into(),
+    match random.below(6) {
+        0 => {
+            let tag = random.pick(&["UNA", "", "UN", "UNBB", "unb", "UNH"]);
+            draft.segments[0][0][0][0] = tag.into();
+        }
         1 => draft.segments[0].truncate(1),
         2 => drop(draft.segments.remove(0)),
-        3 => draft.segments[0][0].push(random.pick(&["", "1"]).into()),
-        _ => draft.segments.insert(0, vec![vec![Vec::new()]]),
+        3 => draft.segments[0][0][0].push(random.pick(&["", "1"]).into()),
+        4 => draft.segments[0][0].push(vec![random.pick(&["", "1"]).into()]),
+        _ => draft.segments.insert(0, vec![single("")]),
     }
     if draft.segments.is_empty() {
-        draft.segments.push(vec![vec![Vec::new()]]);
+        draft.segments.push(vec![single("")]);
     }
 }
 
@@ -328,9 +362,14 @@ fn damage_first_segment(random: &mut Random, draft: &mut Draft) {
 fn service_bytes(random: &mut Random, six: &[u8; 6]) -> Vec<u8> {
     let mut bytes = six.to_vec();
     let place = random.below(6);
-    match random.below(20) {
-        0..=3 => bytes = usable_characters(random).six().to_vec(),
+    match random.below(22) {
+        0..=3 => {
+            let version = any_version(random);
+            bytes = usable_characters(random, version).six().to_vec();
+        }
         4 => bytes[3] = b' ',
+        20 => bytes[4] = b' ',
+        21 => bytes[4] = random.pick(b"**;!A.,"),
         5 => bytes[place] = random.pick(b"A0z \x1b\x1e\x7f\x80.,;\x00?"),
         6 => bytes[place] = bytes[random.below(6)],
         7 => bytes.truncate(random.pick(&[5, 5, 0, 3])),
@@ -342,7 +381,8 @@ fn service_bytes(random: &mut Random, six: &[u8; 6]) -> Vec<u8> {
 
 /// A list whose text, or whose normal form, is about 32,000 bytes.
 fn long_list(random: &mut Random) -> (Vec<u8>, List) {
-    let characters = usable_characters(random);
+    let version = any_version(random);
+    let characters = usable_characters(random, version);
     let target = random.pick(&[31_999, 32_000, 32_001, 33_000]);
     let measure = random.pick(&[Measure::Text, Measure::NormalForm]);
     let draft = long_draft(random, characters, true, measure, target);
@@ -364,11 +404,13 @@ fn list_about_table_limit(random: &mut Random) -> (Vec<u8>, List) {
     let draft = valid_draft(random);
     let mut list = list_of_draft(random, &draft);
     if random.chance(50) {
-        fill_table(&mut list, random.pick(&[95_999, 96_000, 96_000, 96_001, 96_003]));
+        let kind = random.pick(&[NEXT_COMPONENT, NEXT_COMPONENT, NEXT_REPEAT]);
+        fill_table(&mut list, kind, random.pick(&[95_999, 96_000, 96_000, 96_001, 96_003]));
     } else {
         let all = list.values.len() as u32;
+        let kind = random.pick(&[1, 1, 2, 3]);
         for _ in 0..random.between(100, 3_000) {
-            list.table.extend([1, 0, all]);
+            list.table.extend([kind, 0, all]);
         }
     }
     (six_or_no_release(random, draft.characters.six()), list)
