@@ -23,7 +23,7 @@ use warnings;
 
 my $most = 64;
 my %at_most = (
-    'limits' => 72,                      # bytes of constants that are decimal numbers
+    'limits' => 104,                     # bytes of constants that are decimal numbers
     'texts' => 30,                       # bytes of byte strings of printable characters
     'numbers in one function' => 23,     # the most that one has: a long `match`, a chain of comparisons
     'jump tables' => 768,                # bytes that the linker fills in: addresses of code, for `match`

@@ -10,7 +10,7 @@ use Rattle.characters.specs.declared.Characters.{Characters}
 use Rattle.characters.specs.Characters.{bodyStart}
 use Rattle.characters.specs.Notions.{Usable}
 use Rattle.refusals.specs.declared.Fault.{Fault}
-use Rattle.refusals.specs.declared.Fault.the-variants.{TooLong, UnusableAdvice, NoOpening, StrayRelease, UnendedSegment, BrokenTag, ForeignLevel, OutsideLevel, MisplacedSegment, BadControl, ReferenceDiffers, CountWrong, NormalTooLong, BufferShort, BadList, NeedsRelease, NoFreeSlot, NoRoom, UnsoundShelf, FreeSlot}
+use Rattle.refusals.specs.declared.Fault.the-variants.{TooLong, UnusableAdvice, NoOpening, StrayRelease, UnendedSegment, BrokenTag, ForeignLevel, OutsideLevel, MisplacedSegment, BadControl, ReferenceDiffers, CountWrong, NormalTooLong, BufferShort, BadList, NeedsRelease, NoFreeSlot, NoRoom, UnsoundShelf, FreeSlot, UnsoundTable, UnmatchedBody}
 use Rattle.refusals.specs.Refusals.{number}
 use Rattle.refusals.proofs.Order.{number-tells}
 use Rattle.values.specs.Tokens.{Token, byte, separator, fault, Segment, start}
@@ -107,6 +107,8 @@ module _ (s : List ℕ) where
   Meant NoRoom p = ⊥
   Meant UnsoundShelf p = ⊥
   Meant FreeSlot p = ⊥
+  Meant UnsoundTable p = ⊥
+  Meant UnmatchedBody p = ⊥
 
   -- a number that is met is that of a fault
   abbrev Named : ℕ → ℕ → Type 0
@@ -171,3 +173,5 @@ module _ (s : List ℕ) where
   meets NoRoom h = absurd h
   meets UnsoundShelf h = absurd h
   meets FreeSlot h = absurd h
+  meets UnsoundTable h = absurd h
+  meets UnmatchedBody h = absurd h

@@ -38,5 +38,7 @@ pub fn number_of(fault: Fault) -> u8
         Fault::NoRoom => 18,
         Fault::UnsoundShelf => 19,
         Fault::FreeSlot => 20,
+        Fault::UnsoundTable => 21,
+        Fault::UnmatchedBody => 22,
     }
 }

@@ -1,9 +1,11 @@
-// The surface: all operations of paper 01, "Operations", of the shelf (requests 2026-04, 2026-06 and 2026-07) and of mailbox files (request
-// 2026-02), for programs in C and Rust. It promises, for any bytes and any numbers, the paper's answers as the definitions in specs/ lay them
-// out in structs, and every byte and number of each lent buffer at exit. A slice crosses as a pointer and a length;
+// The surface: all operations of paper 01, "Operations", of the shelf (requests 2026-04, 2026-06 and 2026-07), of mailbox files (request
+// 2026-02) and of message structures (request 2026-08), for programs in C and Rust. It promises, for any bytes and any numbers, the
+// paper's answers as the definitions in specs/ lay them out in structs, and every byte and number of each lent buffer at exit. A slice
+// crosses as a pointer and a length;
 // nothing is asked of what it holds. `laying` makes the structs of the answers.
 ghost use mathlib.Core.Path.{_≡_};
 ghost use Rattle.operations.specs.Judge.{judge as judgeOf, normalise as normaliseOf, normaliseBuffer};
+ghost use Rattle.message_structures.specs.Judging.{judgeByTable};
 ghost use Rattle.operations.specs.Compare.{compare as compareOf, keep as keepOf};
 ghost use Rattle.operations.specs.Locate.{locate as locateOf};
 ghost use Rattle.operations.specs.Read.{read as readOf, readBytes, readTable};
@@ -183,6 +185,13 @@ pub extern "C" fn hverolda_judge(input: &[u8]) -> Verdict
     ensures { λ r. ⌜ r ≡ verdictOf (judgeOf (now (input .entry))) ⌝ }
 {
     verdict_of(judge::judge(input))
+}
+
+#[no_mangle]
+pub extern "C" fn hverolda_judge_by_table(table: &[u8], input: &[u8]) -> Verdict
+    ensures { λ r. ⌜ r ≡ verdictOf (judgeByTable (now (table .entry)) (now (input .entry))) ⌝ }
+{
+    verdict_of(judge_by_table::judge_by_table(table, input))
 }
 
 #[no_mangle]

@@ -170,7 +170,7 @@ fn tag_byte(b: u8) -> bool
 }
 
 // Three bytes that a tag may hold.
-fn is_tag(first: u8, second: u8, third: u8) -> bool
+pub fn is_tag(first: u8, second: u8, third: u8) -> bool
     ensures { λ r. ⌜ r ≡ isTag (first ∷ second ∷ third ∷ []) ⌝ }
 {
     if !tag_byte(first) {

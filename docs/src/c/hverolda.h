@@ -1,7 +1,8 @@
 /*
  * Hverolda for C: judges an EDIFACT interchange (ISO 9735, syntax versions 1, 2 and 4), reads its
  * values, writes interchanges, makes a normal form, says whether two interchanges are the same, keeps
- * each one once on a shelf, and counts those of a mailbox file.
+ * each one once on a shelf, counts those of a mailbox file, and holds messages to a table of their
+ * structure.
  *
  * The archive is target/staticlib/libsurface.a, which `rt staticlib surface` proves and writes, for
  * x86-64 Linux. It needs nothing but the C library's memset:
@@ -10,12 +11,13 @@
  *
  * What is proved. For any bytes and any numbers, each function's answer and every byte and number of
  * each buffer at exit are what the definitions in crates/surface/specs, crates/operations/specs,
- * crates/shelves/specs and crates/mailbox_files/specs say; no function reads or writes outside what it
- * is lent, and each one ends. This header and the size of the stack are not part of the proof.
+ * crates/shelves/specs, crates/mailbox_files/specs, crates/message_tables/specs and
+ * crates/message_structures/specs say; no function reads or writes outside what it is lent, and each
+ * one ends. This header and the size of the stack are not part of the proof.
  *
  * What the caller owes. A slice is a pointer and, right after it, the number of its elements.
  *   - The pointer is valid for that many elements for the whole call, and they take fewer than 2^63
- *     bytes. A table's pointer is aligned for uint32_t.
+ *     bytes. The pointer to Read's and Write's table is aligned for uint32_t.
  *   - All of them hold values: a buffer that is to be written to is initialised first, too.
  *   - A buffer that is written to overlaps no other argument. Inputs that are only read may overlap,
  *     or be the same. So what is put on a shelf is no part of that shelf.
@@ -28,28 +30,33 @@
  * run at the same time as long as each keeps to what is owed above.
  *
  * Stack. Compare and Keep hold two arrays of 32,000 bytes each, and take some 65,300 bytes in all. A
- * shelf's Put holds one, and takes some 33,300. The other functions take less than 2,000. There is no
- * recursion.
+ * shelf's Put holds one, and takes some 33,300. Judge by a table calls itself for groups within groups,
+ * which are at most eight deep, and takes some 3,000 at most, whatever the table and the input are. All
+ * others but these take less than 2,000. There is no other recursion.
  *
  * Cost. What a function does with an input is a few steps a byte, and of an input over 32,000 bytes
  * none. Write looks at every value that its table names, and these may overlap. Under a release
  * character it stops where the text is over 32,000 bytes. Without one it first looks for service
  * characters in all values (refusal 16): 32,000 records that name the same N bytes cost 32,000 * N
- * steps, some 2 s for N = 32,000 and ten times as long for ten times as many. Who takes tables from
+ * steps, some 2 s for N = 32,000 and ten times as long for ten times as many. Who takes lists from
  * strangers adds up the lengths first: more than 32,000 bytes in values are refused in any case.
  * Each function of a shelf but Start judges all texts that the shelf keeps, so that a call costs what
  * Judge costs over them and a tenth more, some 0.4 ms for a full shelf; and less than twice as much
  * for one that was made to be slow. Report goes once over the file, which may have 65,536 bytes, and
  * judges each piece: some 0.7 ms for 65,536 bytes of orders, and some three times that for the
- * smallest interchanges that there are.
+ * smallest interchanges that there are. Judge by a table costs what Judge costs, a pass over the table,
+ * which stops at 999 entries, and a few steps for each segment and each entry that has its turn: some
+ * 80 us more for 32,000 bytes of orders under a table of 68 entries. At most all entries have their
+ * turn at each segment: for 999 entries and a body of 8,000 segments that is made so, some 40 ms.
  *
  * Limits. An input, a written text and a normal form have at most 32,000 bytes. So a normal form or a
  * written text fits 32,000 bytes, and what Read stores fits 32,000 bytes and 96,000 numbers, since
- * each value in the input is followed by a separator or a terminator. A table that Write is given has
- * at most 96,000 numbers. What is longer may be given, and is refused. A buffer that is written to
- * may have any length, Read's table with it. A shelf has 533 to 65,536 bytes; one of another size may
- * be given, and is refused. A mailbox file has at most 65,536 bytes; a longer one may be given, and is
- * refused.
+ * each value in the input is followed by a separator or a terminator. The table that Write is given has
+ * at most 96,000 numbers. A table of message structures, which is another thing, has at most 999
+ * entries, 7,992 bytes; a longer one is refused by 21. What is longer may be given, and is refused. A
+ * buffer that is written to may have any length, Read's table with it. A shelf has 533 to 65,536 bytes;
+ * one of another size may be given, and is refused. A mailbox file has at most 65,536 bytes; a longer
+ * one may be given, and is refused.
  *
  * Line breaks. Carriage returns and line feeds (bytes 13 and 10) directly after a segment's
  * terminator, or directly after the advice, are passed over, however many; anywhere else they are
@@ -90,9 +97,12 @@ extern "C" {
 #error "this is number 2 of hverolda.h: see what changed, then #define HVEROLDA_CALLER 2"
 #endif
 
-/* The most bytes of an input, a text and a normal form; the most numbers of a table for Write. */
+/* The most bytes of an input, a text and a normal form; the most numbers of Write's table. */
 #define HVEROLDA_LONGEST 32000
 #define HVEROLDA_LONGEST_TABLE 96000
+
+/* The most entries of a table of message structures, eight bytes each. */
+#define HVEROLDA_MOST_ENTRIES 999
 
 /* The slots of a shelf, its fewest and most bytes, and the most duplicates that it tells. */
 #define HVEROLDA_SLOTS 64
@@ -159,7 +169,7 @@ enum hverolda_refusal {
     HVEROLDA_COUNT_WRONG = 12,
     /* Normal form over 32,000 bytes. Place: the length that it would have. */
     HVEROLDA_NORMAL_TOO_LONG = 13,
-    /* Lent buffer too short. Place: the bytes, or table numbers, needed. */
+    /* Lent buffer too short. Place: the bytes, or the numbers of Read's table, needed. */
     HVEROLDA_BUFFER_SHORT = 14,
     /* Value list: table over 96,000 numbers or not a multiple of 3, or first kind not 0 (place: 0);
        kind above 3, or start plus length above the number of bytes, or a value of kind 0 whose first
@@ -177,7 +187,15 @@ enum hverolda_refusal {
        bytes. Place: 0. */
     HVEROLDA_UNSOUND_SHELF = 19,
     /* The slot is free, or above 63. Place: the slot. */
-    HVEROLDA_FREE_SLOT = 20
+    HVEROLDA_FREE_SLOT = 20,
+    /* Unsound table of message structures; the rules stand at hverolda_judge_by_table. Place: the number
+       of the lowest entry at fault, from 0. At fault is the entry that breaks a rule: a group's own for
+       its depth or its number, a trigger itself, a last entry that is not whole, and entry 999 where
+       there are more than 999. */
+    HVEROLDA_UNSOUND_TABLE = 21,
+    /* Body doesn't match the table. Place: start of the segment, perhaps UNT, before which the walk
+       stopped, in the first message that doesn't match. */
+    HVEROLDA_UNMATCHED_BODY = 22
 };
 
 /*
@@ -337,6 +355,34 @@ uint32_t hverolda_rules(void);
  * refusals" below.
  */
 hverolda_verdict hverolda_judge(const uint8_t *input, size_t input_length);
+
+/*
+ * Judge by a table: is this an interchange by the rules, and does each message have the structure that
+ * the table tells?
+ *
+ * A table has 0 to 999 entries of eight bytes; numbers are big-endian:
+ *   - three bytes: the tag of a segment, each of A to Z or 0 to 9, and of those that begin `UN` only
+ *     UNS; or three zeros for a group's own entry;
+ *   - one byte: `M` mandatory or `C` conditional;
+ *   - two bytes: the largest number of repeats, 1 to 999;
+ *   - two bytes: how many entries stand under it, at any depth: 1 or more for a group, which are those
+ *     right behind it, and 0 for a segment.
+ * A group's first entry is its trigger: a segment, mandatory and once. Groups stand within groups at
+ * most eight deep, an outermost one being one deep, and end within the group or table that holds them.
+ * A table of no entries allows only messages with nothing between UNH and UNT.
+ *
+ * The segments between UNH and UNT are taken from left to right, in each message from the table's
+ * beginning. They are matched by their tag alone, UNS like any other. Each entry takes as many segments,
+ * or repeats of its group, as it can before the next entry has its turn; where a group's trigger stands,
+ * a repeat of it is begun, and nothing that was taken is given back. The walk stops at a mandatory
+ * entry that can't be met, or at a segment left over after the last entry.
+ *
+ * Refusals: 21 where the table is unsound, before all else; then Judge's up to 12; then 22 at the
+ * lowest place at which a message's walk stops; then 13. Where none is met it answers as Judge does.
+ * Any bytes may be lent as a table, any number of them. What it costs stands at "Cost" and "Stack".
+ */
+hverolda_verdict hverolda_judge_by_table(const uint8_t *table, size_t table_length,
+                                         const uint8_t *input, size_t input_length);
 
 /*
  * Normalise: stores the normal form, which is the same for all spellings of the same contents under

@@ -80,6 +80,38 @@ expect 1 '' "hverolda: $wrong: refused 12 67 $sentence" "$hverolda" normalise "$
 sed "s/'/&\r\n/g" "$x" >"$work/in-lines"
 [[ $(wc -c <"$work/in-lines") -eq 94 ]] || complain 'five lines of X have not 94 bytes'
 expect 0 "$accepted" '' "$hverolda" judge "$work/in-lines"
+
+# by a table of message structures: a text, with the line at fault, and its bytes
+expect 0 'accepted 18 1 0 316' '' "$hverolda" judge --table docs/tables/orders.txt docs/tables/order.edi
+expect 1 'refused 22 67 *' '' "$hverolda" judge --table docs/tables/orders.txt "$x"
+printf 'BGM M 1\ngroup C 9\n  LIN C 1\n' >"$work/unsound"
+expect 1 "refused 21 2 *, line 3 of $work/unsound" '' "$hverolda" judge --table "$work/unsound" "$x"
+printf 'BGM M 1\n\nLINE C 1\n' >"$work/no-table"
+expect 2 '' "hverolda: $work/no-table: line 3: 'LINE' is no tag of three bytes" "$hverolda" judge --table "$work/no-table" "$x"
+printf 'BGMM\0\1\0\0' >"$work/table"
+expect 0 "$accepted" '' "$hverolda" judge --table "$work/table" -- "$x"
+printf 'BGMM\0\1\0\0A' >"$work/part"
+expect 1 "refused 21 1 *, entry 1 of $work/part" '' "$hverolda" judge --table "$work/part" "$x"
+expect 2 '' 'hverolda: which table?*' "$hverolda" judge --table
+expect 2 '' "hverolda: '--table' is no option*" "$hverolda" judge "$x" --table "$work/table"
+# its text: tabs beside spaces, a tag as a group's name, more than is read, numbers, a byte order mark, standard input
+table_says() { # STATUS OUT ERR TEXT: what becomes of X by the table that the text tells
+    # shellcheck disable=SC2059
+    printf "$4" >"$work/text"
+    expect "$1" "$2" "$3" "$hverolda" judge --table "$work/text" "$x"
+}
+table_says 2 '' "hverolda: $work/text: line 3: tabs and spaces *" 'a C 1\n  LIN M 1\n\tTXT C 1\n'
+table_says 2 '' "hverolda: $work/text: line 3: tabs and spaces *" 'a C 1\n\tLIN M 1\n        TXT C 1\n'
+table_says 2 '' "hverolda: $work/text: line 1: 'BGM' is a tag, *" 'BGM M 1\n DTM M 1\n'
+table_says 2 '' "hverolda: $work/text: line 3: it has white space *" 'a C 1\n  LIN M 1\n\302\240b C 1\n'
+table_says 2 '' "hverolda: $work/text: line 1: '+5' is no number *" 'BGM M +5\n'
+table_says 2 '' "hverolda: $work/text: line 1: '007' is no number *" 'BGM M 007\n'
+table_says 0 "$accepted" '' '\357\273\277BGM M 1\r\nlines C 999\n\tLIN M 1\n\ttexts C 9\n\t  FTX M 1'
+table_says 1 "refused 21 0 *, line 1 of $work/text" '' 'BGM M 1000\n'
+{ echo 'BGM M 1' && yes '# no line' | head -c 532288; } >"$work/long-text"
+expect 2 '' "hverolda: $work/long-text: the text of a table has fewer than 532288 bytes" "$hverolda" judge --table "$work/long-text" "$x"
+expect 0 "$accepted" '' "$hverolda" judge --table - "$x" <"$work/table"
+expect 2 '' 'hverolda: standard input, or a pipe, can be read only once*' "$hverolda" judge --table - <"$work/table"
 expect 0 "UNA:+.? '$(cat "$x")" '' "$hverolda" normalise "$work/in-lines"
 cmp -s <(printf "UNA:+.? '" && cat "$x") "$work/out" || complain 'a line break reaches the normal form'
 expect 0 "keep 2 $x" '' "$hverolda" keep "$work/in-lines" "$x"

@@ -83,6 +83,16 @@ fn once(names: &[OsString]) -> Result<(), Trouble> {
     Ok(())
 }
 
+/// The same of the inputs and of what is read before them.
+pub fn once_beside(first: &OsStr, operands: &[OsString]) -> Result<(), Trouble> {
+    let mut names = vec![first.to_os_string()];
+    names.extend_from_slice(operands);
+    if operands.is_empty() {
+        names.push(OsString::from("-"));
+    }
+    once(&names)
+}
+
 /// Both names are of one file.
 pub fn is_one(first: &OsStr, second: &OsStr) -> bool {
     let identity = |name| fs::metadata(name).ok().map(|file| (file.dev(), file.ino()));

@@ -12,6 +12,7 @@ mod input;
 mod lines;
 mod output;
 mod shelf_file;
+mod table;
 
 use std::env;
 use std::ffi::OsString;
@@ -113,23 +114,32 @@ pub extern "C" fn main(_count: i32, _words: *const *const u8) -> i32 {
     Status::Trouble as i32
 }
 
-/// Parts the operands from the options, of which there is one, `--help`, which
-/// stands alone: a file of that name beside others is not answered by a help.
+/// Parts the operands from the options. `--help` stands alone: a file of that name
+/// beside others is not answered by a help. `--table` stands first, before its file.
 fn run(command: &Command, output: &mut Output, words: &[OsString]) -> Result<Status, Trouble> {
-    let ended = words.iter().position(|word| word == "--").unwrap_or(words.len());
-    let is_option = |word: &&OsString| word.to_string_lossy().starts_with('-') && *word != "-";
-    match words[..ended].iter().find(is_option) {
-        None => {
-            let after = words[ended..].iter().skip(1);
-            let operands: Vec<OsString> = words[..ended].iter().chain(after).cloned().collect();
-            (command.run)(output, &operands)
-        }
-        Some(option) if option == "--help" && words.len() == 1 => {
+    match words {
+        [option] if option == "--help" => {
             let Command { name, operands, help, .. } = command;
             let files = if operands.contains("FILE") { FILES } else { "" };
             let text = format!("Usage: hverolda {name} {operands}\n{help}{files}{STATUSES}");
             output.write(text.as_bytes())
         }
+        [option, rest @ ..] if option == "--table" && command.name == judge::COMMAND.name => {
+            match rest {
+                [] => usage("which table?"),
+                [table, words @ ..] => judge::by_table(output, table, &operands(words)?),
+            }
+        }
+        _ => (command.run)(output, &operands(words)?),
+    }
+}
+
+/// The words, none of which is an option, without the `--` that ends those.
+fn operands(words: &[OsString]) -> Result<Vec<OsString>, Trouble> {
+    let ended = words.iter().position(|word| word == "--").unwrap_or(words.len());
+    let is_option = |word: &&OsString| word.to_string_lossy().starts_with('-') && *word != "-";
+    match words[..ended].iter().find(is_option) {
+        None => Ok(words[..ended].iter().chain(words[ended..].iter().skip(1)).cloned().collect()),
         Some(option) => usage(&format!("'{}' is no option", shown(option))),
     }
 }

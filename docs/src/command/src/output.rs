@@ -93,7 +93,8 @@ fn told(refusal: &Refusal) -> String {
 /// mark under it; nothing where the place does not count in these bytes.
 fn excerpt(descriptor: i32, bytes: &[u8], refusal: &Refusal) -> String {
     let place = refusal.place;
-    let counts = (2..=12).contains(&refusal.number()) && place <= bytes.len();
+    let in_bytes = (2..=12).contains(&refusal.number()) || refusal.number() == 22;
+    let counts = in_bytes && place <= bytes.len();
     if !counts || !is_terminal(descriptor) {
         return String::new();
     }

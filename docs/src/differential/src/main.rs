@@ -10,7 +10,8 @@
 //! `--tight` leaves the guards out, for a run under a tool that watches memory.
 //! `--shelf` does so many operations on shelves in place of the cases, `--mailbox`
 //! reports on so many mailbox files, `--orders` puts so many lists in two orders,
-//! `--carry` carries so many shelves into their other version and back.
+//! `--carry` carries so many shelves into their other version and back,
+//! `--structures` judges so many interchanges by tables.
 
 mod breaks;
 mod by_second;
@@ -29,6 +30,7 @@ mod rules;
 mod run;
 mod sections;
 mod shelf;
+mod structures;
 mod tables;
 mod tally;
 mod wide;
@@ -39,7 +41,8 @@ use run::{Checked, Run};
 use tally::Tally;
 
 const USAGE: &str =
-    "usage: differential SEED COUNT [--shelf | --mailbox | --orders | --carry] [--quiet] [--counts] [--partial] [--tight]";
+    "usage: differential SEED COUNT [--shelf | --mailbox | --orders | --carry | --structures] [--quiet] \
+     [--counts] [--partial] [--tight]";
 
 #[derive(Default)]
 struct Options {
@@ -51,6 +54,7 @@ struct Options {
     mailbox: bool,
     orders: bool,
     carry: bool,
+    structures: bool,
 }
 
 /// The seed, the count and the options that the words of the command name.
@@ -67,6 +71,7 @@ fn command() -> Option<(u64, u64, Options)> {
             "--mailbox" => options.mailbox = true,
             "--orders" => options.orders = true,
             "--carry" => options.carry = true,
+            "--structures" => options.structures = true,
             _ => numbers.push(word.parse().ok()?),
         }
     }
@@ -89,6 +94,7 @@ fn main() -> ExitCode {
         (_, true, _, _) => on_mailboxes(seed, count, &options),
         (_, _, true, _) => on_orders(seed, count),
         (_, _, _, true) => on_carrying(seed, count, &options),
+        _ if options.structures => on_structures(seed, count, &options),
         _ => on_cases(seed, count, &options),
     };
     match told {
@@ -153,6 +159,15 @@ fn on_carrying(seed: u64, count: u64, options: &Options) -> Told {
     match gaps.is_empty() {
         true => Ok((shelf::carrying::summary(&counts), counts.to_string())),
         false => Err(format!("{count} shelves: {}", gaps.join("; "))),
+    }
+}
+
+fn on_structures(seed: u64, count: u64, options: &Options) -> Told {
+    let counts = structures::run(seed, count, options.tight)?;
+    let gaps = if options.partial { Vec::new() } else { counts.gaps() };
+    match gaps.is_empty() {
+        true => Ok((counts.summary(), counts.to_string())),
+        false => Err(format!("{count} interchanges: {}", gaps.join("; "))),
     }
 }
 

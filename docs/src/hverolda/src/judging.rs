@@ -91,7 +91,60 @@ pub struct Interchange {
 /// # Ok::<(), hverolda::Refusal>(())
 /// ```
 pub fn judge(input: &[u8]) -> Result<Interchange, Refusal> {
-    let verdict = surface::judge(input);
+    told(&surface::judge(input))
+}
+
+/// Judges one interchange, and whether its messages have the structure that a table
+/// tells: 0 to [`MOST_ENTRIES`](crate::MOST_ENTRIES) entries of eight bytes, big-endian.
+///
+/// - Three bytes: the tag of a segment, each of A to Z or 0 to 9, and of those that begin
+///   `UN` only UNS; or three zeros for a group's own entry.
+/// - One byte: `M` mandatory or `C` conditional.
+/// - Two bytes: the most repeats, 1 to 999.
+/// - Two bytes: how many entries stand under it, at any depth: those right behind it, 1 or
+///   more for a group, and 0 for a segment.
+///
+/// A group's first entry is its trigger: a segment, mandatory and once. Groups stand within
+/// groups at most eight deep, and end within the group or table that holds them. A table
+/// of no entries allows only messages with nothing between UNH and UNT.
+///
+/// The segments between UNH and UNT are taken from left to right, in each message from the
+/// table's beginning, and matched by their tag alone, UNS like any other. Each entry takes as
+/// many segments, or repeats of its group, as it can before the next has its turn; where a
+/// group's trigger stands, a repeat of it is begun, and nothing is given back. The walk
+/// stops at a mandatory entry that cannot be met, or at a segment left over.
+///
+/// It costs what [`judge`] does, a pass over at most 999 entries, and a few steps for each
+/// segment and each entry that has its turn: some 40 ms at most, for 999 entries that all
+/// have their turn at each of 8,000 segments.
+///
+/// # Errors
+///
+/// Refusal 21 for an unsound table, before all else, at its lowest entry at fault, from 0:
+/// that which breaks a rule, a group's own for its depth or its number, a trigger itself, a
+/// last entry that is not whole, and entry 999 where there are more; then those of
+/// [`judge`] up to 12; then 22 at the segment, perhaps UNT, before which the walk stopped in
+/// the first message that does not match; then 13.
+///
+/// ```
+/// let input = b"UNB+UNOA:1+AA+BB+260105:0930+R1'UNH+1+ORDERS:1:901:UN'\
+///     BGM+220+A?+B'UNT+3+1'UNZ+1+R1'";
+/// // one BGM, and up to 999 groups of a LIN and up to two FTX
+/// let table = b"BGMM\0\x01\0\0\0\0\0C\x03\xe7\0\x02LINM\0\x01\0\0FTXC\0\x02\0\0";
+/// assert_eq!(hverolda::judge_by_table(table, input), hverolda::judge(input));
+///
+/// let refusal = hverolda::judge_by_table(&table[8..], input).unwrap_err();
+/// assert_eq!((refusal.number(), refusal.place), (22, 54));
+/// let refusal = hverolda::judge_by_table(&table[..16], input).unwrap_err();
+/// assert_eq!((refusal.number(), refusal.place), (21, 1));
+/// # Ok::<(), hverolda::Refusal>(())
+/// ```
+pub fn judge_by_table(table: &[u8], input: &[u8]) -> Result<Interchange, Refusal> {
+    told(&surface::judge_by_table(table, input))
+}
+
+/// What the surface's struct tells.
+fn told(verdict: &surface::Verdict) -> Result<Interchange, Refusal> {
     Refusal::told(verdict.number, verdict.place)?;
     let present = |byte| Some(byte).filter(|&byte| byte != b' ');
     Ok(Interchange {

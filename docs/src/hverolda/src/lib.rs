@@ -12,6 +12,7 @@
 //! | To | lent buffers | owned |
 //! |---|---|---|
 //! | judge an interchange | [`judge`] | |
+//! | hold its messages to a table of their structure | [`judge_by_table`] | |
 //! | make its normal form | [`normalise`] | [`normal_form`] |
 //! | tell two apart, keep one | [`compare`], [`keep`] | |
 //! | find a component | [`locate`], [`part`] | |
@@ -35,7 +36,7 @@
 //! refused as any such byte is.
 //!
 //! [`compare`] and [`keep`] take some 65,300 bytes of stack, [`Shelf::put`] some
-//! 33,300, all others less than 2,000, and none recurses: a stack of 96 KB is
+//! 33,300, [`judge_by_table`] some 3,000, all others less than 2,000: a stack of 96 KB is
 //! enough for a thread that calls them. What [`write()`] can cost stands there.
 //!
 //! # Since 0.2
@@ -93,7 +94,7 @@ pub mod surface;
 mod surface;
 
 pub use comparing::{compare, keep, Comparison, ComparisonRefused, Which};
-pub use judging::{judge, Interchange, ServiceCharacters};
+pub use judging::{judge, judge_by_table, Interchange, ServiceCharacters};
 pub use locating::{locate, part};
 pub use normalising::{normal_form, normalise};
 pub use reading::{read, values, Listing};
@@ -108,6 +109,10 @@ pub const LONGEST: usize = 32_000;
 
 /// The longest table that [`write()`] takes, in numbers (refusal 15).
 pub const LONGEST_TABLE: usize = 96_000;
+
+/// The most entries of a table that [`judge_by_table`] takes, eight bytes each (refusal
+/// 21).
+pub const MOST_ENTRIES: usize = 999;
 
 /// How many texts a shelf keeps at most.
 pub const SLOTS: usize = 64;

@@ -58,6 +58,11 @@ pub enum Fault {
     Shelf,
     /// 20: the slot is free, or there is none of that number.
     Slot,
+    /// 21: the table of message structures is unsound; the rules stand at
+    /// [`judge_by_table`](crate::judge_by_table()).
+    Table,
+    /// 22: a message's body does not match the table of message structures.
+    Body,
     /// A number above these, by which only an archive that is newer than this
     /// crate refuses; see [`rules`](crate::rules()).
     Unknown(u32),
@@ -65,7 +70,7 @@ pub enum Fault {
 
 /// The faults in the order of their numbers, from 1, with what is wrong as the
 /// end of a sentence.
-const FAULTS: [(Fault, &str); 20] = [
+const FAULTS: [(Fault, &str); 22] = [
     (Fault::OverLength, "there are more than 32000 bytes"),
     (Fault::Advice, "the service string advice is not usable"),
     (Fault::Beginning, "the body does not begin with UNB and the element separator"),
@@ -86,6 +91,8 @@ const FAULTS: [(Fault, &str); 20] = [
     (Fault::NoRoom, "the shelf has too few free bytes"),
     (Fault::Shelf, "there is no sound shelf of the version asked for: 2 with 533 to 65536 bytes, or 1 with 525 to 65536 to carry over"),
     (Fault::Slot, "no text is kept in this slot"),
+    (Fault::Table, "the table's entry breaks its rules"),
+    (Fault::Body, "the table wants another segment here, or none"),
 ];
 
 impl Fault {
@@ -117,8 +124,9 @@ impl fmt::Display for Fault {
 
 /// A refusal: its fault and its place. In what the place counts depends on the
 /// fault: bytes from the beginning of the input or text for most, bytes of the
-/// normal form for 13, bytes or table numbers needed for 14, records of the
-/// table for 15 and 16, slots for 17 and 20, bytes needed for 18.
+/// normal form for 13, bytes or numbers of Read's table needed for 14, records of the
+/// value list for 15 and 16, slots for 17 and 20, bytes needed for 18, entries of the
+/// table of message structures for 21.
 ///
 /// ```
 /// let refusal = hverolda::judge(b"UNA:+.? '").unwrap_err();
@@ -164,6 +172,7 @@ impl fmt::Display for Refusal {
             Fault::NoSlot | Fault::Shelf => write!(f, "refused {number}: {fault}"),
             Fault::NoRoom => write!(f, "refused {number}: {fault}: {place} are needed"),
             Fault::Slot => write!(f, "refused {number} at slot {place}: {fault}"),
+            Fault::Table => write!(f, "refused {number} at entry {place}: {fault}"),
             Fault::Unknown(_) => write!(f, "refused {number}, place {place}: {fault}"),
             _ => write!(f, "refused {number} at byte {place}: {fault}"),
         }
@@ -181,22 +190,22 @@ mod tests {
     }
 
     #[test]
-    fn the_numbers_are_one_to_twenty() {
+    fn the_numbers_are_one_to_twenty_two() {
         let numbers: Vec<u32> = FAULTS.iter().map(|(fault, _)| fault.number()).collect();
-        assert_eq!(numbers, (1..=20).collect::<Vec<u32>>());
+        assert_eq!(numbers, (1..=22).collect::<Vec<u32>>());
         assert_eq!(Fault::of_number(0), None);
         assert_eq!(Fault::of_number(12), Some(Fault::Count));
     }
 
     #[test]
     fn a_number_of_a_newer_archive_is_told() {
-        for number in [21, u32::MAX] {
+        for number in [23, u32::MAX] {
             let fault = Fault::of_number(number).unwrap();
             assert_eq!((fault, fault.number()), (Fault::Unknown(number), number));
-            assert!(Fault::Slot < fault);
+            assert!(Fault::Body < fault);
         }
-        let newer = "refused 21, place 64: the archive is newer, and this crate does not know why";
-        assert_eq!(sentence(21, 64), newer);
+        let newer = "refused 23, place 64: the archive is newer, and this crate does not know why";
+        assert_eq!(sentence(23, 64), newer);
     }
 
     #[test]
@@ -233,6 +242,11 @@ mod tests {
              bytes, or 1 with 525 to 65536 to carry over"
         );
         assert_eq!(sentence(20, 63), "refused 20 at slot 63: no text is kept in this slot");
+        assert_eq!(sentence(21, 3), "refused 21 at entry 3: the table's entry breaks its rules");
+        assert_eq!(
+            sentence(22, 67),
+            "refused 22 at byte 67: the table wants another segment here, or none"
+        );
     }
 
     #[test]

@@ -21,6 +21,14 @@ extern "C" {
     /// Judges one interchange.
     pub fn hverolda_judge(input: *const u8, length: usize) -> Verdict;
 
+    /// Judges one interchange by a table of message structures.
+    pub fn hverolda_judge_by_table(
+        table: *const u8,
+        table_length: usize,
+        input: *const u8,
+        length: usize,
+    ) -> Verdict;
+
     /// Stores the normal form of one interchange.
     pub fn hverolda_normalise(
         buffer: *mut u8,
@@ -134,6 +142,14 @@ pub fn rules() -> u32 {
 pub fn judge(input: &[u8]) -> Verdict {
     // SAFETY: the pointer and the length are those of a lent slice.
     unsafe { hverolda_judge(input.as_ptr(), input.len()) }
+}
+
+/// Judges one interchange by a table of message structures.
+pub fn judge_by_table(table: &[u8], input: &[u8]) -> Verdict {
+    // SAFETY: as in `judge`; neither slice is written, so they may overlap.
+    unsafe {
+        hverolda_judge_by_table(table.as_ptr(), table.len(), input.as_ptr(), input.len())
+    }
 }
 
 /// Stores the normal form of one interchange.

@@ -1,8 +1,8 @@
 //! A second program for the paper "What we will build and its rules" and for
 //! the change requests that have landed: it judges one EDIFACT interchange,
 //! reads its values, writes interchanges, makes a normal form, says whether two
-//! interchanges are the same, keeps normal forms on a shelf, and reports on a
-//! file of interchanges.
+//! interchanges are the same, keeps normal forms on a shelf, reports on a file of
+//! interchanges, and judges by a table of message structures.
 //!
 //! One module for one idea; the first comment of each module names the clause
 //! of the paper, or the request, that it follows. The operations stand in
@@ -23,6 +23,7 @@ pub mod level;
 pub mod line_breaks;
 pub mod mailbox;
 pub mod mailbox_checks;
+pub mod message_table;
 pub mod normal_form;
 pub mod operations;
 pub mod order;
@@ -42,6 +43,8 @@ pub mod shelf_checks;
 pub mod shelf_layout;
 pub mod shelf_lines;
 pub mod standard_examples;
+pub mod table_checks;
+pub mod table_walk;
 pub mod trimming;
 pub mod value_list;
 pub mod version_cases;

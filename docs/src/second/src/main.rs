@@ -1,5 +1,5 @@
 //! The command line:
-//! `second judge|compare|locate|respell|report|shelf|answers|generate|cases|selftest`.
+//! `second judge|judge-by|compare|locate|respell|report|shelf|answers|generate|cases|selftest`.
 
 use std::fs::{self, File};
 use std::io::{self, BufReader, BufWriter, Read, Write};
@@ -12,7 +12,8 @@ use second::{
     shelf_lines,
 };
 
-const USAGE: &str = "usage: second judge [FILE] | compare FIRST SECOND .. | \
+const USAGE: &str =
+    "usage: second judge [FILE] | judge-by TABLE FILE.. | compare FIRST SECOND .. | \
                      locate SEGMENT ELEMENT REPEAT COMPONENT FILE.. | respell SERVICE FILE.. | \
                      report FILE.. | \
                      shelf SIZE [put FILE | get SLOT | remove SLOT | slots - | sums - | \
@@ -25,6 +26,7 @@ fn main() -> ExitCode {
     let done = match words[..] {
         ["judge"] => judge(None),
         ["judge", file] => judge(Some(file)),
+        ["judge-by", table, ref files @ ..] => judge_by(table, files),
         ["compare", ref files @ ..] if files.len() % 2 == 0 => compare(files),
         ["locate", segment, element, repeat, component, ref files @ ..] => {
             locate([segment, element, repeat, component], files)
@@ -66,6 +68,17 @@ fn judge(file: Option<&str>) -> io::Result<ExitCode> {
     source(file)?.read_to_end(&mut input)?;
     let answer = operations::judge(&input);
     writeln!(io::stdout(), "{}", report_lines::judge_line(&answer))?;
+    Ok(ExitCode::SUCCESS)
+}
+
+fn judge_by(table: &str, files: &[&str]) -> io::Result<ExitCode> {
+    let table = fs::read(table)?;
+    let mut out = BufWriter::new(io::stdout());
+    for file in files {
+        let answer = operations::judge_by_table(&table, &fs::read(file)?);
+        writeln!(out, "{}", report_lines::judge_line(&answer))?;
+    }
+    out.flush()?;
     Ok(ExitCode::SUCCESS)
 }
 

@@ -1,10 +1,12 @@
 //! The public operations over lent byte slices.
 //!
 //! Paper, clause "Operations" and the stages and exit buffers of clause
-//! "Refusals by number"; change request 2026-10: Locate has a repeat number.
+//! "Refusals by number"; change request 2026-10: Locate has a repeat number; change
+//! request 2026-08, "Message structures", has the second Judge.
 
 use crate::contents::{Contents, Part};
-use crate::judging::{accept, Accepted};
+use crate::judging::{accept, accept_by, Accepted};
+use crate::message_table::entries_of;
 use crate::normal_form::{text, text_length};
 use crate::refusal::{refuse, Answer, Refusal, ADVICE, BUFFER, LONGEST, OVER_LENGTH};
 use crate::service_characters::{from_six, ServiceCharacters};
@@ -22,14 +24,24 @@ pub struct Verdict {
 }
 
 pub fn judge(input: &[u8]) -> Answer<Verdict> {
-    let accepted = accept(input)?;
-    Ok(Verdict {
+    Ok(verdict_of(&accept(input)?))
+}
+
+/// The second Judge, which is lent a table of message structures: before all
+/// else 21 where the table is unsound, and 22 after 12 and before 13.
+pub fn judge_by_table(table: &[u8], input: &[u8]) -> Answer<Verdict> {
+    let entries = entries_of(table)?;
+    Ok(verdict_of(&accept_by(Some(&entries), input)?))
+}
+
+fn verdict_of(accepted: &Accepted) -> Verdict {
+    Verdict {
         characters: accepted.characters,
         segments: accepted.contents.segments.len(),
         messages: accepted.messages,
         groups: accepted.groups,
         normal_length: accepted.normal_length,
-    })
+    }
 }
 
 /// The length of the normal form, which then begins the buffer; a refusal

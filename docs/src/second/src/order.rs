@@ -63,12 +63,18 @@ pub struct Interchange {
 }
 
 impl Interchange {
-    /// All messages, those inside groups too.
-    pub fn message_count(&self) -> usize {
+    /// All messages, those inside groups too, in their order.
+    pub fn messages(&self) -> Vec<Message> {
         match &self.inner {
-            Inner::Groups(groups) => groups.iter().map(|group| group.messages.len()).sum(),
-            Inner::Messages(messages) => messages.len(),
+            Inner::Groups(groups) => {
+                groups.iter().flat_map(|group| group.messages.clone()).collect()
+            }
+            Inner::Messages(messages) => messages.clone(),
         }
+    }
+
+    pub fn message_count(&self) -> usize {
+        self.messages().len()
     }
 
     pub fn group_count(&self) -> usize {

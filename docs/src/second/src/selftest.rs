@@ -19,6 +19,7 @@ use crate::refusal::{Answer, Refusal, BUFFER, LONGEST, LONGEST_TABLE};
 use crate::request_stream::{next_request, put_request, Request};
 use crate::section_checks::check_sections;
 use crate::shelf_checks::check_shelf;
+use crate::table_checks::check_tables;
 use crate::value_list::{NEW_ELEMENT, NEW_SEGMENT, NEXT_REPEAT, RECORD};
 use crate::version_checks::check_versions;
 
@@ -49,6 +50,7 @@ pub fn run() -> Result<usize, String> {
     check_carrying()?;
     check_mailbox()?;
     check_either_order()?;
+    check_tables()?;
     if let Some(line) = crate::cases::check_cases().pop() {
         return Err(line);
     }

@@ -201,7 +201,7 @@ fn damage_sections(random: &mut Random, draft: &mut Draft) {
 
 /// Each UNT counts what stands there now, so that nothing but the sections can
 /// be wrong.
-fn recount(draft: &mut Draft) {
+pub fn recount(draft: &mut Draft) {
     let mut first = 0;
     for number in 0..draft.segments.len() {
         let segment = &mut draft.segments[number];

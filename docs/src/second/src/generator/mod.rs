@@ -15,6 +15,7 @@ mod orders;
 mod random;
 mod shelves;
 mod soups;
+mod tables;
 
 use std::io;
 use std::io::Write;
@@ -36,6 +37,9 @@ pub use mailboxes::any_file;
 pub use orders::{two_orders, TwoOrders};
 pub use random::Random;
 pub use shelves::{any_shelf, first_text, laid_out, sound_shelf, text_of};
+pub use tables::{
+    any_body, any_table, body_in, input_for, sound_entries, table_and_input, table_of, Tag,
+};
 
 /// The letters of all operations.
 pub const ALL_KINDS: &str = "JNCKLPRW";

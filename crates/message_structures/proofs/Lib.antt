@@ -1,0 +1,3 @@
+pub mod Words
+pub mod Bodies
+pub mod Answered

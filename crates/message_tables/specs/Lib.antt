@@ -1,0 +1,4 @@
+pub mod Entries
+pub mod Soundness
+pub mod Structure
+pub mod Notions

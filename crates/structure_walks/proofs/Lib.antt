@@ -1,0 +1,4 @@
+pub mod Ends
+pub mod Service
+pub mod Followed
+pub mod First

@@ -1,0 +1,4 @@
+pub mod Entries
+pub mod Steps
+pub mod Standing
+pub mod Going
