@@ -6,10 +6,10 @@ ghost use mathlib.Core.List.{_∷_, []};
 ghost use Prim.Native.Nat.{_+_, _*_, _≤_, _<_};
 ghost use lib.ListN.{length};
 ghost use lib.Seq.{sets};
-ghost use Rattle.values.specs.Values.{bytesOf};
 ghost use Rattle.values.specs.Tokens.{tokensAt};
 ghost use Rattle.read_counts.specs.Marks.{numbersOut};
-ghost use Rattle.read_counts.specs.Tally.{entryOf, values, end, marksOut, afterMarks, pastHeld, afterByte, byteNumbers, afterSeparator, separatorNumbers, tableOf};
+ghost use Rattle.read_counts.specs.Tally.{entryOf, values, end, marksOut, afterMarks, pastHeld, afterByte, byteNumbers, afterSeparator, separatorNumbers};
+ghost use Rattle.read_stores.specs.Stores.{Room, Stores};
 ghost use Rattle.refusals.specs.Limits.{mostBytes};
 use characters::Characters;
 use read_counts::Listing;
@@ -84,8 +84,8 @@ fn put_separator(table: &mut [u32], l: Listing, rank: u8) -> Listing
 
 // Stores the values of the body that begins at `start`.
 pub fn put_values(buffer: &mut [u8], table: &mut [u32], s: &[u8], c: Characters, start: usize)
-    requires { ⌜ (length (now s) ≤ mostBytes) × (length (bytesOf (tokensAt c (now s) start)) ≤ length (now buffer)) × (length (tableOf (tokensAt c (now s) start)) ≤ length (now table)) ⌝ }
-    ensures { λ _. ⌜ (now (buffer .exit) ≡ sets (now (buffer .entry)) 0 (bytesOf (tokensAt c (now (s .entry)) start))) × (now (table .exit) ≡ sets (now (table .entry)) 0 (tableOf (tokensAt c (now (s .entry)) start))) ⌝ }
+    requires { ⌜ (length (now s) ≤ mostBytes) × Room (now buffer) (now table) (tokensAt c (now s) start) ⌝ }
+    ensures { λ _. ⌜ Stores (now (buffer .entry)) (now (table .entry)) (tokensAt c (now (s .entry)) start) (now (buffer .exit)) (now (table .exit)) ⌝ }
 {
     let mut l = start_of_list();
     let mut at = start;

@@ -1,8 +1,13 @@
 -- How the other operations' answers are laid out in the structs that cross to C: a number 0 and what
 -- is given, or a refusal's number and place; what is not said is 0. Assumes nothing.
+use Prim.Native.Nat.{ℕ}
+use mathlib.Core.Path.{_≡_}
+use mathlib.Core.List.{List}
 use lib.Dec.{eqb}
 use Rattle.lists.specs.Lists.{if_then_else_, isEmpty}
 use Rattle.answers.specs.Answers.{Answer}
+use Rattle.operations.specs.Read.{read, readBytes, readTable}
+use Rattle.operations.specs.Write.{write, writeOutput}
 use Rattle.surface.specs.Verdicts.{value}
 use Rattle.surface.specs.declared.Written.{Written}
 use Rattle.surface.specs.declared.Comparison.{Comparison}
@@ -36,3 +41,13 @@ listingOf a =
     if eqb (a .number) 0
     then record { number = 0; place = 0; bytes = value 0 a; numbers = value 1 a }
     else record { number = a .number; place = value 0 a; bytes = 0; numbers = 0 }
+
+-- what Read promises across to C: the struct, and every byte and number of the two lent buffers at exit
+abbrev pub ReadsOut : (bytes table input : List ℕ) → Listing → (bytesAfter tableAfter : List ℕ) → Type 0
+ReadsOut bytes table input r bytesAfter tableAfter =
+    (r ≡ listingOf (read bytes table input)) × (bytesAfter ≡ readBytes bytes table input) × (tableAfter ≡ readTable bytes table input)
+
+-- what Write promises: the struct, and every byte of the output at exit
+abbrev pub WritesOut : (service bytes table output : List ℕ) → Written → (after : List ℕ) → Type 0
+WritesOut service bytes table output r after =
+    (r ≡ writtenOf (write service bytes table output)) × (after ≡ writeOutput service bytes table output)

@@ -8,10 +8,8 @@ ghost use Rattle.operations.specs.Judge.{judge as judgeOf, normalise as normali
 ghost use Rattle.message_structures.specs.Judging.{judgeByTable};
 ghost use Rattle.operations.specs.Compare.{compare as compareOf, keep as keepOf};
 ghost use Rattle.operations.specs.Locate.{locate as locateOf};
-ghost use Rattle.operations.specs.Read.{read as readOf, readBytes, readTable};
-ghost use Rattle.operations.specs.Write.{write as writeOf, writeOutput};
 ghost use Rattle.surface.specs.Verdicts.{verdictOf};
-ghost use Rattle.surface.specs.Answered.{writtenOf, comparisonOf, locationOf, listingOf};
+ghost use Rattle.surface.specs.Answered.{writtenOf, comparisonOf, locationOf, listingOf, ReadsOut, WritesOut};
 ghost use Rattle.surface.specs.Parts.{keptOf, partOf};
 ghost use Rattle.surface.specs.Rules.{rules};
 ghost use Rattle.surface.specs.OfShelf.{startedOf, shelvingOf, gotOf, slotNumbersOf, sumNumbersOf};
@@ -260,7 +258,7 @@ pub extern "C" fn hverolda_value_part(
 
 #[no_mangle]
 pub extern "C" fn hverolda_read(bytes: &mut [u8], table: &mut [u32], input: &[u8]) -> Listing
-    ensures { λ r. ⌜ (r ≡ listingOf (readOf (now (bytes .entry)) (now (table .entry)) (now (input .entry)))) × (now (bytes .exit) ≡ readBytes (now (bytes .entry)) (now (table .entry)) (now (input .entry))) × (now (table .exit) ≡ readTable (now (bytes .entry)) (now (table .entry)) (now (input .entry))) ⌝ }
+    ensures { λ r. ⌜ ReadsOut (now (bytes .entry)) (now (table .entry)) (now (input .entry)) r (now (bytes .exit)) (now (table .exit)) ⌝ }
 {
     listing_of(read::read(bytes, table, input))
 }
@@ -272,7 +270,7 @@ pub extern "C" fn hverolda_write(
     table: &[u32],
     output: &mut [u8],
 ) -> Written
-    ensures { λ r. ⌜ (r ≡ writtenOf (writeOf (now (service .entry)) (now (bytes .entry)) (now (table .entry)) (now (output .entry)))) × (now (output .exit) ≡ writeOutput (now (service .entry)) (now (bytes .entry)) (now (table .entry)) (now (output .entry))) ⌝ }
+    ensures { λ r. ⌜ WritesOut (now (service .entry)) (now (bytes .entry)) (now (table .entry)) (now (output .entry)) r (now (output .exit)) ⌝ }
 {
     written_of(write::write(service, bytes, table, output))
 }

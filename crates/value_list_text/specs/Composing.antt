@@ -1,7 +1,10 @@
 -- The text of a value list: an advice, and what its records emit as tokens, from left to right. Assumes nothing.
-use Prim.Native.Nat.{ℕ}
+use Prim.Native.Nat.{ℕ, _≤_}
+use mathlib.Core.Path.{_≡_}
+use mathlib.Core.Bool.{true}
 use mathlib.Core.List.{List, [], _∷_, _++_}
 use lib.Dec.{ltb}
+use lib.ListN.{length}
 use Rattle.lists.specs.Lists.{if_then_else_, text}
 use Rattle.characters.specs.declared.Characters.{Characters}
 use Rattle.values.specs.Tokens.{Token, separator}
@@ -9,10 +12,10 @@ use Rattle.values.specs.Spelling.{Bytes}
 use Rattle.emission_laws.specs.declared.Measure.{Measure}
 use Rattle.emission_laws.specs.Emission.{nothing, emitted}
 use Rattle.held_separators.specs.Putting.{valueTokens}
-use Rattle.operations.specs.ValueList.{Item, rankOf, valueIn}
+use Rattle.operations.specs.ValueList.{Item, rankOf, valueIn, listedIn}
 use Rattle.value_lists.specs.declared.Record.{Record}
-use Rattle.value_lists.specs.Records.{entryOf}
-use Rattle.refusals.specs.Limits.{mostBytes}
+use Rattle.value_lists.specs.Records.{entryOf, wellListed}
+use Rattle.refusals.specs.Limits.{mostBytes, mostNumbers}
 
 -- a record: a separator, and the bytes of its value
 abbrev pub recordTokens : Item → List Token
@@ -44,3 +47,10 @@ itemOf bytes r = record { kind = r .kind; value = valueIn bytes (entryOf r) }
 -- a length, 32,001 standing for any above 32,000
 unfoldable pub capped : ℕ → ℕ
 capped n = if ltb mostBytes n then 32001 else n
+
+-- What is asked of a value list that is stored as a text: 15 does not refuse it, 1 and 14 do not refuse the text.
+pub record Storable (c : Characters) (bytes table buffer : List ℕ) : Type 0 where
+  pub listed : wellListed bytes table ≡ true
+  pub numbers : length table ≤ mostNumbers
+  pub short : length (composedText c (listedIn bytes table)) ≤ mostBytes
+  pub room : length (composedText c (listedIn bytes table)) ≤ length buffer

@@ -9,7 +9,7 @@ ghost use Rattle.emission_laws.specs.Emission.{nothing, waiting, emitted, after
 ghost use Rattle.held_separators.specs.Putting.{Fits, Puts};
 ghost use Rattle.operations.specs.ValueList.{rankOf, listedIn};
 ghost use Rattle.value_lists.specs.Records.{wellListed};
-ghost use Rattle.value_list_text.specs.Composing.{recordTokens, listTokens, composedText, capped, itemOf};
+ghost use Rattle.value_list_text.specs.Composing.{recordTokens, listTokens, composedText, capped, itemOf, Storable};
 ghost use Rattle.refusals.specs.Limits.{mostBytes, mostNumbers, mostSpelled};
 use characters::Characters;
 use emission_laws::Measure;
@@ -82,7 +82,7 @@ fn put_record(buffer: &mut [u8], m: Measure, c: Characters, bytes: &[u8], r: Rec
 
 // Stores the records from the advice's last byte on: the first ends the advice as it would end a segment.
 fn put_records(buffer: &mut [u8], c: Characters, bytes: &[u8], table: &[u32])
-    requires { ⌜ (wellListed (now bytes) (now table) ≡ true) × (length (now table) ≤ mostNumbers) × (8 + length (emitted c nothing (listTokens (listedIn (now bytes) (now table)))) ≤ mostBytes) × (8 + length (emitted c nothing (listTokens (listedIn (now bytes) (now table)))) ≤ length (now buffer)) ⌝ }
+    requires { ⌜ Storable c (now bytes) (now table) (now buffer) ⌝ }
     ensures { λ _. ⌜ now (buffer .exit) ≡ sets (now (buffer .entry)) 8 (emitted c nothing (listTokens (listedIn (now (bytes .entry)) (now (table .entry))))) ⌝ }
 {
     let mut m = Measure {
@@ -99,7 +99,7 @@ fn put_records(buffer: &mut [u8], c: Characters, bytes: &[u8], table: &[u32])
 
 // Stores the text at the front.
 pub fn put_text(buffer: &mut [u8], c: Characters, bytes: &[u8], table: &[u32])
-    requires { ⌜ (wellListed (now bytes) (now table) ≡ true) × (length (now table) ≤ mostNumbers) × (length (composedText c (listedIn (now bytes) (now table))) ≤ mostBytes) × (length (composedText c (listedIn (now bytes) (now table))) ≤ length (now buffer)) ⌝ }
+    requires { ⌜ Storable c (now bytes) (now table) (now buffer) ⌝ }
     ensures { λ _. ⌜ now (buffer .exit) ≡ sets (now (buffer .entry)) 0 (composedText c (listedIn (now (bytes .entry)) (now (table .entry)))) ⌝ }
 {
     put_advice(buffer, c);

@@ -46,7 +46,7 @@ put-values-requires : tie.Need-put-values-requires
 put-values-requires c κs =
     let t = c .before .before .before .before .before .before .tally-of .ensures in
     let short = accepted-short (c .before .before .before .before .before .before .before .before .before .before .before .before .args .s .now) (c .before .before .before .before .before .before .before .before .before .before .before .before .pre .0) in
-    omega arith
+    (short, record { for-bytes = omega arith; for-table = omega arith })
 
 same-length : tie.Need-same-length
 same-length c = search needs

@@ -27,7 +27,7 @@ loop-holds c =
     let s = c .before .before .before .before .args .s .now in
     let start = c .before .before .before .before .args .start in
     stored-start (c .before .before .before .before .args .buffer .now) (c .before .before .before .before .args .table .now) (tokensAt (c .before .before .before .before .args .c) s start) (length s - start) (length s) (c .start-of-list .ensures)
-    (c .before .before .before .before .pre .1) (c .before .before .before .before .pre .2) (omega arith)
+    (c .before .before .before .before .pre .1 .for-bytes) (c .before .before .before .before .pre .1 .for-table) (omega arith)
 
 lex-requires : tie.Need-lex-requires Inv-loop μ-loop
 lex-requires c κs = search needs

@@ -32,10 +32,11 @@ loop-holds : tie.Need-loop-holds Inv-loop μ-loop
 loop-holds c =
     let buffer = c .before .before .before .before .args .buffer .now in
     let chars = c .before .before .before .before .args .c in
-    let ts = listTokens (listedIn (c .before .before .before .before .args .bytes .now) (c .before .before .before .before .args .table .now)) in (
+    let items = listedIn (c .before .before .before .before .args .bytes .now) (c .before .before .before .before .args .table .now) in
+    let ts = listTokens items in (
       subst (λ (h : Held). Goes buffer buffer 8 8 (emitted chars nothing ts) (emitted chars h ts)) (sym (c .nothing-held .ensures))
-          (record { stored = refl; fits = c .before .before .before .before .pre .3; as-long = refl }),
-      reached-start chars (c .before .before .before .before .args .bytes .now) (c .before .before .before .before .args .table .now) (c .before .before .before .before .pre .0) (ap (λ (h : Held). record { total = 8; held = h }) (c .nothing-held .ensures)),
+          (record { stored = refl; fits = omega (arith, c .before .before .before .before .pre .room, text-length chars items); as-long = refl }),
+      reached-start chars (c .before .before .before .before .args .bytes .now) (c .before .before .before .before .args .table .now) (c .before .before .before .before .pre .listed) (ap (λ (h : Held). record { total = 8; held = h }) (c .nothing-held .ensures)),
     )
 
 sub-loop : tie.Need-sub-loop Inv-loop μ-loop
@@ -54,7 +55,7 @@ put-record-requires c κs =
     let g = c .before .before .before .loop .inv .1 in
     let d = c .record-at .ensures in (
       next-value chars bytes table m g (omega (arith, g .inside)) d,
-      omega (arith, g .few, g .inside, c .before .before .before .before .before .before .before .before .pre .1, c .before .before .before .before .before .before .before .before .pre .2, at-most chars bytes table m g, text-length chars (listedIn bytes table)),
+      omega (arith, g .few, g .inside, c .before .before .before .before .before .before .before .before .pre .numbers, c .before .before .before .before .before .before .before .before .pre .short, at-most chars bytes table m g, text-length chars (listedIn bytes table)),
       tokens-fit chars m (listTokens (listedIn bytes (drop at table))) (c .before .before .before .loop .inv .0) (recordTokens (itemOf bytes (c .record-at .result))) (listTokens (listedIn bytes (drop (at + 3) table)))
           (listed-next bytes table at (omega (arith, g .inside)) d),
     )
@@ -89,7 +90,7 @@ put-separator-requires c κs =
     let at = c .before .before .loop .at in
     let g = c .before .before .loop .inv .1 in (
       tokens-fit chars m (listTokens (listedIn bytes (drop at table))) (c .before .before .loop .inv .0) (separator 0 0 ∷ []) [] (listed-end bytes table at (omega (arith, g .inside))),
-      omega (arith, g .few, g .inside, c .before .before .before .before .before .before .before .pre .1, c .before .before .before .before .before .before .before .pre .2, at-most chars bytes table m g, text-length chars (listedIn bytes table)),
+      omega (arith, g .few, g .inside, c .before .before .before .before .before .before .before .pre .numbers, c .before .before .before .before .before .before .before .pre .short, at-most chars bytes table m g, text-length chars (listedIn bytes table)),
     )
 
 same-length : tie.Need-same-length Inv-loop μ-loop

@@ -9,14 +9,14 @@ use Rattle.value_list_text.proofs.put_text.Statement.{statement}
 use Rattle.value_list_text.proofs.put_text.Tie as tie
 
 put-advice-requires : tie.Need-put-advice-requires
-put-advice-requires c κs = advice-fits (c .before .before .before .before .args .c) (listedIn (c .before .before .before .before .args .bytes .now) (c .before .before .before .before .args .table .now)) (c .before .before .before .before .pre .3)
+put-advice-requires c κs = advice-fits (c .before .before .before .before .args .c) (listedIn (c .before .before .before .before .args .bytes .now) (c .before .before .before .before .args .table .now)) (c .before .before .before .before .pre .room)
 
 put-records-requires : tie.Need-put-records-requires
 put-records-requires c κs =
     let chars = c .before .before .before .before .before .before .before .before .args .c in
-    let start = text-length chars (listedIn (c .before .before .before .before .before .before .before .before .args .bytes .now) (c .before .before .before .before .before .before .before .before .args .table .now)) in
     let same = stored-length (c .before .before .before .before .before .before .before .before .args .buffer .now) 0 (adviceOf chars) (c .before .before .before .put-advice .ensures) in
-    (c .before .before .before .before .before .before .before .before .pre .0, c .before .before .before .before .before .before .before .before .pre .1, omega (arith, c .before .before .before .before .before .before .before .before .pre .2), omega (arith, c .before .before .before .before .before .before .before .before .pre .3))
+    let known = c .before .before .before .before .before .before .before .before .pre in
+    record { listed = known .listed; numbers = known .numbers; short = known .short; room = omega (arith, known .room, same) }
 
 same-length : tie.Need-same-length
 same-length c = search needs

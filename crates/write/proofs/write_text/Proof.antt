@@ -59,7 +59,7 @@ put-text-requires c κs =
     let same : c .before .before .before .text-length .result ≡ size = n ∙ capped-tells size (omega (arith, n, c .before .before .if1 .left)) in
     let short : size ≤ mostBytes = omega (arith, same, c .before .before .if1 .left) in
     let fits : size ≤ length (x .output .now) = omega (arith, same, c .before .if2 .left) in
-    (known .good, known .short, short, fits)
+    record { listed = known .good; numbers = known .short; short = short; room = fits }
 
 write-judged-requires : tie.Need-write-judged-requires
 write-judged-requires c κs =
