@@ -98,9 +98,10 @@ level-low b (inl k) = k .0
 level-low b (inr (inl k)) = omega arith
 level-low b (inr (inr k)) = omega arith
 
-level-solid : (l : Level) (b : ℕ) → holds l b ≡ true → solid b ≡ true
-level-solid levelA b h = solid-says b (level-low b (level-a-says b .0 h))
-level-solid levelB b h = solid-says b (⊎-elim (level-low b) (λ (k : (97 ≤ b) × (b ≤ 122)). omega arith) (level-b-says b .0 h))
+-- every byte of a level is 32 or above
+level-least : (l : Level) (b : ℕ) → holds l b ≡ true → 32 ≤ b
+level-least levelA b h = level-low b (level-a-says b .0 h)
+level-least levelB b h = ⊎-elim (level-low b) (λ (k : (97 ≤ b) × (b ≤ 122)). omega arith) (level-b-says b .0 h)
 
 all-implies : {A : Type 0} (p q : A → Bool) → ((x : A) → p x ≡ true → q x ≡ true) → (xs : List A) → all p xs ≡ true → all q xs ≡ true
 unfolding all
@@ -108,17 +109,21 @@ all-implies p q h [] k = refl
 all-implies p q h (x ∷ xs) k = and-both (q x) (all q xs) (h x (and-left (p x) (all p xs) k)) (all-implies p q h xs (and-right (p x) (all p xs) k))
 
 module _ (s : List ℕ) (a : Allowed s) where
-  pub contents-solid : all (all (all (all (all solid)))) (contents s) ≡ true
-  contents-solid =
+  -- what every byte of 32 or above passes, every byte of the contents passes
+  pub contents-pass : (p : ℕ → Bool) → ((b : ℕ) → 32 ≤ b → p b ≡ true) → all (all (all (all (all p)))) (contents s) ≡ true
+  contents-pass p low =
       let level : Level = a .level in
       rw (contents-read s)
-      (trim-bytes solid (listRead s)
-      (all-implies (all (all (all (all (holds level))))) (all (all (all (all solid))))
-      (all-implies (all (all (all (holds level)))) (all (all (all solid)))
-      (all-implies (all (all (holds level))) (all (all solid))
-      (all-implies (all (holds level)) (all solid) (all-implies (holds level) solid (level-solid level)))))
+      (trim-bytes p (listRead s)
+      (all-implies (all (all (all (all (holds level))))) (all (all (all (all p))))
+      (all-implies (all (all (all (holds level)))) (all (all (all p)))
+      (all-implies (all (all (holds level))) (all (all p))
+      (all-implies (all (holds level)) (all p) (all-implies (holds level) p (λ b h. low b (level-least level b h))))))
       (listRead s)
       (ap (all (all (all (all (all (holds level)))))) (sym (list-read s a)) ∙ a .inside)))
+
+  pub contents-solid : all (all (all (all (all solid)))) (contents s) ≡ true
+  contents-solid = contents-pass solid solid-says
 
   -- the normal form's fifth byte is a space or `*`
   fifth-solid : (list : SegmentList) → solid (normalRepetition list) ≡ true

@@ -137,7 +137,7 @@ module _ (s : List ℕ) (e : answering (stagesIn s 1 6) ≡ none) where
       ∙ ap (λ (l : List Token). some (through (ends 0) l)) (sym d)
 
   -- the fifth byte of the normal form is that of the version which it names
-  first-repetition : normalRepetition (contentsOf first ∷ []) ≡ normalRepetition (contents s)
+  pub first-repetition : normalRepetition (contentsOf first ∷ []) ≡ normalRepetition (contents s)
   unfolding normalRepetition hasVersion4 contents at maybe
   first-repetition =
       ap (λ (t : Bool). if t then 42 else 32)

@@ -21,7 +21,7 @@ use Rattle.spelling_laws.specs.Bodies.{Shaped, Spellable, Unbroken}
 use Rattle.spelling_laws.proofs.Laws.{read-shaped, read-spellable, read-unbroken}
 use Rattle.trimming_laws.proofs.Trimmed.{trimList-shaped}
 use Rattle.trimming_laws.proofs.Starts.{trim-unbroken}
-use Rattle.normal_form_laws.specs.Forms.{markOf, formCharacters, BodyPasses, listRead}
+use Rattle.normal_form_laws.specs.Forms.{markOf, formCharacters, Suits, BodyPasses, listRead}
 use Rattle.normal_form_laws.proofs.Trimmed.{contents-read, contents-trimmed, trim-spellable}
 use Rattle.normal_form_laws.proofs.Openings.{advice-characters, opened-leads, interchange-passes, interchange-read}
 use Rattle.normal_form_laws.proofs.Accepted.{Accepted, accepted-exactly, passes-accepted, usable-accepted}
@@ -39,7 +39,7 @@ usable-mark c u =
     and-left marked separate (and-left (marked && separate) (allDiffer (c .mark ∷ serviceCharacters c)) u)
 
 -- with either of them the normal form's characters are usable, in each version
-marked-usable : (mark : ℕ) → member mark (text ".,") ≡ true → (list : SegmentList) → usable (normalCharacters mark (normalRepetition list)) ≡ true
+pub marked-usable : (mark : ℕ) → member mark (text ".,") ≡ true → (list : SegmentList) → usable (normalCharacters mark (normalRepetition list)) ≡ true
 unfolding member usable normalCharacters normalRepetition sixBytes serviceCharacters hasRelease hasRepetition separates between upper lower digit all allDiffer
 marked-usable mark h list = step (or-cases (eqb mark 46) (eqb mark 44 || false) h) (hasVersion4 list)
   where
@@ -48,6 +48,27 @@ marked-usable mark h list = step (or-cases (eqb mark 46) (eqb mark 44 || false) 
     step (inl e) false = rw (eqb-true mark 46 e) refl
     step (inr e) true = rw (eqb-true mark 44 (rw or-false at e)) refl
     step (inr e) false = rw (eqb-true mark 44 (rw or-false at e)) refl
+
+-- ---- an input whose body passes
+
+module _ (s : List ℕ) (fit : usable (charactersOf s) ≡ true) (passes : BodyPasses s) where
+  -- its contents can be spelled with its own characters,
+  pub passing-spellable : Spellable (charactersOf s) (contents s)
+  passing-spellable =
+      rw (contents-read s) (trim-spellable (charactersOf s) (listRead s) (read-spellable (charactersOf s) fit (bodyStart s) (body s) passes))
+
+  -- and, where these suit them, with those of its normal form: they have a release character, and a repetition separator in version 4,
+  -- before which each element has one repeat
+  pub form-spellable : Suits (charactersOf s) (contents s) → Spellable (formCharacters s) (contents s)
+  unfolding hasRelease normalCharacters sixBytes
+  form-spellable suits = record {
+    released = λ r. absurd (true≢false r);
+    repeated = λ r. passing-spellable .repeated (older (hasRepetition (charactersOf s)) refl (sym (form-repetition (markOf s) (contents s)) ∙ r));
+  }
+    where
+      older : (p : Bool) → hasRepetition (charactersOf s) ≡ p → hasVersion4 (contents s) ≡ false → p ≡ false
+      older true e v = absurd (true≢false (sym (suits e) ∙ v))
+      older false e v = refl
 
 -- ---- an accepted input
 
@@ -83,24 +104,12 @@ module _ (s : List ℕ) (accepted : refusalOf s ≡ none) where
 
   -- what can be spelled with its own characters
   pub contents-spellable : Spellable (charactersOf s) (contents s)
-  contents-spellable =
-      rw (contents-read s)
-      (trim-spellable (charactersOf s) (listRead s) (read-spellable (charactersOf s) accepted-usable (bodyStart s) (body s) accepted-passes))
+  contents-spellable = passing-spellable s accepted-usable accepted-passes
 
   -- ---- its normal form
 
-  -- the contents can be spelled with its characters: they have a release character, and a repetition separator in version 4, before which
-  -- each element has one repeat
   pub normal-spellable : Spellable (formCharacters s) (contents s)
-  unfolding hasRelease normalCharacters sixBytes
-  normal-spellable = record {
-    released = λ r. absurd (true≢false r);
-    repeated = λ r. contents-spellable .repeated (older (hasRepetition (charactersOf s)) refl (sym (form-repetition (markOf s) (contents s)) ∙ r));
-  }
-    where
-      older : (p : Bool) → hasRepetition (charactersOf s) ≡ p → hasVersion4 (contents s) ≡ false → p ≡ false
-      older true e v = absurd (true≢false (sym (own-suits s nowhere e) ∙ v))
-      older false e v = refl
+  normal-spellable = form-spellable s accepted-usable accepted-passes (own-suits s nowhere)
 
   -- its characters are usable; its body passes and is read as the contents
   pub normal-usable : usable (formCharacters s) ≡ true

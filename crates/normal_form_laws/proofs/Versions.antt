@@ -15,7 +15,7 @@ use Rattle.levels.specs.Levels.{levelNamed, syntaxIdentifier, isVersion4, isOld
 use Rattle.segments.specs.Tags.{kindOf}
 use Rattle.segments.specs.Order.{isOpen, isComplete}
 use Rattle.stages.specs.Contents.{segmentsOf, contents, kindsOf, normalCharacters, normalRepetition}
-use Rattle.stages.specs.Places.{foreignLevel, level}
+use Rattle.stages.specs.Places.{foreignLevel, misplacedSegments, level}
 use Rattle.normal_form_laws.specs.Forms.{Suits}
 use Rattle.normal_form_laws.proofs.Accepted.{Accepted, order-accepted}
 
@@ -117,10 +117,13 @@ unfolding isComplete isOpen at maybe hasVersion4
 first-suits c [] o h p = absurd (false≢true o)
 first-suits c (g ∷ gs) o h p = let (l, named) = first-named c g gs h in segment-four c g l named p
 
--- the characters of an accepted input suit its contents
-pub own-suits : (s : List ℕ) → Accepted s → Suits (charactersOf s) (contents s)
+-- the characters of an input that 7 and 9 do not refuse suit its contents
+pub named-suits : (s : List ℕ) → misplacedSegments s ≡ [] → foreignLevel s ≡ [] → Suits (charactersOf s) (contents s)
 unfolding kindsOf foreignLevel contents
-own-suits s a = first-suits (charactersOf s) (segmentsOf s) (order-accepted s .0 (a .order) .1) (a .level)
+named-suits s order named = first-suits (charactersOf s) (segmentsOf s) (order-accepted s .0 order .1) named
+
+pub own-suits : (s : List ℕ) → Accepted s → Suits (charactersOf s) (contents s)
+own-suits s a = named-suits s (a .order) (a .level)
 
 -- ---- the normal form's characters
 

@@ -10,7 +10,7 @@ use Rattle.characters.specs.declared.Characters.{Characters}
 use Rattle.characters.specs.Characters.{bodyStart}
 use Rattle.characters.specs.Notions.{Usable}
 use Rattle.refusals.specs.declared.Fault.{Fault}
-use Rattle.refusals.specs.declared.Fault.the-variants.{TooLong, UnusableAdvice, NoOpening, StrayRelease, UnendedSegment, BrokenTag, ForeignLevel, OutsideLevel, MisplacedSegment, BadControl, ReferenceDiffers, CountWrong, NormalTooLong, BufferShort, BadList, NeedsRelease, NoFreeSlot, NoRoom, UnsoundShelf, FreeSlot, UnsoundTable, UnmatchedBody}
+use Rattle.refusals.specs.declared.Fault.the-variants.{TooLong, UnusableAdvice, NoOpening, StrayRelease, UnendedSegment, BrokenTag, ForeignLevel, OutsideLevel, MisplacedSegment, BadControl, ReferenceDiffers, CountWrong, NormalTooLong, BufferShort, BadList, NeedsRelease, NoFreeSlot, NoRoom, UnsoundShelf, FreeSlot, UnsoundTable, UnmatchedBody, NoAcknowledgement, NoColumns}
 use Rattle.refusals.specs.Refusals.{number}
 use Rattle.refusals.proofs.Order.{number-tells}
 use Rattle.values.specs.Tokens.{Token, byte, separator, fault, Segment, start}
@@ -109,6 +109,8 @@ module _ (s : List ℕ) where
   Meant FreeSlot p = ⊥
   Meant UnsoundTable p = ⊥
   Meant UnmatchedBody p = ⊥
+  Meant NoAcknowledgement p = ⊥
+  Meant NoColumns p = ⊥
 
   -- a number that is met is that of a fault
   abbrev Named : ℕ → ℕ → Type 0
@@ -175,3 +177,5 @@ module _ (s : List ℕ) where
   meets FreeSlot h = absurd h
   meets UnsoundTable h = absurd h
   meets UnmatchedBody h = absurd h
+  meets NoAcknowledgement h = absurd h
+  meets NoColumns h = absurd h

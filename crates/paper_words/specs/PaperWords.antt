@@ -316,11 +316,11 @@ pub record Refusals : Type 0 where
   pub write-refuses : (service bytes table output : List ℕ) (n p : ℕ) → ¬ (n ≡ 0)
       → (write service bytes table output ≡ answer n (p ∷ []))
       ↔ Answers (WriteMeets service bytes table output) n p ((15 ∷ []) ∷ (2 ∷ []) ∷ (16 ∷ []) ∷ (1 ∷ []) ∷ (14 ∷ []) ∷ from3)
-  -- of the cases; 17 to 20 are of request 2026-04, 21 and 22 of 2026-08
+  -- of the cases; 17 to 20 are of request 2026-04, 21 and 22 of 2026-08, 23 of 2026-11, 24 of 2026-12
   pub numbers : map number (TooLong ∷ UnusableAdvice ∷ NoOpening ∷ StrayRelease ∷ UnendedSegment ∷ BrokenTag ∷ ForeignLevel ∷ OutsideLevel
       ∷ MisplacedSegment ∷ BadControl ∷ ReferenceDiffers ∷ CountWrong ∷ NormalTooLong ∷ BufferShort ∷ BadList ∷ NeedsRelease
-      ∷ NoFreeSlot ∷ NoRoom ∷ UnsoundShelf ∷ FreeSlot ∷ UnsoundTable ∷ UnmatchedBody ∷ [])
-      ≡ 1 ∷ 2 ∷ 3 ∷ 4 ∷ 5 ∷ 6 ∷ 7 ∷ 8 ∷ 9 ∷ 10 ∷ 11 ∷ 12 ∷ 13 ∷ 14 ∷ 15 ∷ 16 ∷ 17 ∷ 18 ∷ 19 ∷ 20 ∷ 21 ∷ 22 ∷ []
+      ∷ NoFreeSlot ∷ NoRoom ∷ UnsoundShelf ∷ FreeSlot ∷ UnsoundTable ∷ UnmatchedBody ∷ NoAcknowledgement ∷ NoColumns ∷ [])
+      ≡ 1 ∷ 2 ∷ 3 ∷ 4 ∷ 5 ∷ 6 ∷ 7 ∷ 8 ∷ 9 ∷ 10 ∷ 11 ∷ 12 ∷ 13 ∷ 14 ∷ 15 ∷ 16 ∷ 17 ∷ 18 ∷ 19 ∷ 20 ∷ 21 ∷ 22 ∷ 23 ∷ 24 ∷ []
 
 -- all of them
 abbrev pub PaperWords : Type 0

@@ -89,7 +89,8 @@ pub fn with_one_more(l: Listing) -> Listing
     }
 }
 
-fn with_byte(l: Listing) -> Listing
+// Past a byte of a value, which lets out what is held back.
+pub fn with_byte(l: Listing) -> Listing
     requires { ⌜ (values l ≤ mostBytes) × (end l ≤ mostBytes) ⌝ }
     ensures { λ r. ⌜ r ≡ afterByte l ⌝ }
 {

@@ -10,7 +10,7 @@ use lib.ListN.{getD}
 use borrow.Author.Tests.{ltb-true, ltb-false, eqb-true, eqb-false, lt-ltb, le-ltb}
 use Rattle.lists.specs.Lists.{if_then_else_}
 use Rattle.refusals.specs.declared.Fault.{Fault}
-use Rattle.refusals.specs.declared.Fault.the-variants.{TooLong, UnusableAdvice, NoOpening, StrayRelease, UnendedSegment, BrokenTag, ForeignLevel, OutsideLevel, MisplacedSegment, BadControl, ReferenceDiffers, CountWrong, NormalTooLong, BufferShort, BadList, NeedsRelease, NoFreeSlot, NoRoom, UnsoundShelf, FreeSlot, UnsoundTable, UnmatchedBody}
+use Rattle.refusals.specs.declared.Fault.the-variants.{TooLong, UnusableAdvice, NoOpening, StrayRelease, UnendedSegment, BrokenTag, ForeignLevel, OutsideLevel, MisplacedSegment, BadControl, ReferenceDiffers, CountWrong, NormalTooLong, BufferShort, BadList, NeedsRelease, NoFreeSlot, NoRoom, UnsoundShelf, FreeSlot, UnsoundTable, UnmatchedBody, NoAcknowledgement, NoColumns}
 use Rattle.refusals.specs.declared.Refusal.{Refusal}
 use Rattle.refusals.specs.Refusals.{number, isLower}
 
@@ -19,10 +19,10 @@ faults : List Fault
 faults =
     TooLong ∷ TooLong ∷ UnusableAdvice ∷ NoOpening ∷ StrayRelease ∷ UnendedSegment ∷ BrokenTag ∷ ForeignLevel ∷ OutsideLevel
     ∷ MisplacedSegment ∷ BadControl ∷ ReferenceDiffers ∷ CountWrong ∷ NormalTooLong ∷ BufferShort ∷ BadList ∷ NeedsRelease
-    ∷ NoFreeSlot ∷ NoRoom ∷ UnsoundShelf ∷ FreeSlot ∷ UnsoundTable ∷ UnmatchedBody ∷ []
+    ∷ NoFreeSlot ∷ NoRoom ∷ UnsoundShelf ∷ FreeSlot ∷ UnsoundTable ∷ UnmatchedBody ∷ NoAcknowledgement ∷ NoColumns ∷ []
 
--- a fault stands at its number, which is below 23 and above 0
-numbered : (f : Fault) → (getD faults (number f) TooLong ≡ f) × (ltb (number f) 23 ≡ true) × (ltb 0 (number f) ≡ true)
+-- a fault stands at its number, which is below 25 and above 0
+numbered : (f : Fault) → (getD faults (number f) TooLong ≡ f) × (ltb (number f) 25 ≡ true) × (ltb 0 (number f) ≡ true)
 unfolding faults
 numbered TooLong = (refl, refl, refl)
 numbered UnusableAdvice = (refl, refl, refl)
@@ -46,6 +46,8 @@ numbered UnsoundShelf = (refl, refl, refl)
 numbered FreeSlot = (refl, refl, refl)
 numbered UnsoundTable = (refl, refl, refl)
 numbered UnmatchedBody = (refl, refl, refl)
+numbered NoAcknowledgement = (refl, refl, refl)
+numbered NoColumns = (refl, refl, refl)
 
 pub number-not-zero : (f : Fault) → number f ≡ 0 → ⊥
 number-not-zero f e = omega (arith, ltb-true 0 (number f) (numbered f .2))
@@ -54,12 +56,12 @@ number-not-zero f e = omega (arith, ltb-true 0 (number f) (numbered f .2))
 pub number-tells : (f g : Fault) → number f ≡ number g → f ≡ g
 number-tells f g e = sym (numbered f .0) ∙ ap (λ (n : ℕ). getD faults n TooLong) e ∙ numbered g .0
 
-pub number-below : (f : Fault) → number f < 23
-number-below f = ltb-true (number f) 23 (numbered f .1)
+pub number-below : (f : Fault) → number f < 25
+number-below f = ltb-true (number f) 25 (numbered f .1)
 
 -- the place, and the number as its last digit
 unfoldable pub key : Refusal → ℕ
-key r = r .place * 23 + number (r .fault)
+key r = r .place * 25 + number (r .fault)
 
 -- two refusals with the same key are the same
 pub key-tells : (r q : Refusal) → key r ≡ key q → r ≡ q
@@ -70,15 +72,15 @@ key-tells r q e =
     (omega (arith, number-below (r .fault), number-below (q .fault)))
 
 -- first by one number, then by another, is by the two as the digits of one
-by-digits : (a b m n : ℕ) → m < 23 → n < 23 → (ltb a b || (eqb a b && ltb m n)) ≡ ltb (a * 23 + m) (b * 23 + n)
+by-digits : (a b m n : ℕ) → m < 25 → n < 25 → (ltb a b || (eqb a b && ltb m n)) ≡ ltb (a * 25 + m) (b * 25 + n)
 by-digits a b m n hm hn = step (ltb a b) refl (eqb a b) refl (ltb m n) refl
   where
     step : (x : Bool) → ltb a b ≡ x → (y : Bool) → eqb a b ≡ y → (z : Bool) → ltb m n ≡ z
-        → (x || (y && z)) ≡ ltb (a * 23 + m) (b * 23 + n)
-    step true l y e z k = sym (lt-ltb (a * 23 + m) (b * 23 + n) (omega (arith, ltb-true a b l)))
-    step false l true e true k = sym (lt-ltb (a * 23 + m) (b * 23 + n) (omega (arith, eqb-true a b e, ltb-true m n k)))
-    step false l true e false k = sym (le-ltb (a * 23 + m) (b * 23 + n) (omega (arith, eqb-true a b e, ltb-false m n k)))
-    step false l false e z k = sym (le-ltb (a * 23 + m) (b * 23 + n) (omega (arith, ltb-false a b l, eqb-false a b e)))
+        → (x || (y && z)) ≡ ltb (a * 25 + m) (b * 25 + n)
+    step true l y e z k = sym (lt-ltb (a * 25 + m) (b * 25 + n) (omega (arith, ltb-true a b l)))
+    step false l true e true k = sym (lt-ltb (a * 25 + m) (b * 25 + n) (omega (arith, eqb-true a b e, ltb-true m n k)))
+    step false l true e false k = sym (le-ltb (a * 25 + m) (b * 25 + n) (omega (arith, eqb-true a b e, ltb-false m n k)))
+    step false l false e z k = sym (le-ltb (a * 25 + m) (b * 25 + n) (omega (arith, ltb-false a b l, eqb-false a b e)))
 
 -- one refusal is lower than another where its key is
 pub lower-key : (r q : Refusal) → isLower r q ≡ ltb (key r) (key q)

@@ -1,7 +1,7 @@
-// Refusals (paper 01, "Refusals by number"): the twenty-two by name, and the rule that picks one:
+// Refusals (paper 01, "Refusals by number"): the twenty-four by name, and the rule that picks one:
 // the first failing stage answers; within a stage the lowest place, then the lowest number.
-// The definitions are in specs/. When each refusal is met is left to `stages`, `operations`, `shelves` and
-// `message_structures`.
+// The definitions are in specs/. When each refusal is met is left to `stages`, `operations`, `shelves`,
+// `message_structures`, `acknowledgements` and `columns`.
 
 // The most bytes of an input, a text or a normal form (refusals 1 and 13), and the most numbers of a
 // value list's table (refusal 15).
@@ -32,6 +32,8 @@ pub enum Fault {
     FreeSlot,
     UnsoundTable,
     UnmatchedBody,
+    NoAcknowledgement,
+    NoColumns,
 }
 
 pub struct Refusal {

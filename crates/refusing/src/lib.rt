@@ -40,5 +40,7 @@ pub fn number_of(fault: Fault) -> u8
         Fault::FreeSlot => 20,
         Fault::UnsoundTable => 21,
         Fault::UnmatchedBody => 22,
+        Fault::NoAcknowledgement => 23,
+        Fault::NoColumns => 24,
     }
 }

@@ -11,7 +11,7 @@ use borrow.Author.Tests.{ne-eqb}
 use Rattle.lists.specs.Lists.{if_then_else_, those}
 use Rattle.lists.proofs.Texts.{if-false}
 use Rattle.refusals.specs.declared.Fault.{Fault}
-use Rattle.refusals.specs.declared.Fault.the-variants.{TooLong, UnusableAdvice, NoOpening, StrayRelease, UnendedSegment, BrokenTag, ForeignLevel, OutsideLevel, MisplacedSegment, BadControl, ReferenceDiffers, CountWrong, NormalTooLong, BufferShort, BadList, NeedsRelease, NoFreeSlot, NoRoom, UnsoundShelf, FreeSlot, UnsoundTable, UnmatchedBody}
+use Rattle.refusals.specs.declared.Fault.the-variants.{TooLong, UnusableAdvice, NoOpening, StrayRelease, UnendedSegment, BrokenTag, ForeignLevel, OutsideLevel, MisplacedSegment, BadControl, ReferenceDiffers, CountWrong, NormalTooLong, BufferShort, BadList, NeedsRelease, NoFreeSlot, NoRoom, UnsoundShelf, FreeSlot, UnsoundTable, UnmatchedBody, NoAcknowledgement, NoColumns}
 use Rattle.refusals.specs.declared.Refusal.{Refusal}
 use Rattle.refusals.specs.Refusals.{number}
 use Rattle.stages.specs.Contents.{normalForm}
@@ -151,6 +151,8 @@ module _ (ps : List Piece) (p : Piece) where
       step FreeSlot k = absurd (omega arith)
       step UnsoundTable k = absurd (omega arith)
       step UnmatchedBody k = absurd (omega arith)
+      step NoAcknowledgement k = absurd (omega arith)
+      step NoColumns k = absurd (omega arith)
 
   pub count-refused : (r : Refusal) → refusalOf p ≡ some r → reportOver more ≡ withRefused (reportOver ps) r
   unfolding reportOver withRefused segmentsOfEach messagesOfEach normalLengths

@@ -7,12 +7,12 @@ use mathlib.Core.Option.{Option}
 use lib.Dec.{leb}
 use Rattle.lists.specs.Lists.{all, those}
 use Rattle.refusals.specs.declared.Fault.{Fault}
-use Rattle.refusals.specs.declared.Fault.the-variants.{TooLong, UnusableAdvice, NoOpening, StrayRelease, UnendedSegment, BrokenTag, ForeignLevel, OutsideLevel, MisplacedSegment, BadControl, ReferenceDiffers, CountWrong, NormalTooLong, BufferShort, BadList, NeedsRelease, NoFreeSlot, NoRoom, UnsoundShelf, FreeSlot, UnsoundTable, UnmatchedBody}
+use Rattle.refusals.specs.declared.Fault.the-variants.{TooLong, UnusableAdvice, NoOpening, StrayRelease, UnendedSegment, BrokenTag, ForeignLevel, OutsideLevel, MisplacedSegment, BadControl, ReferenceDiffers, CountWrong, NormalTooLong, BufferShort, BadList, NeedsRelease, NoFreeSlot, NoRoom, UnsoundShelf, FreeSlot, UnsoundTable, UnmatchedBody, NoAcknowledgement, NoColumns}
 use Rattle.refusals.specs.declared.Refusal.{Refusal}
 use Rattle.refusals.specs.Refusals.{number, Stage, met, answering}
 use Rattle.stages.specs.Places.{tooLong, unusableAdvice, noOpening, strayReleases, unendedSegment, brokenTags, foreignLevel, outsideLevel, misplacedSegments, badControls, differingReferences, wrongCounts, normalTooLong}
 
--- all the places at which an input meets a fault; 14 to 22 are of lent buffers, value lists, shelves and tables
+-- all the places at which an input meets a fault; 14 to 24 are of lent buffers, value lists, shelves, tables, acknowledgements and columns
 unfoldable pub placesOf : Fault → List ℕ → List ℕ
 placesOf TooLong s = tooLong s
 placesOf UnusableAdvice s = unusableAdvice s
@@ -36,6 +36,8 @@ placesOf UnsoundShelf s = []
 placesOf FreeSlot s = []
 placesOf UnsoundTable s = []
 placesOf UnmatchedBody s = []
+placesOf NoAcknowledgement s = []
+placesOf NoColumns s = []
 
 -- "Stages: 1, 2, 3, (4 5 6), 7, 8, 9, (10 11 12), 13"
 unfoldable pub brackets : List (List Fault)

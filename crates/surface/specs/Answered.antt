@@ -8,13 +8,15 @@ use Rattle.lists.specs.Lists.{if_then_else_, isEmpty}
 use Rattle.answers.specs.Answers.{Answer}
 use Rattle.operations.specs.Read.{read, readBytes, readTable}
 use Rattle.operations.specs.Write.{write, writeOutput}
+use Rattle.acknowledgements.specs.Lent.{Lent}
+use Rattle.acknowledgements.specs.Acknowledgement.{acknowledge, acknowledgeOutput}
 use Rattle.surface.specs.Verdicts.{value}
 use Rattle.surface.specs.declared.Written.{Written}
 use Rattle.surface.specs.declared.Comparison.{Comparison}
 use Rattle.surface.specs.declared.Location.{Location}
 use Rattle.surface.specs.declared.Listing.{Listing}
 
--- what Normalise's and Write's answers are in a struct: "the length"
+-- what Normalise's, Write's and Acknowledge's answers are in a struct: "the length"
 unfoldable pub writtenOf : Answer → Written
 writtenOf a =
     if eqb (a .number) 0
@@ -51,3 +53,8 @@ ReadsOut bytes table input r bytesAfter tableAfter =
 abbrev pub WritesOut : (service bytes table output : List ℕ) → Written → (after : List ℕ) → Type 0
 WritesOut service bytes table output r after =
     (r ≡ writtenOf (write service bytes table output)) × (after ≡ writeOutput service bytes table output)
+
+-- what Acknowledge promises: the struct, and every byte of the output at exit
+abbrev pub AcknowledgesOut : (received : List ℕ) → Lent → (output : List ℕ) → Written → (after : List ℕ) → Type 0
+AcknowledgesOut received lent output r after =
+    (r ≡ writtenOf (acknowledge received lent output)) × (after ≡ acknowledgeOutput received lent output)

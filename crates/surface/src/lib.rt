@@ -1,15 +1,16 @@
 // The surface: all operations of paper 01, "Operations", of the shelf (requests 2026-04, 2026-06 and 2026-07), of mailbox files (request
-// 2026-02) and of message structures (request 2026-08), for programs in C and Rust. It promises, for any bytes and any numbers, the
-// paper's answers as the definitions in specs/ lay them out in structs, and every byte and number of each lent buffer at exit. A slice
-// crosses as a pointer and a length;
+// 2026-02), of message structures (request 2026-08) and of acknowledgements (request 2026-11), for programs in C and Rust. It promises,
+// for any bytes and any numbers, the paper's answers as the definitions in specs/ lay them out in structs, and every byte and number of
+// each lent buffer at exit. A slice crosses as a pointer and a length;
 // nothing is asked of what it holds. `laying` makes the structs of the answers.
 ghost use mathlib.Core.Path.{_≡_};
 ghost use Rattle.operations.specs.Judge.{judge as judgeOf, normalise as normaliseOf, normaliseBuffer};
 ghost use Rattle.message_structures.specs.Judging.{judgeByTable};
 ghost use Rattle.operations.specs.Compare.{compare as compareOf, keep as keepOf};
 ghost use Rattle.operations.specs.Locate.{locate as locateOf};
+ghost use Rattle.acknowledgements.specs.Lent.{lentBy};
 ghost use Rattle.surface.specs.Verdicts.{verdictOf};
-ghost use Rattle.surface.specs.Answered.{writtenOf, comparisonOf, locationOf, listingOf, ReadsOut, WritesOut};
+ghost use Rattle.surface.specs.Answered.{writtenOf, comparisonOf, locationOf, listingOf, ReadsOut, WritesOut, AcknowledgesOut};
 ghost use Rattle.surface.specs.Parts.{keptOf, partOf};
 ghost use Rattle.surface.specs.Rules.{rules};
 ghost use Rattle.surface.specs.OfShelf.{startedOf, shelvingOf, gotOf, slotNumbersOf, sumNumbersOf};
@@ -54,7 +55,7 @@ pub struct Verdict {
     pub terminator: u8,
 }
 
-// What Normalise and Write say: 0 and how many bytes they stored, or the refusal's number and place.
+// What Normalise, Write and Acknowledge say: 0 and how many bytes they stored, or the refusal's number and place.
 #[repr(C)]
 pub struct Written {
     pub number: u32,
@@ -273,6 +274,32 @@ pub extern "C" fn hverolda_write(
     ensures { λ r. ⌜ WritesOut (now (service .entry)) (now (bytes .entry)) (now (table .entry)) (now (output .entry)) r (now (output .exit)) ⌝ }
 {
     written_of(write::write(service, bytes, table, output))
+}
+
+// The three lists are lent as Write's is: values and a table of three numbers a value.
+#[no_mangle]
+pub extern "C" fn hverolda_acknowledge(
+    received: &[u8],
+    date: &[u8],
+    datetable: &[u32],
+    reference: &[u8],
+    referencetable: &[u32],
+    message: &[u8],
+    messagetable: &[u32],
+    output: &mut [u8],
+) -> Written
+    ensures { λ r. ⌜ AcknowledgesOut (now (received .entry)) (lentBy (now (date .entry)) (now (datetable .entry)) (now (reference .entry)) (now (referencetable .entry)) (now (message .entry)) (now (messagetable .entry))) (now (output .entry)) r (now (output .exit)) ⌝ }
+{
+    written_of(acknowledge::acknowledge(
+        received,
+        date,
+        datetable,
+        reference,
+        referencetable,
+        message,
+        messagetable,
+        output,
+    ))
 }
 
 #[no_mangle]

@@ -87,7 +87,7 @@ listOf-flat [] = refl
 listOf-flat (g ∷ list) = ap (λ (f : List (List (List Bytes)) → List Item). gather f (g ∷ list)) (fun-ext segment-flat)
 
 -- the first value begins what it is said to begin
-flat-first : (n kind : ℕ) (x : Nest Bytes n) → shaped Bytes n x ≡ true → (rest : List Item) → firstKind (flat kindOf item n kind x ++ rest) ≡ kind
+pub flat-first : (n kind : ℕ) (x : Nest Bytes n) → shaped Bytes n x ≡ true → (rest : List Item) → firstKind (flat kindOf item n kind x ++ rest) ≡ kind
 unfolding firstKind
 flat-first zero kind v s rest = refl
 flat-first (suc n) kind [] s rest = absurd (shaped-some Bytes n s)

@@ -1,3 +1,4 @@
 pub mod Tokens
 pub mod Composed
 pub mod Lengths
+pub mod Advancing

@@ -24,7 +24,7 @@ use value_lists::record_at;
 use value_lists::value_of;
 
 // The rank of the separator in front of a record of a kind.
-fn rank_of(kind: u32) -> u8
+pub fn rank_of(kind: u32) -> u8
     ensures { λ r. ⌜ r ≡ rankOf kind ⌝ }
 {
     if kind == 0 {
@@ -41,7 +41,7 @@ fn rank_of(kind: u32) -> u8
 
 // ---- the length
 
-fn with_record(m: Measure, c: Characters, bytes: &[u8], r: Record) -> Measure
+pub fn with_record(m: Measure, c: Characters, bytes: &[u8], r: Record) -> Measure
     requires { ⌜ (r .start + r .size ≤ length (now bytes)) × (m .total + waiting (m .held) ≤ mostSpelled) ⌝ }
     ensures { λ n. ⌜ n ≡ after c m (recordTokens (itemOf (now (bytes .entry)) r)) ⌝ }
 {
@@ -72,7 +72,7 @@ pub fn text_length(c: Characters, bytes: &[u8], table: &[u32]) -> usize
 
 // ---- the bytes
 
-fn put_record(buffer: &mut [u8], m: Measure, c: Characters, bytes: &[u8], r: Record) -> Measure
+pub fn put_record(buffer: &mut [u8], m: Measure, c: Characters, bytes: &[u8], r: Record) -> Measure
     requires { ⌜ (r .start + r .size ≤ length (now bytes)) × (m .total + waiting (m .held) ≤ mostSpelled) × (Fits c (now buffer) m (recordTokens (itemOf (now bytes) r))) ⌝ }
     ensures { λ n. ⌜ Puts c (now (buffer .entry)) m (recordTokens (itemOf (now (bytes .entry)) r)) (now (buffer .exit)) n ⌝ }
 {

@@ -127,7 +127,7 @@ fn holds_service(c: Characters, value: &[u8]) -> bool
     false
 }
 
-fn lacks_release(c: Characters, value: &[u8]) -> bool
+pub fn lacks_release(c: Characters, value: &[u8]) -> bool
     ensures { λ r. ⌜ r ≡ lacksRelease c (now (value .entry)) ⌝ }
 {
     if c.release != b' ' {
@@ -137,7 +137,7 @@ fn lacks_release(c: Characters, value: &[u8]) -> bool
 }
 
 // The record begins a repeat, and nothing separates repeats.
-fn lacks_repetition(c: Characters, kind: u32) -> bool
+pub fn lacks_repetition(c: Characters, kind: u32) -> bool
     ensures { λ r. ⌜ r ≡ lacksRepetition c kind ⌝ }
 {
     (kind == 3) & (c.repetition == b' ')

@@ -62,7 +62,7 @@ all-zero l =
     ∙ append-nil zeros
 
 -- a refusal that answers, and an output that is left zero
-refused-written : {o : Option Refusal} (size : ℕ) (text before : List ℕ) {r : Refusal} {s : Stored} {after : List ℕ} → o ≡ some r
+pub refused-written : {o : Option Refusal} (size : ℕ) (text before : List ℕ) {r : Refusal} {s : Stored} {after : List ℕ} → o ≡ some r
     → s ≡ Refused r → after ≡ replicate (length before) 0 → Written o size text before s after
 unfolding toldStored maybe unlessRefused
 refused-written size text before e d z =

@@ -17,7 +17,7 @@ use refusals::Outcome;
 use refusals::Refusal;
 
 // Leaves the whole output zero, "so that no half text is sent".
-fn refuse(output: &mut [u8], r: Refusal) -> Stored
+pub fn refuse(output: &mut [u8], r: Refusal) -> Stored
     ensures { λ s. ⌜ (s ≡ Stored.Refused r) × (now (output .exit) ≡ replicate (length (now (output .entry))) 0) ⌝ }
 {
     let n = output.len();
@@ -26,7 +26,7 @@ fn refuse(output: &mut [u8], r: Refusal) -> Stored
 }
 
 // 3 to 13, as Judge answers for the text that stands in front.
-fn write_judged(output: &mut [u8], n: usize) -> Stored
+pub fn write_judged(output: &mut [u8], n: usize) -> Stored
     requires { ⌜ n ≤ length (now output) ⌝ }
     ensures { λ r. ⌜ Written (refusalOf (take n (now (output .entry)))) n (now (output .entry)) (now (output .entry)) r (now (output .exit)) ⌝ }
 {
@@ -88,7 +88,7 @@ fn write_released(
 }
 
 // Six bytes in the advice's order.
-fn characters_of(service: &[u8]) -> Characters
+pub fn characters_of(service: &[u8]) -> Characters
     requires { ⌜ length (now service) ≡ 6 ⌝ }
     ensures { λ r. ⌜ r ≡ sixBytes (now (service .entry)) ⌝ }
 {

@@ -1,8 +1,8 @@
 /*
  * Hverolda for C: judges an EDIFACT interchange (ISO 9735, syntax versions 1, 2 and 4), reads its
  * values, writes interchanges, makes a normal form, says whether two interchanges are the same, keeps
- * each one once on a shelf, counts those of a mailbox file, and holds messages to a table of their
- * structure.
+ * each one once on a shelf, counts those of a mailbox file, holds messages to a table of their
+ * structure, and acknowledges interchanges.
  *
  * The archive is target/staticlib/libsurface.a, which `rt staticlib surface` proves and writes, for
  * x86-64 Linux. It needs nothing but the C library's memset:
@@ -11,13 +11,14 @@
  *
  * What is proved. For any bytes and any numbers, each function's answer and every byte and number of
  * each buffer at exit are what the definitions in crates/surface/specs, crates/operations/specs,
- * crates/shelves/specs, crates/mailbox_files/specs, crates/message_tables/specs and
- * crates/message_structures/specs say; no function reads or writes outside what it is lent, and each
- * one ends. This header and the size of the stack are not part of the proof.
+ * crates/shelves/specs, crates/mailbox_files/specs, crates/message_tables/specs,
+ * crates/message_structures/specs and crates/acknowledgements/specs say; no function reads or writes
+ * outside what it is lent, and each one ends. This header and the size of the stack are not part of the
+ * proof.
  *
  * What the caller owes. A slice is a pointer and, right after it, the number of its elements.
  *   - The pointer is valid for that many elements for the whole call, and they take fewer than 2^63
- *     bytes. The pointer to Read's and Write's table is aligned for uint32_t.
+ *     bytes. The pointer to a table of Read, Write or Acknowledge is aligned for uint32_t.
  *   - All of them hold values: a buffer that is to be written to is initialised first, too.
  *   - A buffer that is written to overlaps no other argument. Inputs that are only read may overlap,
  *     or be the same. So what is put on a shelf is no part of that shelf.
@@ -48,15 +49,17 @@
  * which stops at 999 entries, and a few steps for each segment and each entry that has its turn: some
  * 80 us more for 32,000 bytes of orders under a table of 68 entries. At most all entries have their
  * turn at each segment: for 999 entries and a body of 8,000 segments that is made so, some 40 ms.
+ * Acknowledge costs what Judge costs over the received input and the text, and a few steps for each
+ * record of the lent tables, which have at most 96,000 numbers each.
  *
  * Limits. An input, a written text and a normal form have at most 32,000 bytes. So a normal form or a
  * written text fits 32,000 bytes, and what Read stores fits 32,000 bytes and 96,000 numbers, since
  * each value in the input is followed by a separator or a terminator. The table that Write is given has
- * at most 96,000 numbers. A table of message structures, which is another thing, has at most 999
- * entries, 7,992 bytes; a longer one is refused by 21. What is longer may be given, and is refused. A
- * buffer that is written to may have any length, Read's table with it. A shelf has 533 to 65,536 bytes;
- * one of another size may be given, and is refused. A mailbox file has at most 65,536 bytes; a longer
- * one may be given, and is refused.
+ * at most 96,000 numbers, and so has each table that Acknowledge is given. A table of message
+ * structures, which is another thing, has at most 999 entries, 7,992 bytes; a longer one is refused by
+ * 21. What is longer may be given, and is refused. A buffer that is written to may have any length,
+ * Read's table with it. A shelf has 533 to 65,536 bytes; one of another size may be given, and is
+ * refused. A mailbox file has at most 65,536 bytes; a longer one may be given, and is refused.
  *
  * Line breaks. Carriage returns and line feeds (bytes 13 and 10) directly after a segment's
  * terminator, or directly after the advice, are passed over, however many; anywhere else they are
@@ -195,7 +198,11 @@ enum hverolda_refusal {
     HVEROLDA_UNSOUND_TABLE = 21,
     /* Body doesn't match the table. Place: start of the segment, perhaps UNT, before which the walk
        stopped, in the first message that doesn't match. */
-    HVEROLDA_UNMATCHED_BODY = 22
+    HVEROLDA_UNMATCHED_BODY = 22,
+    /* The received interchange cannot be acknowledged: it is refused by another number than 10, 11 and
+       12, or UNB's reference is malformed by 10, or its sender or recipient is, trimmed, one empty value.
+       Place: 0. */
+    HVEROLDA_NO_ACKNOWLEDGEMENT = 23
 };
 
 /*
@@ -220,8 +227,8 @@ typedef struct hverolda_verdict {
 } hverolda_verdict;
 
 /*
- * What Normalise and Write say: `length` bytes were stored; what a shelf's Remove says: so many were
- * taken away; or `number` and `place`. All else is 0.
+ * What Normalise, Write and Acknowledge say: `length` bytes were stored; what a shelf's Remove says: so
+ * many were taken away; or `number` and `place`. All else is 0.
  */
 typedef struct hverolda_written {
     uint32_t number;
@@ -463,6 +470,38 @@ hverolda_written hverolda_write(const uint8_t *service, size_t service_length,
                                 const uint8_t *bytes, size_t bytes_length,
                                 const uint32_t *table, size_t table_length,
                                 uint8_t *output, size_t output_length);
+
+/*
+ * Acknowledge: the syntax report CONTRL (ISO 9735-4) for a received interchange. The caller lends three
+ * value lists, each as Write's is and of one element: its first record has kind 0, all others 2 or 3.
+ * They are the date and time, the new control reference and the message identification.
+ *
+ * The text is an interchange with the received one's level, version and mark, spelled as a normal form is.
+ * UNB has sender and recipient exchanged, then the date and time and the new control reference. Its one
+ * message has the reference `1`: UNH with the message identification; UCI with the received control
+ * reference, sender, recipient and an action code, `7` where the received one is accepted and `4` where
+ * it is refused by 10, 11 or 12; UNT with the count 3. Judge accepts the text, and Read gives back these
+ * values, trimmed. Of docs/cases/01-x.edi, in one line:
+ *
+ *     UNA:+.? 'UNB+UNOA:1+BB+AA+261115:0842+A1'UNH+1+CONTRL:4:1:UN'
+ *     UCI+R1+AA+BB+7'UNT+3+1'UNZ+1+A1'
+ *
+ * Refusals: 23; then 15 at 0 where a lent list is empty, is malformed by 15, or has kind 0 or 1 after its
+ * first record; then Write's for the list put together, whose records are numbered in the order of the
+ * text: 15 at 0 where there are more than 32,000, 16 for a kind 3 where the received version is not 4, 1,
+ * 14 (the bytes needed), 8 for a lent byte outside the level, 10 at 9 for a new control reference that
+ * is not one value of 1 to 14 bytes.
+ * Afterwards `output` holds the text in front and keeps its values beyond. A refused Acknowledge leaves
+ * all of `output` zero.
+ */
+hverolda_written hverolda_acknowledge(const uint8_t *received, size_t received_length,
+                                      const uint8_t *date, size_t date_length,
+                                      const uint32_t *date_table, size_t date_table_length,
+                                      const uint8_t *reference, size_t reference_length,
+                                      const uint32_t *reference_table, size_t reference_table_length,
+                                      const uint8_t *message, size_t message_length,
+                                      const uint32_t *message_table, size_t message_table_length,
+                                      uint8_t *output, size_t output_length);
 
 /*
  * A shelf is a buffer that keeps up to 64 normal forms, each once and in a slot of its own, and two

@@ -40,6 +40,7 @@ operands_of() {
         compare | keep) operands=("$x") ;;
         locate) operands=(2 2 0 0) ;;
         write | respell) operands=("$six") ;;
+        acknowledge) operands=(--date 261115:0842 --reference A1 --message CONTRL:4:1:UN) ;;
         shelf) operands=("$work/shelf" put) ;;
         *) operands=() ;;
     esac
@@ -55,7 +56,7 @@ gigabyte() { head -c 1000000000 /dev/zero 2>/dev/null | tr '\0' "${1-\0}" 2>/dev
 
 accepted='accepted 5 1 0 93'
 sentence="the trailer's count is wrong"
-commands=(judge normalise compare keep locate read write respell report shelf)
+commands=(judge normalise compare keep locate read write respell acknowledge report shelf)
 # nearly all of its 31,900 bytes end an empty value: as many values as an interchange can have
 {
     printf "UNB+UNOA:1+AA+BB+260105:0930+R1'UNH+1+ORDERS:1:901:UN'BGM"
@@ -163,6 +164,33 @@ cp "$x" "$work/"$'a\naccepted 5 1 0 93'
 expect 0 "*/a?x0aaccepted?x205?x201?x200?x2093: $accepted"$'\n'"$x: $accepted" '' "$hverolda" judge "$work/"a* "$x"
 cp "$wrong" "$work/good.edi: accepted"
 expect 1 "*/good.edi?x3a?x20accepted: refused 12 *"$'\n'"$x: $accepted" '' "$hverolda" judge "$work/good"* "$x"
+
+# the acknowledgement of every case, as it is stored; the options anywhere; what a value is made of
+operands_of acknowledge
+while read -r input stated; do
+    case $stated in
+        refused*) expect 1 '' "hverolda: $cases/$input.edi: refused input ${stated#refused } it cannot be *; judged: *" "$hverolda" acknowledge "$cases/$input.edi" "${operands[@]}" ;;
+        *)
+            expect 0 '*' '' "$hverolda" acknowledge "$cases/$input.edi" "${operands[@]}"
+            cmp -s <(printf %s "$stated") "$work/out" || complain "$input: another acknowledgement than the stored one"
+            ;;
+    esac
+done <"$cases/EXPECTED-ACKNOWLEDGE"
+expect 0 "UNA:+.? 'UNB+UNOA:1+BB+AA+261115:0842+A1'*+7'*" '' "$hverolda" acknowledge --date 261115:0842 - --message CONTRL:4:1:UN --reference A1 <"$x"
+expect 0 "*+A[?]:[?][*][?]''UNH*UNZ+1+A[?]:[?][*][?]''" '' "$hverolda" acknowledge --date 1 --message CONTRL --reference 'A\x3a\x2a\x27' "$cases/86-version-4.edi"
+expect 0 "UNA:+.[?]?'UNB+UNOB:4+BB+AA:Z?A:Y+1:2?3+A1'UNH*UCI+R1+AA:Z?A:Y+BB+7'*" '' "$hverolda" acknowledge --date '1:2*3' --message CONTRL --reference A1 <(sed 's/+AA+/+AA:Z*A:Y+/' "$work/version-4")
+expect 1 '' "hverolda: -: refused input 23 0 it cannot be acknowledged*; judged: accepted" "$hverolda" acknowledge "${operands[@]}" < <(sed 's/+AA+/++/' "$x")
+expect 1 '' "hverolda: -: refused input 23 0 it cannot be acknowledged*; judged: refused 10 0 *" "$hverolda" acknowledge "${operands[@]}" < <(sed 's/+R1/+/' "$x")
+expect 1 '' "hverolda: -: refused input 23 0 *; judged: refused 1 0 *" narrow "$hverolda" acknowledge "${operands[@]}" < <(gigabyte)
+expect 1 '' "hverolda: $x: refused text 16 6 *" "$hverolda" acknowledge --date '1*2' --message CONTRL --reference A1 "$x"
+expect 1 '' "hverolda: $x: refused text 10 9 *" "$hverolda" acknowledge --date 1 --message CONTRL --reference A:1 "$x"
+expect 1 '' "hverolda: $x: refused text 8 26 *" "$hverolda" acknowledge --date a --message CONTRL --reference A1 "$x"
+expect 1 '' "hverolda: $x: refused text 15 0 *" "$hverolda" acknowledge --date '\x0a1' --message CONTRL --reference A1 "$x"
+expect 2 '' "hverolda: a backslash is *" "$hverolda" acknowledge --date '1\' --message CONTRL --reference A1 "$x"
+expect 2 '' "hverolda: --date, --reference and --message are asked for*" "$hverolda" acknowledge --date 1 --message CONTRL "$x"
+expect 2 '' "hverolda: --date is given twice*" "$hverolda" acknowledge --date 1 --date 2 "$x"
+expect 2 '' "hverolda: which value has --date[?]*" "$hverolda" acknowledge "$x" --date
+expect 2 '' "hverolda: one file is acknowledged*" "$hverolda" acknowledge "${operands[@]}" "$x" "$x"
 
 # on a terminal, the bytes around the place and a mark under the one that is meant: UNT's first
 on_terminal() { script -qec "$*" /dev/null | tr -d '\r'; }

@@ -10,7 +10,7 @@ pub use lib.ListN.{length, take, drop}
 pub use Rattle.lists.specs.Lists.{text, isEmpty, those, at}
 pub use Rattle.characters.specs.declared.Characters.{Characters}
 pub use Rattle.characters.specs.Characters.{isService, usable, charactersOf, bodyStart, body}
-pub use Rattle.refusals.specs.declared.Fault.the-variants.{TooLong, UnusableAdvice, NoOpening, StrayRelease, UnendedSegment, BrokenTag, ForeignLevel, OutsideLevel, MisplacedSegment, BadControl, ReferenceDiffers, CountWrong, NormalTooLong, BufferShort, BadList, NeedsRelease, NoFreeSlot, NoRoom, UnsoundShelf, FreeSlot, UnsoundTable, UnmatchedBody}
+pub use Rattle.refusals.specs.declared.Fault.the-variants.{TooLong, UnusableAdvice, NoOpening, StrayRelease, UnendedSegment, BrokenTag, ForeignLevel, OutsideLevel, MisplacedSegment, BadControl, ReferenceDiffers, CountWrong, NormalTooLong, BufferShort, BadList, NeedsRelease, NoFreeSlot, NoRoom, UnsoundShelf, FreeSlot, UnsoundTable, UnmatchedBody, NoAcknowledgement, NoColumns}
 pub use Rattle.refusals.specs.declared.Refusal.{Refusal}
 pub use Rattle.refusals.specs.Refusals.{number}
 pub use Rattle.values.specs.Tokens.{Token, byte, separator, fault, tokens, Segment, segments, start}

@@ -25,7 +25,7 @@ pub fn escaped(value: &[u8]) -> String {
 }
 
 /// The value that a text spells, if it spells one.
-fn unescaped(text: &[u8]) -> Option<Vec<u8>> {
+pub fn unescaped(text: &[u8]) -> Option<Vec<u8>> {
     let hex = |digit: u8| (digit as char).to_digit(16).map(|number| number as u8);
     let mut value = Vec::new();
     let mut rest = text;

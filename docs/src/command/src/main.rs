@@ -27,7 +27,7 @@ macro_rules! commands {
     };
 }
 
-commands! { judge normalise compare keep locate read write respell report shelf }
+commands! { judge normalise compare keep locate read write respell acknowledge report shelf }
 
 pub struct Command {
     name: &'static str,
@@ -115,7 +115,8 @@ pub extern "C" fn main(_count: i32, _words: *const *const u8) -> i32 {
 }
 
 /// Parts the operands from the options. `--help` stands alone: a file of that name
-/// beside others is not answered by a help. `--table` stands first, before its file.
+/// beside others is not answered by a help. `--table` stands first, before its file; those
+/// of `acknowledge` stand anywhere.
 fn run(command: &Command, output: &mut Output, words: &[OsString]) -> Result<Status, Trouble> {
     match words {
         [option] if option == "--help" => {
@@ -129,6 +130,10 @@ fn run(command: &Command, output: &mut Output, words: &[OsString]) -> Result<Sta
                 [] => usage("which table?"),
                 [table, words @ ..] => judge::by_table(output, table, &operands(words)?),
             }
+        }
+        _ if command.name == acknowledge::COMMAND.name => {
+            let (values, words) = acknowledge::options(words)?;
+            acknowledge::with(output, &values, &operands(&words)?)
         }
         _ => (command.run)(output, &operands(words)?),
     }

@@ -22,6 +22,8 @@ pub enum Said {
     /// A refusal of the input in place of a text, after these words. Standard
     /// output has only texts then, so that this goes to standard error.
     NoText(&'static str, Refusal),
+    /// Refusal 23 of the input in place of an acknowledgement, and how Judge refuses it.
+    NoReport(Refusal, Option<Refusal>),
     /// A refusal of the text that was to be written, in its place.
     BadText(Refusal),
     /// The input cannot be taken.
@@ -70,6 +72,13 @@ impl Output {
             Said::NoText(words, refusal) => {
                 let line = format!("{name}: {words} {}\n", told(&refusal));
                 complain((line + &excerpt(2, bytes, &refusal)).trim_end_matches('\n'));
+                Ok(Status::No)
+            }
+            Said::NoReport(refusal, judged) => {
+                let judged = judged
+                    .as_ref()
+                    .map_or("accepted".to_string(), |refusal| format!("refused {}", told(refusal)));
+                complain(&format!("{name}: refused input {}; judged: {judged}", told(&refusal)));
                 Ok(Status::No)
             }
             Said::BadText(refusal) => {

@@ -1,6 +1,7 @@
 //! Calls answered by the second program, laid out as the surface's structs.
 
 use hverolda::surface::{Comparison, Kept, Listing, Location, Part, Verdict, Written};
+use second::acknowledgement::Lent;
 use second::operations::{self, Which};
 use second::refusal;
 
@@ -28,6 +29,13 @@ pub fn outcome(call: &Call) -> Outcome {
             let mut bytes = output.clone();
             let written = written(operations::write(service, values, table, &mut bytes));
             Outcome { bytes, ..Outcome::of(Answer::Write(written)) }
+        }
+        Call::Acknowledge { received, lists: [date, reference, message], output } => {
+            let mut bytes = output.clone();
+            let (date, reference) = (date.lent(), reference.lent());
+            let lent = Lent { date, reference, message: message.lent() };
+            let written = written(operations::acknowledge(received, &lent, &mut bytes));
+            Outcome { bytes, ..Outcome::of(Answer::Acknowledge(written)) }
         }
     }
 }

@@ -1,9 +1,10 @@
 //! Calls answered by the C functions of the surface, over guarded memory.
 
 use hverolda::surface::{
-    hverolda_compare, hverolda_judge, hverolda_keep, hverolda_locate_value, hverolda_normalise,
-    hverolda_read, hverolda_value_part, hverolda_write,
+    hverolda_acknowledge, hverolda_compare, hverolda_judge, hverolda_keep, hverolda_locate_value,
+    hverolda_normalise, hverolda_read, hverolda_value_part, hverolda_write,
 };
+use second::value_list::List;
 
 use crate::call::{Answer, Call, Numbers, Outcome};
 use crate::lent::{Lender, Lent};
@@ -23,6 +24,9 @@ pub fn outcome(lender: &mut Lender, call: &Call) -> Result<Outcome, String> {
         Call::Read { bytes, table, input } => read(lender, bytes, table, input),
         Call::Write { service, values, table, output } => {
             write(lender, service, values, table, output)
+        }
+        Call::Acknowledge { received, lists, output } => {
+            acknowledge(lender, received, lists, output)
         }
     }
 }
@@ -149,4 +153,46 @@ fn write(
     table.unchanged("the table")?;
     let bytes = output.exit("the output")?.to_vec();
     Ok(Outcome { bytes, ..Outcome::of(Answer::Write(written)) })
+}
+
+fn acknowledge(
+    lender: &mut Lender,
+    received: &[u8],
+    lists: &[List; 3],
+    output: &[u8],
+) -> Result<Outcome, String> {
+    let (mut received, mut output) = (lender.lend(received), lender.lend(output));
+    let [mut date, mut reference, mut message] =
+        [0, 1, 2].map(|n: usize| (lender.lend(&lists[n].values), lender.lend(&lists[n].table)));
+    let (length, room) = (received.length(), output.length());
+    let lengths = |list: &(Lent<u8>, Lent<u32>)| (list.0.length(), list.1.length());
+    let (dates, references, messages) = (lengths(&date), lengths(&reference), lengths(&message));
+    // SAFETY: as in `judge`, and the eight are apart.
+    let written = unsafe {
+        hverolda_acknowledge(
+            received.pointer(),
+            length,
+            date.0.pointer(),
+            dates.0,
+            date.1.pointer(),
+            dates.1,
+            reference.0.pointer(),
+            references.0,
+            reference.1.pointer(),
+            references.1,
+            message.0.pointer(),
+            messages.0,
+            message.1.pointer(),
+            messages.1,
+            output.pointer(),
+            room,
+        )
+    };
+    received.unchanged("the received bytes")?;
+    for (values, table) in [&date, &reference, &message] {
+        values.unchanged("a lent list's values")?;
+        table.unchanged("a lent list's table")?;
+    }
+    let bytes = output.exit("the output")?.to_vec();
+    Ok(Outcome { bytes, ..Outcome::of(Answer::Acknowledge(written)) })
 }

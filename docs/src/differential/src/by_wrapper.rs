@@ -2,7 +2,8 @@
 //! structs: its types must say the same.
 
 use hverolda::surface::{Comparison, Kept, Listing, Location, Part, Verdict, Written};
-use hverolda::{ComparisonRefused, Refusal, Which};
+use hverolda::{ComparisonRefused, Lent, LentList, Refusal, Which};
+use second::value_list::List;
 
 use crate::call::{Answer, Call, Numbers, Outcome};
 
@@ -29,7 +30,21 @@ pub fn outcome(call: &Call) -> Outcome {
             let written = written(hverolda::write(service, values, table, &mut bytes));
             Outcome { bytes, ..Outcome::of(Answer::Write(written)) }
         }
+        Call::Acknowledge { received, lists, output } => {
+            let mut bytes = output.clone();
+            let written = written(hverolda::acknowledge(received, &lent(lists), &mut bytes));
+            Outcome { bytes, ..Outcome::of(Answer::Acknowledge(written)) }
+        }
     }
+}
+
+/// What an acknowledgement is lent.
+pub fn lent([date, reference, message]: &[List; 3]) -> Lent<'_> {
+    Lent { date: lent_list(date), reference: lent_list(reference), message: lent_list(message) }
+}
+
+fn lent_list(list: &List) -> LentList<'_> {
+    LentList { bytes: &list.values, table: &list.table }
 }
 
 fn judge(input: &[u8]) -> Verdict {

@@ -4,10 +4,13 @@ use std::fmt;
 
 use hverolda::surface::{Comparison, Kept, Listing, Location, Part, Verdict, Written};
 use second::request_stream::Request;
+use second::value_list::List;
 
 /// Numbers of a segment, an element, a repeat and a component.
 pub type Numbers = [usize; 4];
 
+/// The lists of an acknowledgement are the date and time, the new control reference and
+/// the message identification.
 #[derive(Clone)]
 pub enum Call {
     Judge { input: Vec<u8> },
@@ -18,6 +21,7 @@ pub enum Call {
     Part { numbers: Numbers, input: Vec<u8> },
     Read { bytes: Vec<u8>, table: Vec<u32>, input: Vec<u8> },
     Write { service: Vec<u8>, values: Vec<u8>, table: Vec<u32>, output: Vec<u8> },
+    Acknowledge { received: Vec<u8>, lists: [List; 3], output: Vec<u8> },
 }
 
 impl From<Request> for Call {
@@ -36,6 +40,9 @@ impl From<Request> for Call {
             Request::Read { bytes, table, input } => Call::Read { bytes, table, input },
             Request::Write { service, values, table, output } => {
                 Call::Write { service, values, table, output }
+            }
+            Request::Acknowledge { received, date, reference, message, output } => {
+                Call::Acknowledge { received, lists: [date, reference, message], output }
             }
         }
     }
@@ -56,6 +63,9 @@ impl fmt::Display for Call {
             Call::Read { table, .. } | Call::Write { table, .. } => {
                 writeln!(f, "  table, hexadecimal: {table:x?}")
             }
+            Call::Acknowledge { lists, .. } => lists
+                .iter()
+                .try_for_each(|list| writeln!(f, "  table, hexadecimal: {:x?}", list.table)),
             _ => Ok(()),
         }
     }
@@ -85,6 +95,12 @@ impl Call {
             Call::Write { service, values, output, .. } => {
                 ("write", None, vec![("service", service), ("values", values), ("output", output)])
             }
+            Call::Acknowledge { received, lists: [date, reference, message], output } => {
+                let lists = [("date", date), ("reference", reference), ("message", message)];
+                let mut lent: Named = vec![("received", received), ("output", output)];
+                lent.extend(lists.map(|(name, list)| (name, &list.values[..])));
+                ("acknowledge", None, lent)
+            }
         }
     }
 }
@@ -108,6 +124,7 @@ pub enum Answer {
     Part(Part),
     Read(Listing),
     Write(Written),
+    Acknowledge(Written),
 }
 
 /// What comes of a call: the answer, and the buffers at exit where it has any.
@@ -130,7 +147,7 @@ impl Outcome {
     /// The bytes and the table numbers that were stored.
     pub fn stored(&self) -> Told<(&[u8], &[u32])> {
         let (number, place, bytes, numbers) = match self.answer {
-            Answer::Normalise(told) | Answer::Write(told) => {
+            Answer::Normalise(told) | Answer::Write(told) | Answer::Acknowledge(told) => {
                 (told.number, told.place, told.length, 0)
             }
             Answer::Read(told) => (told.number, told.place, told.bytes, told.numbers),

@@ -1,6 +1,8 @@
 //! The cases of a run. Each is a few calls that belong together.
 
-use second::cases::{all_cases, all_pairs};
+use second::acknowledgement::Lent;
+use second::acknowledgement_cases::{acknowledged, one_element, DATE, MESSAGE, REFERENCE};
+use second::cases::{all_cases, all_pairs, Case};
 use second::generator::{request, with_breaks, Random, ALL_KINDS};
 use second::line_breaks::is_break;
 use second::operations;
@@ -10,6 +12,7 @@ use second::request_stream::Request;
 use hverolda::surface::{Comparison, Kept, Verdict};
 
 use crate::breaks::{after_breaks, misplaced};
+use crate::by_wrapper;
 use crate::call::{Answer, Call, Outcome, Told};
 use crate::inputs;
 use crate::lent::filled;
@@ -30,6 +33,7 @@ pub fn stated(run: &mut Run) -> Checked<()> {
         let line = line(&run.check(&call)?.answer);
         run.known(line == case.expected, &call, &case.expected)?;
         every_operation(run, case.input.clone())?;
+        acknowledged_as_stated(run, case)?;
     }
     for stated in all_pairs() {
         let input = |name: &str| {
@@ -43,6 +47,21 @@ pub fn stated(run: &mut Run) -> Checked<()> {
         two(run, first, second)?;
     }
     Ok(())
+}
+
+/// The stored text or refusal of the case's acknowledgement.
+fn acknowledged_as_stated(run: &mut Run, case: &Case) -> Checked<()> {
+    let call = Call::Acknowledge {
+        received: case.input.clone(),
+        lists: [DATE, REFERENCE, MESSAGE].map(one_element),
+        output: filled(&mut run.random, LONGEST),
+    };
+    let told = match run.check(&call)?.stored() {
+        Ok((text, _)) => String::from_utf8_lossy(text).into_owned(),
+        Err((number, place)) => format!("refused {number} {place}"),
+    };
+    let stated = acknowledged(case);
+    run.known(told == stated, &call, &stated)
 }
 
 /// The line that is stated for an answer of Judge or Compare.
@@ -60,7 +79,7 @@ fn line(answer: &Answer) -> String {
 
 /// A case at random.
 pub fn any(run: &mut Run) -> Checked<()> {
-    match run.random.below(23) {
+    match run.random.below(25) {
         0..=5 => {
             let kind = run.random.pick(ALL_KINDS.as_bytes());
             let call = request(&mut run.random, kind).into();
@@ -79,6 +98,7 @@ pub fn any(run: &mut Run) -> Checked<()> {
             let change = run.random.pick(&CHANGES);
             known_pair(run, change)
         }
+        23 | 24 => acknowledgement(run),
         17 | 18 => known_breaks(run),
         19 => known_misplaced(run),
         _ => list(run),
@@ -278,6 +298,56 @@ fn list(run: &mut Run) -> Checked<()> {
         run.tally.count("write output", name);
     }
     owned::of_list(run, &service, &values, &table)
+}
+
+/// An interchange and three lists, acknowledged into outputs of several sizes, and by the
+/// wrapper as a text of its own.
+fn acknowledgement(run: &mut Run) -> Checked<()> {
+    let call = Call::from(request(&mut run.random, b'A'));
+    let (received, lists) = match &call {
+        Call::Acknowledge { received, lists, .. } => (received.clone(), lists.clone()),
+        _ => unreachable!("a request of kind A is an Acknowledge"),
+    };
+    let [date, reference, message] = [0, 1, 2].map(|number| lists[number].lent());
+    let lent = Lent { date, reference, message };
+    let needed = match operations::acknowledge(&received, &lent, &mut []) {
+        Err(refusal) if refusal.number == BUFFER => refusal.place,
+        _ => 0,
+    };
+    let of = match operations::judge(&received) {
+        Ok(_) => "an accepted one",
+        Err(refusal) if refusal.number == 10 => "one refused by 10",
+        Err(refusal) if refusal.number == 11 => "one refused by 11",
+        Err(refusal) if refusal.number == 12 => "one refused by 12",
+        Err(_) => "one refused by another number",
+    };
+    for (room, name) in rooms(run, needed) {
+        let output = filled(&mut run.random, room);
+        let (received, lists) = (received.clone(), lists.clone());
+        let call = Call::Acknowledge { received, lists, output };
+        let outcome = run.check(&call)?;
+        run.tally.count("acknowledge output", name);
+        let stored = outcome.stored().map(|(text, _)| text.to_vec());
+        if stored.is_ok() {
+            run.tally.count("acknowledge of", of);
+        }
+        if room >= needed {
+            let owned = acknowledged_by_wrapper(&call);
+            run.known(owned == stored, &call, "the wrapper's text is the one stored")?;
+        }
+    }
+    Ok(())
+}
+
+/// The wrapper's acknowledgement that owns its text.
+fn acknowledged_by_wrapper(call: &Call) -> Told<Vec<u8>> {
+    match call {
+        Call::Acknowledge { received, lists, .. } => {
+            hverolda::acknowledgement(received, &by_wrapper::lent(lists))
+                .map_err(|refusal| (refusal.number(), refusal.place))
+        }
+        _ => unreachable!("the call is an Acknowledge"),
+    }
 }
 
 /// Has the list a record of kind 0 whose value begins with a break?

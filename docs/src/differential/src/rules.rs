@@ -1,5 +1,5 @@
 //! What the paper says of buffers, held against a call directly: a refused
-//! Write leaves zeros, every other refusal leaves each buffer as it was, and
+//! Write or Acknowledge leaves zeros, every other refusal leaves each buffer as it was, and
 //! what lies beyond what was stored keeps its values.
 //!
 //! Paper, clauses "Operations" and "Refusals by number".
@@ -19,16 +19,22 @@ pub fn check(call: &Call, outcome: &Outcome) -> Result<(), String> {
             beyond_is_kept(bytes, &outcome.bytes, byte_count, "the byte buffer")?;
             beyond_is_kept(table, &outcome.table, number_count, "the table")
         }
-        (Call::Write { .. }, Answer::Write(written)) if written.number != 0 => {
-            match outcome.bytes.iter().all(|&byte| byte == 0) {
-                true => Ok(()),
-                false => Err("the output of a refused Write is not all zero".to_string()),
+        (Call::Write { output, .. }, Answer::Write(written))
+        | (Call::Acknowledge { output, .. }, Answer::Acknowledge(written)) => {
+            match written.number {
+                0 => beyond_is_kept(output, &outcome.bytes, written.length, "the output"),
+                _ => all_zero(&outcome.bytes),
             }
         }
-        (Call::Write { output, .. }, Answer::Write(written)) => {
-            beyond_is_kept(output, &outcome.bytes, written.length, "the output")
-        }
         _ => Ok(()),
+    }
+}
+
+/// No half text is left.
+fn all_zero(output: &[u8]) -> Result<(), String> {
+    match output.iter().all(|&byte| byte == 0) {
+        true => Ok(()),
+        false => Err("the output of a refused call is not all zero".to_string()),
     }
 }
 

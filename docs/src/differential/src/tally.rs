@@ -10,8 +10,10 @@ use crate::sections::PLANS;
 /// The operations that refuse, Compare once for each of its inputs, with the
 /// numbers that each can give. Normalise and Read add 14 to Judge's. The text
 /// that Write judges releases what is to be released and ends its last
-/// segment, so that 4 and 5 cannot be met in it.
-const REFUSING: [(&str, &[u32]); 7] = [
+/// segment, so that 4 and 5 cannot be met in it. An acknowledgement has the received
+/// level and version and its own segments, so that of the text's refusals only that of a
+/// lent byte and that of the new reference are left.
+const REFUSING: [(&str, &[u32]); 8] = [
     ("judge", &[1, 2, 3, 4, 5, 6, 7, 8, 9, 10, 11, 12, 13]),
     ("normalise", &[1, 2, 3, 4, 5, 6, 7, 8, 9, 10, 11, 12, 13, 14]),
     ("compare, first", &[1, 2, 3, 4, 5, 6, 7, 8, 9, 10, 11, 12, 13]),
@@ -19,11 +21,21 @@ const REFUSING: [(&str, &[u32]); 7] = [
     ("locate", &[1, 2, 3, 4, 5, 6, 7, 8, 9, 10, 11, 12, 13]),
     ("read", &[1, 2, 3, 4, 5, 6, 7, 8, 9, 10, 11, 12, 13, 14]),
     ("write", &[1, 2, 3, 6, 7, 8, 9, 10, 11, 12, 13, 14, 15, 16]),
+    ("acknowledge", &[1, 8, 10, 14, 15, 16, 23]),
 ];
 
 /// Other things that must occur: answers that are no refusals, sizes of
 /// buffers, and the ways in which two interchanges differ.
-const OTHERS: [(&str, &str); 78] = [
+const OTHERS: [(&str, &str); 87] = [
+    ("acknowledge", "stored"),
+    ("acknowledge output", "empty"),
+    ("acknowledge output", "exact"),
+    ("acknowledge output", "longer"),
+    ("acknowledge output", "one short"),
+    ("acknowledge of", "an accepted one"),
+    ("acknowledge of", "one refused by 10"),
+    ("acknowledge of", "one refused by 11"),
+    ("acknowledge of", "one refused by 12"),
     ("judge", "accepted"),
     ("normalise", "stored"),
     ("compare", "same"),
@@ -195,22 +207,23 @@ fn told(answer: &Answer) -> (&'static str, &'static str, u32) {
         Answer::Part(_) => ("part", "some bytes", 0),
         Answer::Read(listing) => ("read", "stored", listing.number),
         Answer::Write(written) => ("write", "stored", written.number),
+        Answer::Acknowledge(written) => ("acknowledge", "stored", written.number),
     }
 }
 
-/// A line for each operation that refuses with its counts of 1 to 16, then one
+/// A line for each operation that refuses with its counts of 1 to 24, then one
 /// for each other thing.
 impl fmt::Display for Tally {
     fn fmt(&self, f: &mut fmt::Formatter) -> fmt::Result {
-        let numbers: String = (1..=16).map(|number| format!("{number:>8}")).collect();
-        writeln!(f, "{:<18}{numbers}", "refused")?;
+        let numbers: String = (1..=24).map(|number| format!("{number:>8}")).collect();
+        writeln!(f, "{:<20}{numbers}", "refused")?;
         for (what, _) in REFUSING {
             let count = |number| self.refusals.get(&(what, number)).copied().unwrap_or(0);
-            let counts: String = (1..=16).map(|number| format!("{:>8}", count(number))).collect();
-            writeln!(f, "{what:<18}{counts}")?;
+            let counts: String = (1..=24).map(|number| format!("{:>8}", count(number))).collect();
+            writeln!(f, "{what:<20}{counts}")?;
         }
         for ((what, how), count) in &self.others {
-            writeln!(f, "{what:<18}{how:<46}{count:>8}")?;
+            writeln!(f, "{what:<20}{how:<46}{count:>8}")?;
         }
         Ok(())
     }

@@ -18,6 +18,7 @@
 //! | find a component | [`locate`], [`part`] | |
 //! | read all values | [`read`] | [`values`] |
 //! | write an interchange | [`write()`] | [`text_of`] |
+//! | acknowledge an interchange | [`acknowledge`] | [`acknowledgement`] |
 //! | keep each interchange once | [`Shelf`] | [`Shelf`] |
 //! | count what a mailbox file holds | [`report()`] | |
 //!
@@ -77,6 +78,7 @@ compile_error!(
      see \"Since 0.2\" on its first page, then ask for the feature `caller-2`"
 );
 
+mod acknowledging;
 mod comparing;
 mod judging;
 mod locating;
@@ -93,6 +95,7 @@ pub mod surface;
 #[cfg(not(feature = "surface"))]
 mod surface;
 
+pub use acknowledging::{acknowledge, acknowledgement, Lent, LentList};
 pub use comparing::{compare, keep, Comparison, ComparisonRefused, Which};
 pub use judging::{judge, judge_by_table, Interchange, ServiceCharacters};
 pub use locating::{locate, part};

@@ -63,6 +63,9 @@ pub enum Fault {
     Table,
     /// 22: a message's body does not match the table of message structures.
     Body,
+    /// 23: the received interchange cannot be acknowledged; why stands at
+    /// [`acknowledge`](crate::acknowledge()).
+    NoAcknowledgement,
     /// A number above these, by which only an archive that is newer than this
     /// crate refuses; see [`rules`](crate::rules()).
     Unknown(u32),
@@ -70,7 +73,7 @@ pub enum Fault {
 
 /// The faults in the order of their numbers, from 1, with what is wrong as the
 /// end of a sentence.
-const FAULTS: [(Fault, &str); 22] = [
+const FAULTS: [(Fault, &str); 23] = [
     (Fault::OverLength, "there are more than 32000 bytes"),
     (Fault::Advice, "the service string advice is not usable"),
     (Fault::Beginning, "the body does not begin with UNB and the element separator"),
@@ -93,6 +96,7 @@ const FAULTS: [(Fault, &str); 22] = [
     (Fault::Slot, "no text is kept in this slot"),
     (Fault::Table, "the table's entry breaks its rules"),
     (Fault::Body, "the table wants another segment here, or none"),
+    (Fault::NoAcknowledgement, "it cannot be acknowledged: it is refused by other than 10, 11 and 12, or UNB lacks a sound reference, a sender or a recipient"),
 ];
 
 impl Fault {
@@ -169,7 +173,9 @@ impl fmt::Display for Refusal {
             Fault::List | Fault::NoRelease => {
                 write!(f, "refused {number} at record {place}: {fault}")
             }
-            Fault::NoSlot | Fault::Shelf => write!(f, "refused {number}: {fault}"),
+            Fault::NoSlot | Fault::Shelf | Fault::NoAcknowledgement => {
+                write!(f, "refused {number}: {fault}")
+            }
             Fault::NoRoom => write!(f, "refused {number}: {fault}: {place} are needed"),
             Fault::Slot => write!(f, "refused {number} at slot {place}: {fault}"),
             Fault::Table => write!(f, "refused {number} at entry {place}: {fault}"),
@@ -190,22 +196,22 @@ mod tests {
     }
 
     #[test]
-    fn the_numbers_are_one_to_twenty_two() {
+    fn the_numbers_are_one_to_twenty_three() {
         let numbers: Vec<u32> = FAULTS.iter().map(|(fault, _)| fault.number()).collect();
-        assert_eq!(numbers, (1..=22).collect::<Vec<u32>>());
+        assert_eq!(numbers, (1..=23).collect::<Vec<u32>>());
         assert_eq!(Fault::of_number(0), None);
         assert_eq!(Fault::of_number(12), Some(Fault::Count));
     }
 
     #[test]
     fn a_number_of_a_newer_archive_is_told() {
-        for number in [23, u32::MAX] {
+        for number in [24, u32::MAX] {
             let fault = Fault::of_number(number).unwrap();
             assert_eq!((fault, fault.number()), (Fault::Unknown(number), number));
-            assert!(Fault::Body < fault);
+            assert!(Fault::NoAcknowledgement < fault);
         }
-        let newer = "refused 23, place 64: the archive is newer, and this crate does not know why";
-        assert_eq!(sentence(23, 64), newer);
+        let newer = "refused 24, place 64: the archive is newer, and this crate does not know why";
+        assert_eq!(sentence(24, 64), newer);
     }
 
     #[test]
@@ -246,6 +252,11 @@ mod tests {
         assert_eq!(
             sentence(22, 67),
             "refused 22 at byte 67: the table wants another segment here, or none"
+        );
+        assert_eq!(
+            sentence(23, 0),
+            "refused 23: it cannot be acknowledged: it is refused by other than 10, 11 and 12, or UNB \
+             lacks a sound reference, a sender or a recipient"
         );
     }
 

@@ -95,6 +95,26 @@ extern "C" {
         room: usize,
     ) -> Written;
 
+    /// Stores the acknowledgement of one interchange.
+    pub fn hverolda_acknowledge(
+        received: *const u8,
+        length: usize,
+        date: *const u8,
+        date_length: usize,
+        date_table: *const u32,
+        date_table_length: usize,
+        reference: *const u8,
+        reference_length: usize,
+        reference_table: *const u32,
+        reference_table_length: usize,
+        message: *const u8,
+        message_length: usize,
+        message_table: *const u32,
+        message_table_length: usize,
+        output: *mut u8,
+        room: usize,
+    ) -> Written;
+
     /// Writes an empty shelf over a buffer.
     pub fn hverolda_shelf_start(shelf: *mut u8, size: usize) -> Started;
 
@@ -147,9 +167,7 @@ pub fn judge(input: &[u8]) -> Verdict {
 /// Judges one interchange by a table of message structures.
 pub fn judge_by_table(table: &[u8], input: &[u8]) -> Verdict {
     // SAFETY: as in `judge`; neither slice is written, so they may overlap.
-    unsafe {
-        hverolda_judge_by_table(table.as_ptr(), table.len(), input.as_ptr(), input.len())
-    }
+    unsafe { hverolda_judge_by_table(table.as_ptr(), table.len(), input.as_ptr(), input.len()) }
 }
 
 /// Stores the normal form of one interchange.
@@ -217,6 +235,38 @@ pub fn write(service: &[u8], bytes: &[u8], table: &[u32], output: &mut [u8]) -> 
             bytes.len(),
             table.as_ptr(),
             table.len(),
+            output.as_mut_ptr(),
+            output.len(),
+        )
+    }
+}
+
+/// Stores the acknowledgement of one interchange. Each of the three lists is its values
+/// and its table.
+pub fn acknowledge(
+    received: &[u8],
+    date: (&[u8], &[u32]),
+    reference: (&[u8], &[u32]),
+    message: (&[u8], &[u32]),
+    output: &mut [u8],
+) -> Written {
+    // SAFETY: as in `normalise`; the other slices are only read.
+    unsafe {
+        hverolda_acknowledge(
+            received.as_ptr(),
+            received.len(),
+            date.0.as_ptr(),
+            date.0.len(),
+            date.1.as_ptr(),
+            date.1.len(),
+            reference.0.as_ptr(),
+            reference.0.len(),
+            reference.1.as_ptr(),
+            reference.1.len(),
+            message.0.as_ptr(),
+            message.0.len(),
+            message.1.as_ptr(),
+            message.1.len(),
             output.as_mut_ptr(),
             output.len(),
         )

@@ -100,6 +100,25 @@ impl ValueList {
         ValueList::default()
     }
 
+    /// The list of one element with these components, of which the first is of kind 0, as
+    /// [`acknowledge`](crate::acknowledge()) is lent it. A further repeat is pushed.
+    ///
+    /// ```
+    /// use hverolda::ValueList;
+    ///
+    /// let list = ValueList::element(["261115", "0842"]);
+    /// assert_eq!(list.bytes(), b"2611150842");
+    /// assert_eq!(list.table(), [0, 0, 6, 2, 6, 4]);
+    /// ```
+    pub fn element<V: AsRef<[u8]>>(components: impl IntoIterator<Item = V>) -> ValueList {
+        let mut list = ValueList::new();
+        for value in components {
+            let kind = if list.is_empty() { Kind::NewSegment } else { Kind::NextComponent };
+            list.push(kind, value);
+        }
+        list
+    }
+
     /// The list that Read stored.
     pub(crate) fn of_parts(bytes: Vec<u8>, table: Vec<u32>) -> ValueList {
         ValueList { bytes, table }

@@ -3,14 +3,17 @@
 //!
 //! Paper, clause "The example and its neighbours"; the examples of the
 //! standard stand in `standard_examples`, the cases of a change request in a
-//! module of its own. The lines are those that hold now.
+//! module of its own. The lines are those that hold now. Each case has also the
+//! line of its acknowledgement.
 
 use std::fs;
 use std::io;
 use std::path::Path;
 
+use crate::acknowledgement_cases::{acknowledged, DATE, MESSAGE, REFERENCE};
 use crate::break_cases::{break_cases, break_pairs};
 use crate::operations::{compare, judge};
+use crate::program_lines::acknowledged_line;
 use crate::report_lines::{compare_line, judge_line};
 use crate::section_cases::{section_cases, section_pairs};
 use crate::standard_examples::{standard_cases, standard_pairs};
@@ -166,6 +169,12 @@ fn disagreements(cases: &[Case], pairs: &[Pair]) -> Vec<String> {
         if answer != case.expected {
             found.push(format!("{}: expected {}, answered {answer}", case.name, case.expected));
         }
+        let (line, expected) =
+            (acknowledged_line(&case.input, DATE, REFERENCE, MESSAGE), acknowledged(case));
+        if line != expected.as_bytes() {
+            let line = line.escape_ascii();
+            found.push(format!("{}: acknowledged {line}, expected {expected}", case.name));
+        }
     }
     for pair in pairs {
         let input =
@@ -196,6 +205,11 @@ pub fn write_cases(folder: &Path) -> io::Result<()> {
         expected.push_str(&format!("{} {}\n", case.name, case.expected));
     }
     fs::write(folder.join("EXPECTED"), expected)?;
+    let mut reports = String::new();
+    for case in all_cases() {
+        reports.push_str(&format!("{} {}\n", case.name, acknowledged(&case)));
+    }
+    fs::write(folder.join("EXPECTED-ACKNOWLEDGE"), reports)?;
     let mut compared = String::new();
     for pair in all_pairs() {
         compared.push_str(&format!("{} {} {}\n", pair.first, pair.second, pair.expected));

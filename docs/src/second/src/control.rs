@@ -11,7 +11,7 @@ use crate::refusal::{Answer, Refusal, CONTROL, COUNT, REFERENCE};
 
 /// Where the reference stands in each header; a trailer has its count in
 /// element 1 and its reference in element 2.
-const UNB_REFERENCE: usize = 5;
+pub const UNB_REFERENCE: usize = 5;
 const UNG_REFERENCE: usize = 5;
 const UNH_REFERENCE: usize = 1;
 const TRAILER_COUNT: usize = 1;
@@ -108,7 +108,11 @@ fn lowest_fault(contents: &Contents, pair: &Pair) -> Option<Refusal> {
 }
 
 /// A reference: one repeat of one component of 1 to 14 bytes.
-fn reference_of<'a>(contents: &'a Contents, segment: &Segment, number: usize) -> Option<&'a Part> {
+pub fn reference_of<'a>(
+    contents: &'a Contents,
+    segment: &Segment,
+    number: usize,
+) -> Option<&'a Part> {
     let value = contents.only_value(segment, number)?;
     let length = contents.bytes(value).count();
     (1..=LONGEST_REFERENCE).contains(&length).then_some(value)

@@ -7,7 +7,7 @@
 
 use crate::contents::Contents;
 use crate::control::check_control;
-use crate::level::{check_bytes, named_syntax, Version};
+use crate::level::{check_bytes, named_syntax, Syntax, Version};
 use crate::message_table::Entry;
 use crate::normal_form::{normal_characters, text, text_length};
 use crate::order::{interchange_of, Interchange};
@@ -16,6 +16,15 @@ use crate::refusal::{refuse, Answer, BODY, LONGEST, NORMAL_LENGTH, OVER_LENGTH};
 use crate::service_characters::{opening, ServiceCharacters};
 use crate::table_walk::stopped_before;
 use crate::trimming::trim;
+
+/// What is known of an input that none of 1 to 9 refuses.
+pub struct Ordered<'a> {
+    pub characters: ServiceCharacters,
+    pub syntax: Syntax,
+    /// Trimmed.
+    pub contents: Contents<'a>,
+    pub interchange: Interchange,
+}
 
 /// What is known of an accepted interchange.
 pub struct Accepted<'a> {
@@ -34,14 +43,8 @@ impl Accepted<'_> {
     }
 }
 
-/// Judges an input by all stages.
-pub fn accept(input: &[u8]) -> Answer<Accepted<'_>> {
-    accept_by(None, input)
-}
-
-/// Judges an input by all stages, and its messages by the entries of a sound
-/// table where there is one.
-pub fn accept_by<'a>(table: Option<&[Entry]>, input: &'a [u8]) -> Answer<Accepted<'a>> {
+/// Judges an input by the stages 1 to 9.
+pub fn order(input: &[u8]) -> Answer<Ordered<'_>> {
     if input.len() > LONGEST {
         return refuse(OVER_LENGTH, 0);
     }
@@ -52,6 +55,18 @@ pub fn accept_by<'a>(table: Option<&[Entry]>, input: &'a [u8]) -> Answer<Accepte
     let syntax = named_syntax(&contents, &opening)?;
     check_bytes(&contents, syntax.level)?;
     let interchange = interchange_of(&contents)?;
+    Ok(Ordered { characters, syntax, contents, interchange })
+}
+
+/// Judges an input by all stages.
+pub fn accept(input: &[u8]) -> Answer<Accepted<'_>> {
+    accept_by(None, input)
+}
+
+/// Judges an input by all stages, and its messages by the entries of a sound
+/// table where there is one.
+pub fn accept_by<'a>(table: Option<&[Entry]>, input: &'a [u8]) -> Answer<Accepted<'a>> {
+    let Ordered { characters, syntax, contents, interchange } = order(input)?;
     check_control(&contents, &interchange)?;
     if let Some(entries) = table {
         check_bodies(entries, &contents, &interchange)?;

@@ -2,13 +2,17 @@
 //! the change requests that have landed: it judges one EDIFACT interchange,
 //! reads its values, writes interchanges, makes a normal form, says whether two
 //! interchanges are the same, keeps normal forms on a shelf, reports on a file of
-//! interchanges, and judges by a table of message structures.
+//! interchanges, judges by a table of message structures, and acknowledges an
+//! interchange.
 //!
 //! One module for one idea; the first comment of each module names the clause
 //! of the paper, or the request, that it follows. The operations stand in
 //! `operations`, those of the shelf in `shelf` and `carrying_over`, the report in
 //! `mailbox`.
 
+pub mod acknowledgement;
+pub mod acknowledgement_cases;
+pub mod acknowledgement_checks;
 pub mod break_cases;
 pub mod break_checks;
 pub mod carrying_checks;

@@ -1,5 +1,6 @@
 //! The command line:
-//! `second judge|judge-by|compare|locate|respell|report|shelf|answers|generate|cases|selftest`.
+//! `second judge|judge-by|compare|locate|respell|report|shelf|acknowledge|answers|
+//! generate|cases|selftest`.
 
 use std::fs::{self, File};
 use std::io::{self, BufReader, BufWriter, Read, Write};
@@ -18,6 +19,7 @@ const USAGE: &str =
                      report FILE.. | \
                      shelf SIZE [put FILE | get SLOT | remove SLOT | slots - | sums - | \
                      carry - | back -].. | \
+                     acknowledge DATE REFERENCE MESSAGE FILE.. | \
                      answers [FILE] | generate SEED COUNT [KINDS] | cases DIR | selftest";
 
 fn main() -> ExitCode {
@@ -34,6 +36,9 @@ fn main() -> ExitCode {
         ["respell", service, ref files @ ..] => respell(service, files),
         ["shelf", size, ref history @ ..] if history.len() % 2 == 0 => shelf(size, history),
         ["report", ref files @ ..] => report(files),
+        ["acknowledge", date, reference, message, ref files @ ..] => {
+            acknowledge([date, reference, message], files)
+        }
         ["answers"] => answers(None),
         ["answers", file] => answers(Some(file)),
         ["generate", seed, count] => generate(seed, count, generator::ALL_KINDS),
@@ -153,6 +158,19 @@ fn shelf(size: &str, history: &[&str]) -> io::Result<ExitCode> {
     Ok(ExitCode::SUCCESS)
 }
 
+fn acknowledge(lent: [&str; 3], files: &[&str]) -> io::Result<ExitCode> {
+    let [date, reference, message] = lent;
+    let mut out = BufWriter::new(io::stdout());
+    for file in files {
+        let received = fs::read(file)?;
+        let line = program_lines::acknowledged_line(&received, date, reference, message);
+        out.write_all(&line)?;
+        out.write_all(b"\n")?;
+    }
+    out.flush()?;
+    Ok(ExitCode::SUCCESS)
+}
+
 fn answers(file: Option<&str>) -> io::Result<ExitCode> {
     let mut out = BufWriter::new(io::stdout());
     let answered = request_stream::answer_all(&mut source(file)?, &mut out);
@@ -164,7 +182,7 @@ fn generate(seed: &str, count: &str, kinds: &str) -> io::Result<ExitCode> {
     let seed = seed.parse().map_err(|_| fault("SEED is not a number"))?;
     let count = count.parse().map_err(|_| fault("COUNT is not a number"))?;
     if kinds.is_empty() || !kinds.chars().all(|kind| generator::ALL_KINDS.contains(kind)) {
-        return Err(fault("KINDS are letters of JNCKLPRW"));
+        return Err(fault(&format!("KINDS are letters of {}", generator::ALL_KINDS)));
     }
     let mut out = BufWriter::new(io::stdout());
     generator::generate(seed, count, kinds.as_bytes(), &mut out)?;

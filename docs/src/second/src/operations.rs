@@ -2,8 +2,10 @@
 //!
 //! Paper, clause "Operations" and the stages and exit buffers of clause
 //! "Refusals by number"; change request 2026-10: Locate has a repeat number; change
-//! request 2026-08, "Message structures", has the second Judge.
+//! request 2026-08, "Message structures", has the second Judge; change request
+//! 2026-11: Acknowledge.
 
+use crate::acknowledgement::{put_together, Lent};
 use crate::contents::{Contents, Part};
 use crate::judging::{accept, accept_by, Accepted};
 use crate::message_table::entries_of;
@@ -153,16 +155,17 @@ pub struct ReadCounts {
 /// The value list of the contents; a refusal leaves both buffers unchanged.
 pub fn read(input: &[u8], bytes: &mut [u8], table: &mut [u32]) -> Answer<ReadCounts> {
     let accepted = accept(input)?;
-    let (value_bytes, numbers) = list_of(&accepted.contents);
-    if bytes.len() < value_bytes.len() {
-        return refuse(BUFFER, value_bytes.len());
+    let list = list_of(&accepted.contents);
+    let counts = ReadCounts { bytes: list.values.len(), numbers: list.table.len() };
+    if bytes.len() < counts.bytes {
+        return refuse(BUFFER, counts.bytes);
     }
-    if table.len() < numbers.len() {
-        return refuse(BUFFER, numbers.len());
+    if table.len() < counts.numbers {
+        return refuse(BUFFER, counts.numbers);
     }
-    bytes[..value_bytes.len()].copy_from_slice(&value_bytes);
-    table[..numbers.len()].copy_from_slice(&numbers);
-    Ok(ReadCounts { bytes: value_bytes.len(), numbers: numbers.len() })
+    bytes[..counts.bytes].copy_from_slice(&list.values);
+    table[..counts.numbers].copy_from_slice(&list.table);
+    Ok(counts)
 }
 
 /// The length of the text, which then begins the output; a refusal leaves the
@@ -200,4 +203,16 @@ fn text_of(service: &[u8], values: &[u8], table: &[u32], room: usize) -> Answer<
     let text = text(&contents, &characters);
     judge(&text)?;
     Ok(text)
+}
+
+/// The length of the acknowledgement of a received interchange, which then
+/// begins the output; a refusal leaves the whole output zero.
+pub fn acknowledge(received: &[u8], lent: &Lent, output: &mut [u8]) -> Answer<usize> {
+    match put_together(received, lent) {
+        Ok(report) => write(&report.service, &report.list.values, &report.list.table, output),
+        Err(refusal) => {
+            output.fill(0);
+            Err(refusal)
+        }
+    }
 }

@@ -63,7 +63,7 @@ pub fn report_line(answer: &Answer<Report>) -> String {
     format!("report {}", words.join(" "))
 }
 
-/// The line of Normalise and of Write.
+/// The line of Normalise, of Write and of Acknowledge.
 pub fn length_line(answer: &Answer<usize>, buffer: &[u8]) -> String {
     match answer {
         Ok(length) => format!("length {length} {}", sum(buffer)),

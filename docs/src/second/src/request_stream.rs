@@ -3,12 +3,14 @@
 //!
 //! A field is a 4-byte big-endian byte count and that many bytes; numbers are
 //! 4-byte big-endian. The operations are those of the paper's clause
-//! "Operations".
+//! "Operations" and that of change request 2026-11, "Acknowledgements".
 
 use std::io::{self, Read, Write};
 
+use crate::acknowledgement::Lent;
 use crate::operations::{self, Numbers};
 use crate::report_lines as lines;
+use crate::value_list::List;
 
 #[derive(Clone, Debug, PartialEq, Eq)]
 pub enum Request {
@@ -20,6 +22,7 @@ pub enum Request {
     Spelled { numbers: Numbers, input: Vec<u8> },
     Read { bytes: Vec<u8>, table: Vec<u32>, input: Vec<u8> },
     Write { service: Vec<u8>, values: Vec<u8>, table: Vec<u32>, output: Vec<u8> },
+    Acknowledge { received: Vec<u8>, date: List, reference: List, message: List, output: Vec<u8> },
 }
 
 fn malformed(what: &str) -> io::Error {
@@ -53,7 +56,14 @@ fn request_of(letter: u8, stream: &mut impl Read) -> io::Result<Request> {
             table: table(stream)?,
             output: field(stream)?,
         },
-        _ => return Err(malformed("a request begins with none of J N C K L P R W")),
+        b'A' => Request::Acknowledge {
+            received: field(stream)?,
+            date: list(stream)?,
+            reference: list(stream)?,
+            message: list(stream)?,
+            output: field(stream)?,
+        },
+        _ => return Err(malformed("a request begins with none of J N C K L P R W A")),
     })
 }
 
@@ -76,6 +86,10 @@ fn table(stream: &mut impl Read) -> io::Result<Vec<u32>> {
     }
     let number = |four: &[u8]| u32::from_be_bytes([four[0], four[1], four[2], four[3]]);
     Ok(bytes.chunks_exact(4).map(number).collect())
+}
+
+fn list(stream: &mut impl Read) -> io::Result<List> {
+    Ok(List { values: field(stream)?, table: table(stream)? })
 }
 
 fn numbers(stream: &mut impl Read) -> io::Result<Numbers> {
@@ -113,6 +127,12 @@ pub fn answer(request: Request) -> String {
             let answer = operations::write(&service, &values, &table, &mut output);
             lines::length_line(&answer, &output)
         }
+        Request::Acknowledge { received, date, reference, message, mut output } => {
+            let (date, reference) = (date.lent(), reference.lent());
+            let lent = Lent { date, reference, message: message.lent() };
+            let answer = operations::acknowledge(&received, &lent, &mut output);
+            lines::length_line(&answer, &output)
+        }
     }
 }
 
@@ -147,6 +167,14 @@ fn letter_and_fields(request: &Request) -> (u8, Vec<Vec<u8>>) {
         Request::Read { bytes, table, input } => (b'R', vec![bytes, table_bytes(&table), input]),
         Request::Write { service, values, table, output } => {
             (b'W', vec![service, values, table_bytes(&table), output])
+        }
+        Request::Acknowledge { received, date, reference, message, output } => {
+            let mut fields = vec![received];
+            for list in [date, reference, message] {
+                fields.extend([list.values, table_bytes(&list.table)]);
+            }
+            fields.push(output);
+            (b'A', fields)
         }
     }
 }

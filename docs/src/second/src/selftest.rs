@@ -4,6 +4,7 @@
 //! exit buffers of "Refusals by number". The checks of a change request stand in
 //! a module of its own.
 
+use crate::acknowledgement_checks::check_acknowledgements;
 use crate::break_checks::check_breaks;
 use crate::carrying_checks::check_carrying;
 use crate::either_order::check_either_order;
@@ -51,6 +52,7 @@ pub fn run() -> Result<usize, String> {
     check_mailbox()?;
     check_either_order()?;
     check_tables()?;
+    check_acknowledgements()?;
     if let Some(line) = crate::cases::check_cases().pop() {
         return Err(line);
     }

@@ -20,6 +20,33 @@ pub const NEXT_REPEAT: u32 = 3;
 
 const HIGHEST_KIND: u32 = NEXT_REPEAT;
 
+/// A value list as it is lent: its bytes and its table.
+#[derive(Clone, Copy, Debug, PartialEq, Eq)]
+pub struct ValueList<'a> {
+    pub values: &'a [u8],
+    pub table: &'a [u32],
+}
+
+/// A value list that owns its bytes and its table.
+#[derive(Clone, Debug, Default, PartialEq, Eq)]
+pub struct List {
+    pub values: Vec<u8>,
+    pub table: Vec<u32>,
+}
+
+impl List {
+    pub fn lent(&self) -> ValueList<'_> {
+        ValueList { values: &self.values, table: &self.table }
+    }
+
+    /// Adds a value behind the others.
+    pub fn add(&mut self, kind: u32, value: impl IntoIterator<Item = u8>) {
+        let start = self.values.len();
+        self.values.extend(value);
+        self.table.extend([kind, start as u32, (self.values.len() - start) as u32]);
+    }
+}
+
 #[derive(Clone, Copy, Debug, PartialEq, Eq)]
 pub struct Record {
     pub kind: u32,
@@ -102,15 +129,12 @@ pub fn contents_of<'a>(records: &[Record], values: &'a [u8]) -> Contents<'a> {
 }
 
 /// The values end to end and the table of an accepted interchange's contents.
-pub fn list_of(contents: &Contents) -> (Vec<u8>, Vec<u32>) {
-    let mut bytes: Vec<u8> = Vec::new();
-    let mut table: Vec<u32> = Vec::new();
+pub fn list_of(contents: &Contents) -> List {
+    let mut list = List::default();
     for (kind, part) in kinds_and_parts(contents) {
-        let start = bytes.len();
-        bytes.extend(contents.bytes(part));
-        table.extend([kind, start as u32, (bytes.len() - start) as u32]);
+        list.add(kind, contents.bytes(part));
     }
-    (bytes, table)
+    list
 }
 
 /// Every value of the list with the kind of its record, in the list's order.

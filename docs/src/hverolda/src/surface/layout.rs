@@ -34,7 +34,7 @@ pub struct Verdict {
     pub terminator: u8,
 }
 
-/// What Normalise and Write say.
+/// What Normalise, Write and Acknowledge say.
 #[repr(C)]
 #[derive(Clone, Copy, Debug, Default, PartialEq, Eq)]
 #[must_use]

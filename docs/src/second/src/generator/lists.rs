@@ -6,13 +6,7 @@
 
 use super::draft::{Draft, Value};
 use super::random::Random;
-use crate::value_list::{NEW_ELEMENT, NEW_SEGMENT, NEXT_COMPONENT, NEXT_REPEAT, RECORD};
-
-#[derive(Clone, Debug, Default)]
-pub struct List {
-    pub values: Vec<u8>,
-    pub table: Vec<u32>,
-}
+use crate::value_list::{List, NEW_ELEMENT, NEW_SEGMENT, NEXT_COMPONENT, NEXT_REPEAT, RECORD};
 
 impl List {
     fn push(&mut self, kind: u32, start: usize, length: usize) {

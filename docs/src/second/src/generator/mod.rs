@@ -1,10 +1,12 @@
 //! The generator: seeded pseudo-random requests that aim at every rule.
 //!
 //! Paper, clauses "Operations" and "Refusals by number"; change requests
-//! 2026-01, "Line breaks between segments", and 2026-10, "Syntax version 4".
+//! 2026-01, "Line breaks between segments", 2026-10, "Syntax version 4", and
+//! 2026-11, "Acknowledgements".
 //! Most inputs are small; about one in a hundred is about a limit. About one in
 //! three has line breaks, and one in three is of version 4.
 
+mod acknowledgements;
 mod breaks;
 mod damage;
 mod draft;
@@ -24,13 +26,15 @@ use crate::cases::all_cases;
 use crate::operations::{self, Numbers};
 use crate::refusal::BUFFER;
 use crate::request_stream::{put_request, Request};
-use crate::value_list::{NEXT_COMPONENT, NEXT_REPEAT};
+use crate::value_list::{List, NEXT_COMPONENT, NEXT_REPEAT};
+use acknowledgements::acknowledge_request;
 use breaks::with_misplaced_breaks;
 use damage::{damage_anywhere, damage_bytes, damage_draft, is_done_to_draft, AIMS};
 use draft::{any_version, pad, respelled, single, usable_characters, valid_draft};
 use limits::{long_draft, long_input, Measure};
-use lists::{break_list, fill_table, list_of_draft, random_list, List};
+use lists::{break_list, fill_table, list_of_draft, random_list};
 
+pub use acknowledgements::with_parties;
 pub use breaks::{filled_with_breaks, in_lines, with_breaks, Broken};
 pub use draft::{Draft, DraftElement, DraftRepeat, DraftSegment, Value};
 pub use mailboxes::any_file;
@@ -42,7 +46,7 @@ pub use tables::{
 };
 
 /// The letters of all operations.
-pub const ALL_KINDS: &str = "JNCKLPRW";
+pub const ALL_KINDS: &str = "JNCKLPRWA";
 
 /// Puts so many requests of these kinds on the stream.
 pub fn generate(seed: u64, count: u64, kinds: &[u8], out: &mut impl Write) -> io::Result<()> {
@@ -76,6 +80,7 @@ pub fn request(random: &mut Random, kind: u8) -> Request {
             Request::Spelled { numbers, input }
         }
         b'R' => read_request(random),
+        b'A' => acknowledge_request(random),
         _ => write_request(random),
     }
 }

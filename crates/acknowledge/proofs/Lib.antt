@@ -1,0 +1,4 @@
+pub mod Rows
+pub mod Taken
+pub mod Listed
+pub mod Stages

@@ -1,0 +1,5 @@
+pub mod Lent
+pub mod Received
+pub mod Opened
+pub mod Numbers
+pub mod Theorems

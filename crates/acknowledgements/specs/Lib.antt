@@ -1,0 +1,5 @@
+pub mod Lent
+pub mod Received
+pub mod Acknowledgement
+pub mod Promises
+pub mod Notions
