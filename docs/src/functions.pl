@@ -9,10 +9,10 @@ use File::Find;
 
 # crates of which nothing can be ensured: no contract speaks of what is written to standard output
 my %prints = (printing => 1);
-# the operations of paper 01, the second Judge of request 2026-08 and Acknowledge of 2026-11; whatever `surface` exports for C and Rust is one too
+# the operations of paper 01, the second Judge of request 2026-08, Acknowledge of 2026-11, Export and Import of 2026-12; whatever `surface` exports for C and Rust is one too
 my %operation = map { $_ => 1 } qw(
     judge::judge normalise::normalise compare::compare compare::keep locate::locate locate::part read::read write::write
-    judge_by_table::judge_by_table acknowledge::acknowledge
+    judge_by_table::judge_by_table acknowledge::acknowledge export_columns::export_columns import_columns::import_columns
 );
 
 print <<"HEAD";

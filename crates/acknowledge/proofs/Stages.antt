@@ -5,44 +5,37 @@ use mathlib.Core.Bool.{Bool, true, false, _||_, or-true}
 use mathlib.Core.List.{List, []}
 use mathlib.Core.Option.{Option, none, some}
 use native.Mathlib.Omega.{arith}
-use lib.ListN.{length, take, drop, replicate}
+use lib.ListN.{length, take, drop}
 use lib.Seq.{sets}
 use Rattle.lists.specs.Lists.{if_then_else_}
 use Rattle.characters.specs.declared.Characters.{Characters}
 use Rattle.characters.specs.Characters.{usable, sixBytes, spelledOut, adviceOf}
-use Rattle.refusals.specs.declared.Fault.the-variants.{TooLong, BufferShort, BadList, NeedsRelease, NoAcknowledgement}
+use Rattle.refusals.specs.declared.Fault.the-variants.{TooLong, BufferShort, BadList, NoAcknowledgement}
 use Rattle.refusals.specs.declared.Refusal.{Refusal}
 use Rattle.refusals.specs.declared.Outcome.{Outcome}
 use Rattle.refusals.specs.declared.Outcome.the-variants as outcome-as
-use Rattle.refusals.specs.Refusals.{met, lowest, orElse, answering, outcome}
+use Rattle.refusals.specs.Refusals.{answering, outcome}
 use Rattle.refusals.specs.Limits.{mostBytes}
-use Rattle.refusals.proofs.Lowest.{lowest-none}
-use Rattle.refusals.proofs.Stages.{met-none, one-place, failed-is, passed-is}
+use Rattle.refusals.proofs.Stages.{one-place}
 use Rattle.stages.specs.Stages.{refusalOf}
 use Rattle.answers.specs.declared.Stored.{Stored}
-use Rattle.answers.specs.declared.Stored.the-variants.{Refused}
 use Rattle.operations.specs.Judge.{storedIn}
-use Rattle.operations.specs.ValueList.{Item, listedIn, listBytes, listTable}
-use Rattle.operations.specs.Write.{badList, needsRelease, writeStages}
+use Rattle.operations.specs.ValueList.{Item, listBytes, listTable}
+use Rattle.operations.specs.Write.{badList}
 use Rattle.emission_laws.specs.Emission.{nothing, emitted}
-use Rattle.trimming_laws.proofs.Tables.{listed-table, listTable-length}
-use Rattle.value_lists.proofs.Records.{table-bad, bad-length}
+use Rattle.trimming_laws.proofs.Tables.{listTable-length}
 use Rattle.value_list_text.specs.Composing.{listTokens, composedText, capped}
 use Rattle.value_list_text.proofs.Composed.{text-length, text-stored}
 use Rattle.value_list_text.proofs.Lengths.{capped-tells}
-use Rattle.write.specs.Writing.{Written, WritesAfter, Passed}
-use Rattle.write.proofs.Writing.{refused-written, list-passed, refuses, passes, list-answers, service-answers, release-answers, release-asked, text-too-long, buffer-too-short, text-done}
+use Rattle.write.specs.Writing.{Written, Refuses, WritesAfter, Passed}
+use Rattle.write.proofs.Writing.{refused-written, passes, service-answers}
+use Rattle.write.proofs.Listed.{many-refused, records-passed, records-begun, bare-refused, bare-passed, long-refused, short-refused, text-judged}
 use Rattle.acknowledgements.specs.Lent.{Lent, isBadLent, anyBadLent}
 use Rattle.acknowledgements.specs.Received.{charactersToWrite, cannotBeAcknowledged}
 use Rattle.acknowledgements.specs.Acknowledgement.{itemsOf, acknowledgementText, acknowledgeStages, acknowledgeRefusal, acknowledge, acknowledgeOutput}
 use Rattle.acknowledgements.specs.Promises.{Acknowledges}
-use Rattle.acknowledgement_parts.specs.Parts.{firstBare}
-use Rattle.acknowledgement_parts.proofs.Bare.{listed-bare}
+use Rattle.value_list_text.specs.Standing.{firstBare}
 use Rattle.acknowledge.specs.Rows.{AnswersAfter}
-
--- the output is left zero, and the refusal answers
-abbrev pub Refuses : Refusal → (output : List ℕ) → Stored → (after : List ℕ) → Type 0
-Refuses q output r after = (r ≡ Refused q) × (after ≡ replicate (length output) 0)
 
 -- ---- the writer's, for records that are listed
 
@@ -63,54 +56,35 @@ module _ (c : Characters) (items : List Item) (output : List ℕ) where
   -- 15: there are too many
   pub many-answer : mostBytes < length items → {r : Stored} {after : List ℕ} → Refuses (record { fault = BadList; place = 0 }) output r after
       → WritesAfter 0 service bytes table output r after
-  unfolding orElse
-  many-answer h z =
-      refuses service bytes table output 0
-      (list-answers service bytes table output (table-bad bytes table (bad-length table (omega (arith, h, listTable-length items))))) z
+  many-answer h z = many-refused service items output h z
 
   -- 15 and 2 are passed
   module _ (good : badList bytes table ≡ []) (fit : usable c ≡ true) where
-    quiet : lowest (met BadList (badList bytes table)) ≡ none
-    quiet = lowest-none (met BadList (badList bytes table)) .1 (met-none BadList (badList bytes table) .1 good)
-
     pub all-passed : Passed bytes table
-    all-passed = list-passed bytes table quiet
+    all-passed = records-passed service items output good
 
-    begun : answering (writeStages service bytes table output) ≡ answering (drop 2 (writeStages service bytes table output))
-    unfolding orElse spelledOut sixBytes
-    begun = list-answers service bytes table output quiet ∙ service-answers service bytes table output refl fit
+    begun : {r : Stored} {after : List ℕ} → WritesAfter 2 service bytes table output r after → WritesAfter 0 service bytes table output r after
+    unfolding spelledOut sixBytes
+    begun w = records-begun service items output good (passes service bytes table output 1 2 (service-answers service bytes table output refl fit) w)
 
     -- 16
     module _ {o : Outcome} (e : o ≡ outcome (firstBare c 0 items)) where
-      asked : o ≡ outcome (lowest (met NeedsRelease (needsRelease service bytes table)))
-      asked =
-          release-asked service bytes table output six
-          (e ∙ ap outcome (ap (firstBare c 0) (sym (listed-table items)) ∙ sym (listed-bare c bytes table)))
-
       pub bare-answers : {q : Refusal} → o ≡ outcome-as.Failed q → {r : Stored} {after : List ℕ} → Refuses q output r after
           → WritesAfter 0 service bytes table output r after
-      unfolding orElse
-      bare-answers d z =
-          passes service bytes table output 0 2 begun
-          (refuses service bytes table output 2 (release-answers service bytes table output (failed-is _ _ (sym asked ∙ d))) z)
+      bare-answers d z = begun (bare-refused service items output six e d z)
 
       pub rest-answers : o ≡ outcome-as.Passed → {r : Stored} {after : List ℕ} → WritesAfter 3 service bytes table output r after
           → WritesAfter 0 service bytes table output r after
-      unfolding orElse
-      rest-answers d w =
-          passes service bytes table output 0 3 (begun ∙ release-answers service bytes table output (passed-is _ (sym asked ∙ d))) w
+      rest-answers d w = begun (bare-passed service items output six e d w)
 
   pub few-records : Passed bytes table → length items ≤ mostBytes
   few-records p = omega (arith, p .short, listTable-length items)
 
   -- 1, 14, and what Judge answers for the text
   module _ (p : Passed bytes table) {n : ℕ} (m : n ≡ capped (length (composedText c items))) where
-    measured : n ≡ capped (length (composedText c (listedIn bytes table)))
-    measured = m ∙ ap (λ (xs : List Item). capped (length (composedText c xs))) (sym (listed-table items))
-
     pub long-answers : mostBytes < n → {r : Stored} {after : List ℕ} → Refuses (record { fault = TooLong; place = 0 }) output r after
         → WritesAfter 3 service bytes table output r after
-    long-answers h z = refuses service bytes table output 3 (text-too-long service bytes table output six p measured h) z
+    long-answers h z = long-refused service items output six p m h z
 
     module _ (short : n ≤ mostBytes) where
       -- the length as it was measured is that of what is stored
@@ -119,14 +93,12 @@ module _ (c : Characters) (items : List Item) (output : List ℕ) where
 
       pub short-answers : length output < n → {r : Stored} {after : List ℕ} → Refuses (record { fault = BufferShort; place = n }) output r after
           → WritesAfter 3 service bytes table output r after
-      short-answers h z = refuses service bytes table output 3 (buffer-too-short service bytes table output six p measured short h) z
+      short-answers h z = short-refused service items output six p m short h z
 
       pub text-answers : usable c ≡ true → n ≤ length output → {l₁ l₂ : List ℕ} → l₁ ≡ sets output 0 (adviceOf c)
           → l₂ ≡ sets l₁ 8 (emitted c nothing (listTokens items)) → {r : Stored} {after : List ℕ}
           → Written (refusalOf (take n l₂)) n l₂ l₂ r after → WritesAfter 3 service bytes table output r after
-      text-answers u h {l₁} {l₂} a b w =
-          text-done service bytes table output six p measured short u h
-          (text-stored c items output l₁ l₂ a b ∙ ap (λ (xs : List Item). sets output 0 (composedText c xs)) (sym (listed-table items))) w
+      text-answers u h {l₁} {l₂} a b w = text-judged service items output six p m short u h (text-stored c items output l₁ l₂ a b) w
 
 -- ---- 23 and 15 of a lent list
 

@@ -19,12 +19,11 @@ use Rattle.values.specs.Tokens.{tokensAt}
 use Rattle.values.specs.Spelling.{Bytes}
 use Rattle.elements.specs.Values.{valueIn as valueRead}
 use Rattle.stage_walks.specs.Walks.{refuse}
-use Rattle.operations.specs.ValueList.{Item, Entry, entries, valueIn, listRepeat, listElement, listedIn}
+use Rattle.operations.specs.ValueList.{Item, entries, listRepeat, listElement, listedIn}
 use Rattle.operations.specs.Write.{numbersWhere, lacksRelease, lacksRepetition, cannotStand}
 use Rattle.trimming_laws.specs.Kinds.{firstKind}
-use Rattle.value_lists.specs.Records.{firstRecord}
-use Rattle.value_lists.proofs.Records.{lowest-first}
 use Rattle.value_list_text.specs.Composing.{itemOf}
+use Rattle.value_list_text.proofs.Standing.{table-bare}
 use Rattle.received_pieces.specs.Pieces.{elementIn}
 use Rattle.lent_elements.specs.Leading.{leading}
 use Rattle.acknowledgement_parts.specs.Parts.{words, syntaxItems, isBare, firstBare}
@@ -120,14 +119,6 @@ element-stands c s d from h =
 
 -- ---- a lent list
 
--- the records of a table are the records that it lists
-records-bare : (c : Characters) (bytes : List ℕ) (n : ℕ) (es : List Entry)
-    → firstRecord NeedsRelease (cannotStand c bytes) n es ≡ firstBare c n (map (λ e. record { kind = e .kind; value = valueIn bytes e }) es)
-unfolding firstRecord firstBare cannotStand
-records-bare c bytes n [] = refl
-records-bare c bytes n (e ∷ es) =
-    ap (λ (o : Option Refusal). if isBare c (record { kind = e .kind; value = valueIn bytes e }) then refuse NeedsRelease n else o) (records-bare c bytes (n + 1) es)
-
 -- the first of them begins an element in the list put together, and stands or not as it did
 leading-bare : (c : Characters) (n : ℕ) (items : List Item) → firstKind items ≡ 0 → firstBare c n items ≡ firstBare c n (leading items)
 unfolding firstBare leading firstKind lacksRepetition
@@ -135,12 +126,6 @@ leading-bare c n [] e = refl
 leading-bare c n (l ∷ ls) e =
     ap (λ (kind : ℕ). if lacksRelease c (l .value) || (eqb kind 3 && not (hasRepetition c)) then refuse NeedsRelease n else firstBare c (n + 1) ls) e
 
--- which record cannot stand, as refusal 16 asks it of a table
-pub listed-bare : (c : Characters) (bytes table : List ℕ)
-    → lowest (met NeedsRelease (numbersWhere (cannotStand c bytes) 0 (entries table))) ≡ firstBare c 0 (listedIn bytes table)
-unfolding listedIn
-listed-bare c bytes table = lowest-first NeedsRelease (cannotStand c bytes) 0 (entries table) ∙ records-bare c bytes 0 (entries table)
-
 pub lent-bare : (c : Characters) (bytes table : List ℕ) → firstKind (listedIn bytes table) ≡ 0
     → outcome (lowest (met NeedsRelease (numbersWhere (cannotStand c bytes) 0 (entries table)))) ≡ outcome (firstBare c 0 (leading (listedIn bytes table)))
-lent-bare c bytes table e = ap outcome (listed-bare c bytes table ∙ leading-bare c 0 (listedIn bytes table) e)
+lent-bare c bytes table e = ap outcome (table-bare c bytes table ∙ leading-bare c 0 (listedIn bytes table) e)

@@ -1,22 +1,17 @@
 -- The parts of the list put together, and the records of each. Assumes nothing.
 use Prim.Native.Nat.{ℕ, _+_, _*_, _≤_}
 use mathlib.Core.Path.{_≡_}
-use mathlib.Core.Bool.{Bool, true, false, _||_}
+use mathlib.Core.Bool.{true, false}
 use mathlib.Core.List.{List, [], _∷_}
-use mathlib.Core.Option.{Option, none}
 use lib.ListN.{length}
-use Rattle.lists.specs.Lists.{if_then_else_, text, isSingle, gather}
+use Rattle.lists.specs.Lists.{text, isSingle, gather}
 use Rattle.characters.specs.declared.Characters.{Characters}
 use Rattle.characters.specs.Characters.{hasRelease, hasRepetition}
-use Rattle.refusals.specs.declared.Fault.the-variants.{NeedsRelease}
-use Rattle.refusals.specs.declared.Refusal.{Refusal}
 use Rattle.refusals.specs.Limits.{mostBytes, mostNumbers}
 use Rattle.values.specs.Tokens.{tokensAt}
 use Rattle.values.specs.Spelling.{Bytes}
-use Rattle.stage_walks.specs.Walks.{refuse}
 use Rattle.elements.specs.Values.{valueIn}
 use Rattle.operations.specs.ValueList.{Item, listElement, listedIn}
-use Rattle.operations.specs.Write.{lacksRelease, lacksRepetition}
 use Rattle.trimming_laws.specs.Kinds.{firstKind}
 use Rattle.value_lists.specs.Records.{wellListed}
 use Rattle.emission_laws.specs.declared.Measure.{Measure}
@@ -24,6 +19,8 @@ use Rattle.emission_laws.specs.Emission.{waiting, after}
 use Rattle.held_separators.specs.Putting.{Fits}
 use Rattle.value_list_text.specs.Composing.{itemOf}
 use Rattle.value_list_text.specs.Advancing.{recordsTokens}
+pub use Rattle.value_list_text.specs.Standing.{isBare}
+unfoldable pub use Rattle.value_list_text.specs.Standing.{firstBare}
 use Rattle.received_pieces.specs.Pieces.{elementIn, Spelt}
 use Rattle.acknowledgements.specs.Lent.{LentList, Lent}
 pub use Rattle.acknowledgements.specs.Lent.{lentBy}
@@ -103,15 +100,6 @@ Storable c buffer s d l part m =
     × (after c m (recordsTokens (partItems s d l part)) .total ≤ mostBytes) × (Fits c buffer m (recordsTokens (partItems s d l part)))
 
 -- ---- refusal 16
-
--- the record cannot stand
-abbrev pub isBare : Characters → Item → Bool
-isBare c l = lacksRelease c (l .value) || lacksRepetition c (l .kind)
-
--- the refusal at the number of the first record that cannot, the first one's number being given
-unfoldable pub firstBare : Characters → ℕ → List Item → Option Refusal
-firstBare c n [] = none
-firstBare c n (l ∷ ls) = if isBare c l then refuse NeedsRelease n else firstBare c (n + 1) ls
 
 -- there is a release character, and a received element has one repeat where nothing separates repeats
 abbrev pub Stands : Characters → List ℕ → Characters → Part → Type 0

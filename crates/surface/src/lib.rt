@@ -1,7 +1,7 @@
 // The surface: all operations of paper 01, "Operations", of the shelf (requests 2026-04, 2026-06 and 2026-07), of mailbox files (request
-// 2026-02), of message structures (request 2026-08) and of acknowledgements (request 2026-11), for programs in C and Rust. It promises,
-// for any bytes and any numbers, the paper's answers as the definitions in specs/ lay them out in structs, and every byte and number of
-// each lent buffer at exit. A slice crosses as a pointer and a length;
+// 2026-02), of message structures (request 2026-08), of acknowledgements (request 2026-11) and of lines for a spreadsheet (request
+// 2026-12), for programs in C and Rust. It promises, for any bytes and any numbers, the paper's answers as the definitions in specs/ lay
+// them out in structs, and every byte and number of each lent buffer at exit. A slice crosses as a pointer and a length;
 // nothing is asked of what it holds. `laying` makes the structs of the answers.
 ghost use mathlib.Core.Path.{_≡_};
 ghost use Rattle.operations.specs.Judge.{judge as judgeOf, normalise as normaliseOf, normaliseBuffer};
@@ -9,6 +9,7 @@ ghost use Rattle.message_structures.specs.Judging.{judgeByTable};
 ghost use Rattle.operations.specs.Compare.{compare as compareOf, keep as keepOf};
 ghost use Rattle.operations.specs.Locate.{locate as locateOf};
 ghost use Rattle.acknowledgements.specs.Lent.{lentBy};
+ghost use Rattle.columns.specs.Operations.{exports, exportBuffer, imports, importOutput};
 ghost use Rattle.surface.specs.Verdicts.{verdictOf};
 ghost use Rattle.surface.specs.Answered.{writtenOf, comparisonOf, locationOf, listingOf, ReadsOut, WritesOut, AcknowledgesOut};
 ghost use Rattle.surface.specs.Parts.{keptOf, partOf};
@@ -55,7 +56,7 @@ pub struct Verdict {
     pub terminator: u8,
 }
 
-// What Normalise, Write and Acknowledge say: 0 and how many bytes they stored, or the refusal's number and place.
+// What Normalise, Write, Acknowledge, Export and Import say: 0 and how many bytes they stored, or the refusal's number and place.
 #[repr(C)]
 pub struct Written {
     pub number: u32,
@@ -300,6 +301,20 @@ pub extern "C" fn hverolda_acknowledge(
         messagetable,
         output,
     ))
+}
+
+#[no_mangle]
+pub extern "C" fn hverolda_export(buffer: &mut [u8], input: &[u8]) -> Written
+    ensures { λ r. ⌜ (r ≡ writtenOf (exports (now (buffer .entry)) (now (input .entry)))) × (now (buffer .exit) ≡ exportBuffer (now (buffer .entry)) (now (input .entry))) ⌝ }
+{
+    written_of(export_columns::export_columns(buffer, input))
+}
+
+#[no_mangle]
+pub extern "C" fn hverolda_import(service: &[u8], columns: &[u8], output: &mut [u8]) -> Written
+    ensures { λ r. ⌜ (r ≡ writtenOf (imports (now (service .entry)) (now (columns .entry)) (now (output .entry)))) × (now (output .exit) ≡ importOutput (now (service .entry)) (now (columns .entry)) (now (output .entry))) ⌝ }
+{
+    written_of(import_columns::import_columns(service, columns, output))
 }
 
 #[no_mangle]

@@ -1,49 +1,32 @@
 -- The text of a value list is the trimmed list, spelled after its advice; how it is stored and measured. Assumes nothing.
-use Prim.Native.Nat.{ℕ, _+_, _*_, _≤_, _<_}
-use mathlib.Core.Path.{_≡_, refl, sym, ap, ap₂, subst, _∙_}
-use mathlib.Core.Bool.{true}
-use mathlib.Core.List.{List, [], _∷_, _++_, map, append-nil}
+use Prim.Native.Nat.{ℕ, _+_, _≤_, _<_}
+use mathlib.Core.Path.{_≡_, refl, sym, ap, ap₂, _∙_}
+use mathlib.Core.List.{List, [], _∷_, _++_, append-nil}
 use native.Mathlib.Omega.{arith}
 use lib.ListN.{length, set, drop, length-take, length-append}
 use lib.Seq.{sets, set-set}
 use Rattle.characters.specs.declared.Characters.{Characters}
 use Rattle.characters.specs.Characters.{adviceOf, spelledOut}
-use Rattle.values.specs.Tokens.{Token, separator}
+use Rattle.values.specs.Tokens.{separator}
 use Rattle.values.specs.Spelling.{Bytes, spell}
 use Rattle.stages.specs.Contents.{interchange}
 use Rattle.emission_laws.specs.declared.Held.{Held}
 use Rattle.emission_laws.specs.declared.Measure.{Measure}
 use Rattle.emission_laws.specs.Emission.{nothing, waiting, separated, heldNext, heldAfter, spelledNext, emitted, after}
 use Rattle.emission_laws.proofs.Spelled.{spelled-emitted}
-use Rattle.emission_laws.proofs.Steps.{by-rank, emitted-append, after-append, goes-on}
+use Rattle.emission_laws.proofs.Steps.{by-rank, emitted-append, after-append}
 use Rattle.storing.proofs.Stores.{Goes}
 use Rattle.held_separators.specs.Putting.{valueTokens, Fits, Puts}
 use Rattle.held_separators.proofs.Steps.{tokens-fit, tokens-put, all-put}
-use Rattle.operations.specs.ValueList.{Item, Entry, rankOf, valueIn, listedIn, segmentsListed, trimList}
+use Rattle.operations.specs.ValueList.{Item, Entry, rankOf, valueIn, segmentsListed, trimList}
 use Rattle.trimming_laws.specs.Kinds.{firstKind}
-use Rattle.value_lists.specs.declared.Record.{Record}
-use Rattle.value_lists.specs.Records.{entryOf, recordAt, wellListed}
-use Rattle.value_lists.proofs.Records.{read-next, records-end, good-value, good-rest}
-use Rattle.value_list_text.specs.Composing.{recordTokens, listTokens, firstMeasure, adviceFront, composedText, itemOf}
+use Rattle.value_list_text.specs.Composing.{recordTokens, listTokens, firstMeasure, adviceFront, composedText}
 use Rattle.value_list_text.proofs.Tokens.{itemTokens, list-tokens, contents-listed, tokens-whole, tokens-known}
-
--- ---- the records that a table lists
 
 -- a value is at most as long as its record says
 pub value-size : (bytes : List ℕ) (e : Entry) → length (valueIn bytes e) ≤ e .size
 unfolding valueIn
 value-size bytes e = omega (arith, length-take (e .size) (drop (e .start) bytes))
-
-module _ (bytes table : List ℕ) (at : ℕ) where
-  -- the tokens from a place of the table on: three numbers more are a record more
-  pub listed-next : {r : Record} → at + 3 ≤ length table → entryOf r ≡ recordAt table at
-      → listTokens (listedIn bytes (drop at table)) ≡ recordTokens (itemOf bytes r) ++ listTokens (listedIn bytes (drop (at + 3) table))
-  unfolding listedIn listTokens
-  listed-next h d = ap (λ (es : List Entry). listTokens (map (λ e. record { kind = e .kind; value = valueIn bytes e }) es)) (read-next table at h d)
-
-  pub listed-end : length table ≤ at + 2 → listTokens (listedIn bytes (drop at table)) ≡ separator 0 0 ∷ []
-  unfolding listedIn listTokens
-  listed-end h = ap (λ (es : List Entry). listTokens (map (λ e. record { kind = e .kind; value = valueIn bytes e }) es)) (records-end table at h)
 
 module _ (c : Characters) where
   -- ---- a record
@@ -107,7 +90,7 @@ module _ (c : Characters) where
   unfolding composedText adviceFront
   text-length items = omega arith
 
-  whole-length : (items : List Item) → length (composedText c items) ≡ after c firstMeasure (listTokens items) .total
+  pub whole-length : (items : List Item) → length (composedText c items) ≡ after c firstMeasure (listTokens items) .total
   unfolding after
   whole-length items = text-length items
 
@@ -146,39 +129,3 @@ module _ (c : Characters) where
       (ap (emitted c nothing) (list-tokens items ∙ ap (λ (kind : ℕ). separator (rankOf kind) 0 ∷ itemTokens items) h)
       ∙ ap (λ (l : List ℕ). c .terminator ∷ l)
       (sym (spelled-emitted c (itemTokens items) (tokens-whole items) (tokens-known items)) ∙ ap (spell c) (contents-listed items)))
-
--- ---- record by record
-
--- The records before a place of the table are passed: the measure at the end, what is left of the table, and what is held back.
-pub record Reached (c : Characters) (bytes table : List ℕ) (m : Measure) (at : ℕ) : Type 0 where
-  pub moved : after c firstMeasure (listTokens (listedIn bytes table)) ≡ after c m (listTokens (listedIn bytes (drop at table)))
-  pub good : wellListed bytes (drop at table) ≡ true
-  pub inside : at ≤ length table
-  pub few : 3 * waiting (m .held) ≤ at
-
-module _ (c : Characters) (bytes table : List ℕ) where
-  pub reached-start : wellListed bytes table ≡ true → {m : Measure} → m ≡ firstMeasure → Reached c bytes table m 0
-  reached-start w d = subst (λ (m : Measure). Reached c bytes table m 0) (sym d) (record { moved = refl; good = w; inside = omega arith; few = omega arith })
-
-  module _ (m : Measure) {at : ℕ} (g : Reached c bytes table m at) where
-    -- the text is at least as long as what is measured
-    pub at-most : m .total ≤ length (composedText c (listedIn bytes table))
-    unfolding after
-    at-most = omega (arith, whole-length c (listedIn bytes table), ap (λ (n : Measure). n .total) (g .moved))
-
-    pub next-value : {r : Record} → at + 3 ≤ length table → entryOf r ≡ recordAt table at → r .start + r .size ≤ length bytes
-    next-value h d = good-value bytes (drop at table) (drop (at + 3) table) (read-next table at h d) (g .good)
-
-    pub reached-next : {r : Record} {n : Measure} → at + 3 ≤ length table → entryOf r ≡ recordAt table at → n ≡ after c m (recordTokens (itemOf bytes r))
-        → Reached c bytes table n (at + 3)
-    reached-next {r} h d e = record {
-      moved = goes-on c m (g .moved) (recordTokens (itemOf bytes r)) (listTokens (listedIn bytes (drop (at + 3) table))) (listed-next bytes table at h d) e;
-      good = good-rest bytes (drop at table) (drop (at + 3) table) (read-next table at h d) (g .good);
-      inside = h;
-      few = omega (arith, g .few, record-holds c m (itemOf bytes r) e);
-    }
-
-    -- the last segment is ended
-    pub reached-end : {n : Measure} → length table ≤ at + 2 → n ≡ after c m (separator 0 0 ∷ []) → n .total ≡ length (composedText c (listedIn bytes table))
-    reached-end h e =
-        ap (λ (k : Measure). k .total) (e ∙ ap (after c m) (sym (listed-end bytes table at h)) ∙ sym (g .moved)) ∙ sym (whole-length c (listedIn bytes table))

@@ -2,3 +2,5 @@ pub mod Tokens
 pub mod Composed
 pub mod Lengths
 pub mod Advancing
+pub mod Standing
+pub mod Rows

@@ -45,7 +45,7 @@ use Rattle.value_lists.specs.Records.{wellListed}
 use Rattle.value_list_text.specs.Composing.{composedText, capped}
 use Rattle.value_list_text.proofs.Lengths.{capped-tells, capped-tells-over}
 use Rattle.value_list_text.proofs.Composed.{composed-written}
-use Rattle.write.specs.Writing.{Written, WritesAfter, Passed}
+use Rattle.write.specs.Writing.{Written, Refuses, WritesAfter, Passed}
 use Rattle.refusals.specs.Limits.{mostBytes, mostNumbers}
 
 -- ---- what is refused
@@ -144,7 +144,7 @@ module _ (service bytes table output : List ℕ) where
 
   -- the refusal answers
   pub refuses : (passed : ℕ) {r : Refusal} {s : Stored} {after : List ℕ} → left passed ≡ some r
-      → (s ≡ Refused r) × (after ≡ replicate (length output) 0) → WritesAfter passed service bytes table output s after
+      → Refuses r output s after → WritesAfter passed service bytes table output s after
   refuses passed e d = refused-written (length text) (storedIn output text) output e (d .0) (d .1)
 
   -- further stages are passed

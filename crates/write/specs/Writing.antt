@@ -10,6 +10,7 @@ use Rattle.lists.specs.Lists.{maybe}
 use Rattle.refusals.specs.declared.Refusal.{Refusal}
 use Rattle.refusals.specs.Refusals.{answering}
 use Rattle.answers.specs.declared.Stored.{Stored}
+use Rattle.answers.specs.declared.Stored.the-variants.{Refused}
 use Rattle.answers.specs.Answers.{given, refused, toldStored}
 use Rattle.operations.specs.Judge.{storedIn, unlessRefused}
 use Rattle.operations.specs.ValueList.{listedIn}
@@ -22,6 +23,10 @@ use Rattle.refusals.specs.Limits.{mostNumbers}
 pub record Written (o : Option Refusal) (size : ℕ) (text before : List ℕ) (r : Stored) (after : List ℕ) : Type 0 where
   pub told : toldStored r ≡ maybe (given (size ∷ [])) refused o
   pub left : after ≡ unlessRefused o text (replicate (length before) 0)
+
+-- a refusal, and an output that is left zero
+abbrev pub Refuses : Refusal → (output : List ℕ) → Stored → (after : List ℕ) → Type 0
+Refuses q output r after = (r ≡ Refused q) × (after ≡ replicate (length output) 0)
 
 -- what Write answers and leaves where so many of its stages are passed
 abbrev pub WritesAfter : ℕ → (service bytes table output : List ℕ) → Stored → (after : List ℕ) → Type 0

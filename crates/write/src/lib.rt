@@ -4,11 +4,11 @@
 ghost use mathlib.Core.Path.{_≡_};
 ghost use mathlib.Core.Bool.{true};
 ghost use Prim.Native.Nat.{_≤_};
-ghost use lib.ListN.{length, take, replicate};
+ghost use lib.ListN.{length, take};
 ghost use Rattle.characters.specs.Characters.{sixBytes, usable};
 ghost use Rattle.stages.specs.Stages.{refusalOf};
 ghost use Rattle.contracts.specs.Promises.{Writes};
-ghost use Rattle.write.specs.Writing.{Written, WritesAfter, Passed};
+ghost use Rattle.write.specs.Writing.{Written, Refuses, WritesAfter, Passed};
 use answers::Judged;
 use answers::Stored;
 use characters::Characters;
@@ -18,7 +18,7 @@ use refusals::Refusal;
 
 // Leaves the whole output zero, "so that no half text is sent".
 pub fn refuse(output: &mut [u8], r: Refusal) -> Stored
-    ensures { λ s. ⌜ (s ≡ Stored.Refused r) × (now (output .exit) ≡ replicate (length (now (output .entry))) 0) ⌝ }
+    ensures { λ s. ⌜ Refuses r (now (output .entry)) s (now (output .exit)) ⌝ }
 {
     let n = output.len();
     storing::fill(output, 0, n, 0);

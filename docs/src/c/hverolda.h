@@ -2,7 +2,7 @@
  * Hverolda for C: judges an EDIFACT interchange (ISO 9735, syntax versions 1, 2 and 4), reads its
  * values, writes interchanges, makes a normal form, says whether two interchanges are the same, keeps
  * each one once on a shelf, counts those of a mailbox file, holds messages to a table of their
- * structure, and acknowledges interchanges.
+ * structure, acknowledges interchanges, and puts them into columns for a spreadsheet and back.
  *
  * The archive is target/staticlib/libsurface.a, which `rt staticlib surface` proves and writes, for
  * x86-64 Linux. It needs nothing but the C library's memset:
@@ -12,9 +12,9 @@
  * What is proved. For any bytes and any numbers, each function's answer and every byte and number of
  * each buffer at exit are what the definitions in crates/surface/specs, crates/operations/specs,
  * crates/shelves/specs, crates/mailbox_files/specs, crates/message_tables/specs,
- * crates/message_structures/specs and crates/acknowledgements/specs say; no function reads or writes
- * outside what it is lent, and each one ends. This header and the size of the stack are not part of the
- * proof.
+ * crates/message_structures/specs, crates/acknowledgements/specs and crates/columns/specs say; no
+ * function reads or writes outside what it is lent, and each one ends. This header and the size of the
+ * stack are not part of the proof.
  *
  * What the caller owes. A slice is a pointer and, right after it, the number of its elements.
  *   - The pointer is valid for that many elements for the whole call, and they take fewer than 2^63
@@ -51,6 +51,8 @@
  * turn at each segment: for 999 entries and a body of 8,000 segments that is made so, some 40 ms.
  * Acknowledge costs what Judge costs over the received input and the text, and a few steps for each
  * record of the lent tables, which have at most 96,000 numbers each.
+ * Export costs a few steps for each byte of the input and of the text. Import costs a few steps for each
+ * byte of the text, which may have any length, and no more for one that was made to be slow.
  *
  * Limits. An input, a written text and a normal form have at most 32,000 bytes. So a normal form or a
  * written text fits 32,000 bytes, and what Read stores fits 32,000 bytes and 96,000 numbers, since
@@ -60,6 +62,7 @@
  * 21. What is longer may be given, and is refused. A buffer that is written to may have any length,
  * Read's table with it. A shelf has 533 to 65,536 bytes; one of another size may be given, and is
  * refused. A mailbox file has at most 65,536 bytes; a longer one may be given, and is refused.
+ * What Export stores fits 800,039 bytes; lent none, it says by 14 how many it needs.
  *
  * Line breaks. Carriage returns and line feeds (bytes 13 and 10) directly after a segment's
  * terminator, or directly after the advice, are passed over, however many; anywhere else they are
@@ -202,7 +205,10 @@ enum hverolda_refusal {
     /* The received interchange cannot be acknowledged: it is refused by another number than 10, 11 and
        12, or UNB's reference is malformed by 10, or its sender or recipient is, trimmed, one empty value.
        Place: 0. */
-    HVEROLDA_NO_ACKNOWLEDGEMENT = 23
+    HVEROLDA_NO_ACKNOWLEDGEMENT = 23,
+    /* The text is none that Export gives for a trimmed list of values without tab, carriage return and
+       line feed. Place: 0. */
+    HVEROLDA_NO_COLUMNS = 24
 };
 
 /*
@@ -227,8 +233,8 @@ typedef struct hverolda_verdict {
 } hverolda_verdict;
 
 /*
- * What Normalise, Write and Acknowledge say: `length` bytes were stored; what a shelf's Remove says: so
- * many were taken away; or `number` and `place`. All else is 0.
+ * What Normalise, Write, Acknowledge, Export and Import say: `length` bytes were stored; what a shelf's
+ * Remove says: so many were taken away; or `number` and `place`. All else is 0.
  */
 typedef struct hverolda_written {
     uint32_t number;
@@ -502,6 +508,40 @@ hverolda_written hverolda_acknowledge(const uint8_t *received, size_t received_l
                                       const uint8_t *message, size_t message_length,
                                       const uint32_t *message_table, size_t message_table_length,
                                       uint8_t *output, size_t output_length);
+
+/*
+ * Export: stores the contents in columns, for a spreadsheet. A heading line, then one line for each
+ * value of the trimmed contents:
+ *
+ *     segment<TAB>element<TAB>repeat<TAB>component<TAB>value<LF>
+ *     0<TAB>0<TAB>0<TAB>0<TAB>UNB<LF>
+ *     0<TAB>1<TAB>0<TAB>0<TAB>UNOA<LF>
+ *
+ * Numbers count from 0 in decimal, without leading zeros. Values are without release characters.
+ *
+ * Refusals: Judge's, then 14 where `buffer` is too short, with the bytes needed.
+ * Afterwards `buffer` holds the text in front and keeps its values beyond; where anything is refused it
+ * keeps all of them.
+ */
+hverolda_written hverolda_export(uint8_t *buffer, size_t buffer_length,
+                                 const uint8_t *input, size_t input_length);
+
+/*
+ * Import: the interchange that a text in columns tells, under six service bytes as Write's.
+ *
+ * It takes exactly the texts that Export gives for some trimmed list of values which hold no tab,
+ * carriage return or line feed: every line as above, each with the numbers that come next, no empty
+ * value at an end, and a line feed after the last. The list need be no interchange: that Write refuses.
+ *
+ * Refusals: 24 for any other text, whatever the service bytes are; then Write's for that list, whose
+ * records are the lines after the heading, from 0: 15 at 0 where there are more than 32,000, 2, 16, 1,
+ * 14 (the bytes needed), then 3 to 13.
+ * Afterwards `output` holds the interchange in front and keeps its values beyond. A refused Import
+ * leaves all of `output` zero.
+ */
+hverolda_written hverolda_import(const uint8_t *service, size_t service_length,
+                                 const uint8_t *columns, size_t columns_length,
+                                 uint8_t *output, size_t output_length);
 
 /*
  * A shelf is a buffer that keeps up to 64 normal forms, each once and in a slot of its own, and two

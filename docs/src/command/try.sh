@@ -41,6 +41,7 @@ operands_of() {
         locate) operands=(2 2 0 0) ;;
         write | respell) operands=("$six") ;;
         acknowledge) operands=(--date 261115:0842 --reference A1 --message CONTRL:4:1:UN) ;;
+        import) operands=(--service "$six") ;;
         shelf) operands=("$work/shelf" put) ;;
         *) operands=() ;;
     esac
@@ -56,7 +57,7 @@ gigabyte() { head -c 1000000000 /dev/zero 2>/dev/null | tr '\0' "${1-\0}" 2>/dev
 
 accepted='accepted 5 1 0 93'
 sentence="the trailer's count is wrong"
-commands=(judge normalise compare keep locate read write respell acknowledge report shelf)
+commands=(judge normalise compare keep locate read write respell acknowledge export import report shelf)
 # nearly all of its 31,900 bytes end an empty value: as many values as an interchange can have
 {
     printf "UNB+UNOA:1+AA+BB+260105:0930+R1'UNH+1+ORDERS:1:901:UN'BGM"
@@ -191,6 +192,54 @@ expect 2 '' "hverolda: --date, --reference and --message are asked for*" "$hvero
 expect 2 '' "hverolda: --date is given twice*" "$hverolda" acknowledge --date 1 --date 2 "$x"
 expect 2 '' "hverolda: which value has --date[?]*" "$hverolda" acknowledge "$x" --date
 expect 2 '' "hverolda: one file is acknowledged*" "$hverolda" acknowledge "${operands[@]}" "$x" "$x"
+
+# in columns, as it is stored, and back: the stored cases of version 4, and all that are accepted
+for input in "$cases"/*.tsv; do
+    expect 0 '*' '' "$hverolda" export "${input%.tsv}.edi"
+    cmp -s "$input" "$work/out" || complain "$input: other columns than the stored ones"
+done
+for input in "${good[@]}"; do
+    service=$six
+    [[ $("$hverolda" normalise "$cases/$input.edi" | head -c 8) == *\* ]] && service=';*.!%~'
+    "$hverolda" export "$cases/$input.edi" >"$work/columns"
+    expect 0 '*' '' "$hverolda" import --service "$service" "$work/columns"
+    cp "$work/out" "$work/text"
+    expect 0 '*' '' "$hverolda" respell "$service" "$cases/$input.edi"
+    cmp -s "$work/text" "$work/out" || complain "$input: there and back is another text than respell writes"
+    expect 0 '*' '' "$hverolda" export "$work/text"
+    cmp -s "$work/columns" "$work/out" || complain "$input: back and there gives other columns"
+done
+expect 0 "$(cat "$respelled")" '' "$hverolda" import "$cases/01-x.tsv" --service "$six"
+expect 0 "UNA*UNA*" '' "$hverolda" import "$cases/01-x.tsv" - --service "$six" <"$cases/01-x.tsv"
+expect 1 '' "hverolda: $wrong: refused 12 67 $sentence" "$hverolda" export "$wrong"
+# what a spreadsheet does to it, and other slips
+columns_say() { # STATUS OUT ERR SED: what becomes of X in columns after this change
+    sed "$4" "$cases/01-x.tsv" >"$work/columns"
+    expect "$1" "$2" "hverolda: $work/columns: $3" "$hverolda" import --service "$six" "$work/columns"
+}
+none='refused input 24 0 it is no text in columns: *'
+columns_say 1 '' "$none; line 1 ends in a carriage return" 's/$/\r/'
+columns_say 1 '' "$none; line 5 ends in a carriage return" '5s/$/\r/'
+columns_say 1 '' "$none; line 2 has quotes around a number or a name" '2s/^0/"0"/'
+columns_say 1 '' "$none; line 1 begins with a byte order mark" '1s/^/\xef\xbb\xbf/'
+for slip in 's/\t/,/g' '3s/^0/00/' '3s/^0/+0/' '5d' '4i\\' '9s/$/\t/' '1s/s/S/' '1d'; do
+    columns_say 1 '' "$none" "$slip"
+    [[ $(cat "$work/err") != *';'* ]] || complain "$slip: a spreadsheet is blamed"
+done
+expect 1 '' "hverolda: -: $none" "$hverolda" import --service "$six" < <(head -c -1 "$cases/01-x.tsv")
+expect 1 '' "hverolda: -: $none" "$hverolda" import --service "$six" < <(cat "$cases/01-x.tsv" && printf '4\t3\t0\t0\t\n')
+expect 1 '' "hverolda: -: $none" "$hverolda" import --service "$six" </dev/null
+expect 1 '' "hverolda: -: refused text 3 9 *" "$hverolda" import --service "$six" < <(head -n 1 "$cases/01-x.tsv")
+# quotes around a value are taken for bytes of it, which the standard allows
+sed 's/\tAA$/\t"AA"/' "$cases/01-x.tsv" >"$work/columns"
+expect 0 '*"AA"*' '' "$hverolda" import --service "$six" "$work/columns"
+columns_say 1 '' 'refused text 8 *' 's/\tAA$/\taa/'
+columns_say 1 '' 'refused text 12 *' 's/^3\t1\t0\t0\t3$/3\t1\t0\t0\t4/'
+expect 1 '' "hverolda: $cases/87-repeats-in-any-element.tsv: refused text 16 *" "$hverolda" import --service "$six" "$cases/87-repeats-in-any-element.tsv"
+expect 2 '' 'hverolda: --service is asked for*' "$hverolda" import "$cases/01-x.tsv"
+expect 2 '' 'hverolda: --service is asked for*' "$hverolda" import --service "$cases/01-x.tsv"
+expect 2 '' 'hverolda: which value has --service[?]*' "$hverolda" import --service
+expect 2 '' 'hverolda: -: more bytes than the columns *' narrow "$hverolda" import --service "$six" < <(gigabyte)
 
 # on a terminal, the bytes around the place and a mark under the one that is meant: UNT's first
 on_terminal() { script -qec "$*" /dev/null | tr -d '\r'; }

@@ -1,6 +1,6 @@
 -- `value_list_text::put_records` meets its contract. The loop's invariant: what is left of the records, stored from here, gives what all of
 -- them, stored at the start, give; and the records before `at` are passed. What is left of the table falls. Assumes nothing.
-use Prim.Native.Nat.{_-_, _+_, _≤_}
+use Prim.Native.Nat.{_-_, _+_}
 use mathlib.Core.Path.{refl, sym, ap, subst, _∙_}
 use mathlib.Core.List.{[], _∷_}
 use native.Mathlib.Omega.{arith}
@@ -9,11 +9,12 @@ use lib.ListN.{length, drop}
 use Rattle.values.specs.Tokens.{separator}
 use Rattle.storing.proofs.Stores.{Goes, stored-length}
 use Rattle.emission_laws.specs.declared.Held.{Held}
-use Rattle.emission_laws.specs.Emission.{nothing, waiting, emitted}
+use Rattle.emission_laws.specs.Emission.{nothing, emitted}
 use Rattle.held_separators.proofs.Steps.{tokens-fit, tokens-put, all-put}
 use Rattle.operations.specs.ValueList.{listedIn}
 use Rattle.value_list_text.specs.Composing.{recordTokens, listTokens, itemOf}
-use Rattle.value_list_text.proofs.Composed.{Reached, reached-start, at-most, next-value, reached-next, text-length, listed-next, listed-end}
+use Rattle.value_list_text.proofs.Composed.{text-length}
+use Rattle.value_list_text.proofs.Rows.{row-next, row-end, listed-few, listed-next, listed-end, Reached, reached-start, at-most, next-value, reached-next}
 use Rattle.value_list_text.proofs.put_records.Statement.{statement}
 use Rattle.value_list_text.proofs.put_records.Tie as tie
 
@@ -55,9 +56,9 @@ put-record-requires c κs =
     let g = c .before .before .before .loop .inv .1 in
     let d = c .record-at .ensures in (
       next-value chars bytes table m g (omega (arith, g .inside)) d,
-      omega (arith, g .few, g .inside, c .before .before .before .before .before .before .before .before .pre .numbers, c .before .before .before .before .before .before .before .before .pre .short, at-most chars bytes table m g, text-length chars (listedIn bytes table)),
+      omega (arith, g .gone .few, listed-few bytes table, c .before .before .before .before .before .before .before .before .pre .numbers, c .before .before .before .before .before .before .before .before .pre .short, at-most chars bytes table m g, text-length chars (listedIn bytes table)),
       tokens-fit chars m (listTokens (listedIn bytes (drop at table))) (c .before .before .before .loop .inv .0) (recordTokens (itemOf bytes (c .record-at .result))) (listTokens (listedIn bytes (drop (at + 3) table)))
-          (listed-next bytes table at (omega (arith, g .inside)) d),
+          (row-next (itemOf bytes (c .record-at .result)) (listedIn bytes (drop (at + 3) table)) (listed-next bytes table at (omega (arith, g .inside)) d)),
     )
 
 add-at : tie.Need-add-at Inv-loop μ-loop
@@ -77,7 +78,7 @@ loop-again c =
     let d = c .before .before .before .record-at .ensures in
     let put = c .before .before .put-record .ensures in (
       tokens-put chars m (listTokens (listedIn bytes (drop at table))) (c .before .before .before .before .before .before .loop .inv .0) (recordTokens (itemOf bytes (c .before .before .before .record-at .result))) (listTokens (listedIn bytes (drop (at + 3) table)))
-          (listed-next bytes table at (omega (arith, g .inside)) d) put,
+          (row-next (itemOf bytes (c .before .before .before .record-at .result)) (listedIn bytes (drop (at + 3) table)) (listed-next bytes table at (omega (arith, g .inside)) d)) put,
       reached-next chars bytes table m g (omega (arith, g .inside)) d (put .1),
     )
 
@@ -89,8 +90,8 @@ put-separator-requires c κs =
     let m = c .before .before .loop .m in
     let at = c .before .before .loop .at in
     let g = c .before .before .loop .inv .1 in (
-      tokens-fit chars m (listTokens (listedIn bytes (drop at table))) (c .before .before .loop .inv .0) (separator 0 0 ∷ []) [] (listed-end bytes table at (omega (arith, g .inside))),
-      omega (arith, g .few, g .inside, c .before .before .before .before .before .before .before .pre .numbers, c .before .before .before .before .before .before .before .pre .short, at-most chars bytes table m g, text-length chars (listedIn bytes table)),
+      tokens-fit chars m (listTokens (listedIn bytes (drop at table))) (c .before .before .loop .inv .0) (separator 0 0 ∷ []) [] (row-end (listed-end bytes table at (omega (arith, g .inside)))),
+      omega (arith, g .gone .few, listed-few bytes table, c .before .before .before .before .before .before .before .pre .numbers, c .before .before .before .before .before .before .before .pre .short, at-most chars bytes table m g, text-length chars (listedIn bytes table)),
     )
 
 same-length : tie.Need-same-length Inv-loop μ-loop
@@ -105,7 +106,7 @@ returns c =
     let table = c .before .before .before .before .before .before .before .before .before .before .args .table .now in
     let at = c .before .before .before .before .before .loop .at in
     let g = c .before .before .before .before .before .loop .inv .1 in
-    let end = listed-end bytes table at (omega (arith, g .inside)) in
+    let end = row-end (listed-end bytes table at (omega (arith, g .inside))) in
     all-put chars (c .before .before .put-separator .result) []
     (tokens-put chars (c .before .before .before .before .before .loop .m) (listTokens (listedIn bytes (drop at table))) (c .before .before .before .before .before .loop .inv .0) (separator 0 0 ∷ []) [] end (c .before .before .put-separator .ensures)) refl
 

@@ -8,7 +8,8 @@ use lib.ListN.{length}
 use Rattle.emission_laws.specs.declared.Held.{Held}
 use Rattle.operations.specs.ValueList.{listedIn}
 use Rattle.value_list_text.specs.Composing.{composedText}
-use Rattle.value_list_text.proofs.Composed.{Reached, reached-start, at-most, next-value, reached-next, reached-end, ended-total}
+use Rattle.value_list_text.proofs.Composed.{ended-total}
+use Rattle.value_list_text.proofs.Rows.{listed-few, Reached, reached-start, at-most, next-value, reached-next, reached-end}
 use Rattle.value_list_text.proofs.Lengths.{capped-over, capped-last}
 use Rattle.value_list_text.proofs.text_length.Statement.{statement}
 use Rattle.value_list_text.proofs.text_length.Tie as tie
@@ -37,7 +38,7 @@ with-record-requires : tie.Need-with-record-requires Inv-loop μ-loop
 with-record-requires c κs =
     let g = c .before .before .loop .inv .0 in (
       next-value (c .before .before .before .before .before .before .args .c) (c .before .before .before .before .before .before .args .bytes .now) (c .before .before .before .before .before .before .args .table .now) (c .before .before .loop .m) g (omega (arith, g .inside)) (c .record-at .ensures),
-      omega (arith, g .few, g .inside, c .before .before .before .before .before .before .pre .1, c .before .before .loop .inv .1),
+      omega (arith, g .gone .few, listed-few (c .before .before .before .before .before .before .args .bytes .now) (c .before .before .before .before .before .before .args .table .now), c .before .before .before .before .before .before .pre .1, c .before .before .loop .inv .1),
     )
 
 returns : tie.Need-returns Inv-loop μ-loop
@@ -59,7 +60,7 @@ loop-again c =
     (reached-next (c .before .before .before .before .before .before .before .before .before .args .c) (c .before .before .before .before .before .before .before .before .before .args .bytes .now) (c .before .before .before .before .before .before .before .before .before .args .table .now) (c .before .before .before .before .before .loop .m) g (omega (arith, g .inside)) (c .before .before .before .record-at .ensures) (c .before .before .with-record .ensures), omega arith)
 
 with-separator-requires : tie.Need-with-separator-requires Inv-loop μ-loop
-with-separator-requires c κs = omega (arith, c .before .loop .inv .0 .few, c .before .loop .inv .0 .inside, c .before .before .before .before .before .pre .1, c .before .loop .inv .1)
+with-separator-requires c κs = omega (arith, c .before .loop .inv .0 .gone .few, listed-few (c .before .before .before .before .before .args .bytes .now) (c .before .before .before .before .before .args .table .now), c .before .before .before .before .before .pre .1, c .before .loop .inv .1)
 
 returns-2 : tie.Need-returns-2 Inv-loop μ-loop
 returns-2 c =

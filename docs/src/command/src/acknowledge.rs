@@ -34,36 +34,10 @@ values of the text from 0.
 const MISSING: &str = "--date, --reference and --message are asked for";
 
 /// The names of the three options, in the order of the text.
-const OPTIONS: [&str; 3] = ["--date", "--reference", "--message"];
+pub const OPTIONS: [&str; 3] = ["--date", "--reference", "--message"];
 
 /// The values of the three options, where they are given.
 pub type Values = [Option<OsString>; 3];
-
-/// The values of the options, which may stand anywhere before a `--`, and the words that
-/// are left.
-pub fn options(words: &[OsString]) -> Result<(Values, Vec<OsString>), Trouble> {
-    let mut values = Values::default();
-    let mut left = Vec::new();
-    let mut words = words.iter();
-    while let Some(word) = words.next() {
-        if word == "--" {
-            left.push(word.clone());
-            left.extend(words.cloned());
-            break;
-        }
-        match OPTIONS.iter().position(|name| word == name) {
-            None => left.push(word.clone()),
-            Some(number) => match words.next() {
-                None => return usage(&format!("which value has {}?", OPTIONS[number])),
-                Some(_) if values[number].is_some() => {
-                    return usage(&format!("{} is given twice", OPTIONS[number]));
-                }
-                Some(value) => values[number] = Some(value.clone()),
-            },
-        }
-    }
-    Ok((values, left))
-}
 
 /// Acknowledges the file, with these values of the options.
 pub fn with(

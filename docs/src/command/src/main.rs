@@ -10,6 +10,7 @@ compile_error!("the command is for Linux with the GNU C library");
 
 mod input;
 mod lines;
+mod options;
 mod output;
 mod shelf_file;
 mod table;
@@ -27,7 +28,9 @@ macro_rules! commands {
     };
 }
 
-commands! { judge normalise compare keep locate read write respell acknowledge report shelf }
+commands! {
+    judge normalise compare keep locate read write respell acknowledge export import report shelf
+}
 
 pub struct Command {
     name: &'static str,
@@ -116,7 +119,7 @@ pub extern "C" fn main(_count: i32, _words: *const *const u8) -> i32 {
 
 /// Parts the operands from the options. `--help` stands alone: a file of that name
 /// beside others is not answered by a help. `--table` stands first, before its file; those
-/// of `acknowledge` stand anywhere.
+/// of `acknowledge` and `import` stand anywhere.
 fn run(command: &Command, output: &mut Output, words: &[OsString]) -> Result<Status, Trouble> {
     match words {
         [option] if option == "--help" => {
@@ -132,8 +135,12 @@ fn run(command: &Command, output: &mut Output, words: &[OsString]) -> Result<Sta
             }
         }
         _ if command.name == acknowledge::COMMAND.name => {
-            let (values, words) = acknowledge::options(words)?;
+            let (values, words) = options::taken(acknowledge::OPTIONS, words)?;
             acknowledge::with(output, &values, &operands(&words)?)
+        }
+        _ if command.name == import::COMMAND.name => {
+            let ([service], words) = options::taken(import::OPTIONS, words)?;
+            import::with(output, service.as_deref(), &operands(&words)?)
         }
         _ => (command.run)(output, &operands(words)?),
     }

@@ -24,6 +24,8 @@ pub enum Said {
     NoText(&'static str, Refusal),
     /// Refusal 23 of the input in place of an acknowledgement, and how Judge refuses it.
     NoReport(Refusal, Option<Refusal>),
+    /// Refusal 24 of the input in place of a text, and what a spreadsheet did to it.
+    NoColumns(Refusal, Option<String>),
     /// A refusal of the text that was to be written, in its place.
     BadText(Refusal),
     /// The input cannot be taken.
@@ -79,6 +81,11 @@ impl Output {
                     .as_ref()
                     .map_or("accepted".to_string(), |refusal| format!("refused {}", told(refusal)));
                 complain(&format!("{name}: refused input {}; judged: {judged}", told(&refusal)));
+                Ok(Status::No)
+            }
+            Said::NoColumns(refusal, damage) => {
+                let damage = damage.map_or(String::new(), |what| format!("; {what}"));
+                complain(&format!("{name}: refused input {}{damage}", told(&refusal)));
                 Ok(Status::No)
             }
             Said::BadText(refusal) => {

@@ -45,11 +45,15 @@ fn run(output: &mut Output, operands: &[OsString]) -> Result<Status, Trouble> {
 /// characters is said before anything is read: where they were forgotten, a
 /// file's name stands in their place.
 pub fn service(operands: &[OsString]) -> Result<(&[u8], &[OsString]), Trouble> {
-    let usable = |service| !matches!(text(service, &[], &[]), Err(r) if r.fault == Fault::Advice);
     match operands.split_first() {
-        Some((first, files)) if usable(first.as_bytes()) => Ok((first.as_bytes(), files)),
+        Some((first, files)) if is_usable(first.as_bytes()) => Ok((first.as_bytes(), files)),
         _ => usage("SERVICE must be six usable bytes, as ';*.! ~'"),
     }
+}
+
+/// Are these six service bytes that Write can use?
+pub fn is_usable(service: &[u8]) -> bool {
+    !matches!(text(service, &[], &[]), Err(refusal) if refusal.fault == Fault::Advice)
 }
 
 /// The text of a value list.

@@ -37,6 +37,16 @@ pub fn outcome(call: &Call) -> Outcome {
             let written = written(operations::acknowledge(received, &lent, &mut bytes));
             Outcome { bytes, ..Outcome::of(Answer::Acknowledge(written)) }
         }
+        Call::Export { buffer, input } => {
+            let mut bytes = buffer.clone();
+            let written = written(operations::export(input, &mut bytes));
+            Outcome { bytes, ..Outcome::of(Answer::Export(written)) }
+        }
+        Call::Import { service, columns, output } => {
+            let mut bytes = output.clone();
+            let written = written(operations::import(service, columns, &mut bytes));
+            Outcome { bytes, ..Outcome::of(Answer::Import(written)) }
+        }
     }
 }
 

@@ -1,8 +1,9 @@
 //! Calls answered by the C functions of the surface, over guarded memory.
 
 use hverolda::surface::{
-    hverolda_acknowledge, hverolda_compare, hverolda_judge, hverolda_keep, hverolda_locate_value,
-    hverolda_normalise, hverolda_read, hverolda_value_part, hverolda_write,
+    hverolda_acknowledge, hverolda_compare, hverolda_export, hverolda_import, hverolda_judge,
+    hverolda_keep, hverolda_locate_value, hverolda_normalise, hverolda_read, hverolda_value_part,
+    hverolda_write, Written,
 };
 use second::value_list::List;
 
@@ -16,7 +17,12 @@ use crate::lent::{Lender, Lent};
 pub fn outcome(lender: &mut Lender, call: &Call) -> Result<Outcome, String> {
     match call {
         Call::Judge { input } => judge(lender, input),
-        Call::Normalise { buffer, input } => normalise(lender, buffer, input),
+        Call::Normalise { buffer, input } => {
+            into_buffer(lender, buffer, input, hverolda_normalise, Answer::Normalise)
+        }
+        Call::Export { buffer, input } => {
+            into_buffer(lender, buffer, input, hverolda_export, Answer::Export)
+        }
         Call::Compare { first, second } => two(lender, first, second, compare),
         Call::Keep { first, second } => two(lender, first, second, keep),
         Call::Locate { numbers, input } => numbered(lender, *numbers, input, locate),
@@ -28,6 +34,7 @@ pub fn outcome(lender: &mut Lender, call: &Call) -> Result<Outcome, String> {
         Call::Acknowledge { received, lists, output } => {
             acknowledge(lender, received, lists, output)
         }
+        Call::Import { service, columns, output } => import(lender, service, columns, output),
     }
 }
 
@@ -39,14 +46,23 @@ fn judge(lender: &mut Lender, input: &[u8]) -> Result<Outcome, String> {
     Ok(Outcome::of(Answer::Judge(verdict)))
 }
 
-fn normalise(lender: &mut Lender, buffer: &[u8], input: &[u8]) -> Result<Outcome, String> {
+type IntoBuffer = unsafe extern "C" fn(*mut u8, usize, *const u8, usize) -> Written;
+
+/// Normalise and Export: both store what they make of an input in a buffer.
+fn into_buffer(
+    lender: &mut Lender,
+    buffer: &[u8],
+    input: &[u8],
+    operation: IntoBuffer,
+    answer: fn(Written) -> Answer,
+) -> Result<Outcome, String> {
     let (mut buffer, mut input) = (lender.lend(buffer), lender.lend(input));
     let (room, length) = (buffer.length(), input.length());
     // SAFETY: as in `judge`, and the two are apart.
-    let written = unsafe { hverolda_normalise(buffer.pointer(), room, input.pointer(), length) };
+    let written = unsafe { operation(buffer.pointer(), room, input.pointer(), length) };
     input.unchanged("the input")?;
     let bytes = buffer.exit("the buffer")?.to_vec();
-    Ok(Outcome { bytes, ..Outcome::of(Answer::Normalise(written)) })
+    Ok(Outcome { bytes, ..Outcome::of(answer(written)) })
 }
 
 type OfTwo = fn((*const u8, usize), (*const u8, usize)) -> Answer;
@@ -195,4 +211,30 @@ fn acknowledge(
     }
     let bytes = output.exit("the output")?.to_vec();
     Ok(Outcome { bytes, ..Outcome::of(Answer::Acknowledge(written)) })
+}
+
+fn import(
+    lender: &mut Lender,
+    service: &[u8],
+    columns: &[u8],
+    output: &[u8],
+) -> Result<Outcome, String> {
+    let (mut service, mut columns) = (lender.lend(service), lender.lend(columns));
+    let mut output = lender.lend(output);
+    let lengths = (service.length(), columns.length(), output.length());
+    // SAFETY: as in `judge`, and the three are apart.
+    let written = unsafe {
+        hverolda_import(
+            service.pointer(),
+            lengths.0,
+            columns.pointer(),
+            lengths.1,
+            output.pointer(),
+            lengths.2,
+        )
+    };
+    service.unchanged("the service bytes")?;
+    columns.unchanged("the columns")?;
+    let bytes = output.exit("the output")?.to_vec();
+    Ok(Outcome { bytes, ..Outcome::of(Answer::Import(written)) })
 }

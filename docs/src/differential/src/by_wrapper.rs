@@ -35,6 +35,16 @@ pub fn outcome(call: &Call) -> Outcome {
             let written = written(hverolda::acknowledge(received, &lent(lists), &mut bytes));
             Outcome { bytes, ..Outcome::of(Answer::Acknowledge(written)) }
         }
+        Call::Export { buffer, input } => {
+            let mut bytes = buffer.clone();
+            let written = written(hverolda::export(input, &mut bytes));
+            Outcome { bytes, ..Outcome::of(Answer::Export(written)) }
+        }
+        Call::Import { service, columns, output } => {
+            let mut bytes = output.clone();
+            let written = written(hverolda::import(service, columns, &mut bytes));
+            Outcome { bytes, ..Outcome::of(Answer::Import(written)) }
+        }
     }
 }
 

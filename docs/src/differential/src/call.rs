@@ -22,6 +22,8 @@ pub enum Call {
     Read { bytes: Vec<u8>, table: Vec<u32>, input: Vec<u8> },
     Write { service: Vec<u8>, values: Vec<u8>, table: Vec<u32>, output: Vec<u8> },
     Acknowledge { received: Vec<u8>, lists: [List; 3], output: Vec<u8> },
+    Export { buffer: Vec<u8>, input: Vec<u8> },
+    Import { service: Vec<u8>, columns: Vec<u8>, output: Vec<u8> },
 }
 
 impl From<Request> for Call {
@@ -43,6 +45,10 @@ impl From<Request> for Call {
             }
             Request::Acknowledge { received, date, reference, message, output } => {
                 Call::Acknowledge { received, lists: [date, reference, message], output }
+            }
+            Request::Export { buffer, input } => Call::Export { buffer, input },
+            Request::Import { service, text, output } => {
+                Call::Import { service, columns: text, output }
             }
         }
     }
@@ -101,6 +107,14 @@ impl Call {
                 lent.extend(lists.map(|(name, list)| (name, &list.values[..])));
                 ("acknowledge", None, lent)
             }
+            Call::Export { buffer, input } => {
+                ("export", None, vec![("buffer", buffer), ("input", input)])
+            }
+            Call::Import { service, columns, output } => {
+                let lent: Named =
+                    vec![("service", service), ("columns", columns), ("output", output)];
+                ("import", None, lent)
+            }
         }
     }
 }
@@ -125,6 +139,8 @@ pub enum Answer {
     Read(Listing),
     Write(Written),
     Acknowledge(Written),
+    Export(Written),
+    Import(Written),
 }
 
 /// What comes of a call: the answer, and the buffers at exit where it has any.
@@ -147,9 +163,11 @@ impl Outcome {
     /// The bytes and the table numbers that were stored.
     pub fn stored(&self) -> Told<(&[u8], &[u32])> {
         let (number, place, bytes, numbers) = match self.answer {
-            Answer::Normalise(told) | Answer::Write(told) | Answer::Acknowledge(told) => {
-                (told.number, told.place, told.length, 0)
-            }
+            Answer::Normalise(told)
+            | Answer::Write(told)
+            | Answer::Acknowledge(told)
+            | Answer::Export(told)
+            | Answer::Import(told) => (told.number, told.place, told.length, 0),
             Answer::Read(told) => (told.number, told.place, told.bytes, told.numbers),
             _ => (0, 0, 0, 0),
         };

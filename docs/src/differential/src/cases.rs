@@ -14,6 +14,7 @@ use hverolda::surface::{Comparison, Kept, Verdict};
 use crate::breaks::{after_breaks, misplaced};
 use crate::by_wrapper;
 use crate::call::{Answer, Call, Outcome, Told};
+use crate::columns;
 use crate::inputs;
 use crate::lent::filled;
 use crate::limits::{limit, write_limit, Limit, WriteLimit};
@@ -79,7 +80,7 @@ fn line(answer: &Answer) -> String {
 
 /// A case at random.
 pub fn any(run: &mut Run) -> Checked<()> {
-    match run.random.below(25) {
+    match run.random.below(28) {
         0..=5 => {
             let kind = run.random.pick(ALL_KINDS.as_bytes());
             let call = request(&mut run.random, kind).into();
@@ -99,6 +100,8 @@ pub fn any(run: &mut Run) -> Checked<()> {
             known_pair(run, change)
         }
         23 | 24 => acknowledgement(run),
+        25 => columns::there_and_back(run),
+        26 | 27 => columns::slip(run),
         17 | 18 => known_breaks(run),
         19 => known_misplaced(run),
         _ => list(run),
@@ -130,7 +133,7 @@ fn two(run: &mut Run, first: Vec<u8>, second: Vec<u8>) -> Checked<()> {
 
 /// The sizes of a buffer, each with its name, where so much is needed. The
 /// last one is enough; now and then 16 bits do not hold it.
-fn rooms(run: &mut Run, needed: usize) -> Vec<(usize, &'static str)> {
+pub fn rooms(run: &mut Run, needed: usize) -> Vec<(usize, &'static str)> {
     let longer = needed + run.random.between(1, 40);
     let mut rooms = match needed {
         0 => vec![(0, "empty"), (longer, "any")],

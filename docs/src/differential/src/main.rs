@@ -19,6 +19,7 @@ mod by_surface;
 mod by_wrapper;
 mod call;
 mod cases;
+mod columns;
 mod inputs;
 mod lent;
 mod limits;

@@ -1,5 +1,5 @@
 //! What the paper says of buffers, held against a call directly: a refused
-//! Write or Acknowledge leaves zeros, every other refusal leaves each buffer as it was, and
+//! Write, Acknowledge or Import leaves zeros, every other refusal leaves each buffer as it was, and
 //! what lies beyond what was stored keeps its values.
 //!
 //! Paper, clauses "Operations" and "Refusals by number".
@@ -9,7 +9,8 @@ use crate::call::{Answer, Call, Outcome};
 /// The first rule that the outcome breaks.
 pub fn check(call: &Call, outcome: &Outcome) -> Result<(), String> {
     match (call, outcome.answer) {
-        (Call::Normalise { buffer, .. }, Answer::Normalise(written)) => {
+        (Call::Normalise { buffer, .. }, Answer::Normalise(written))
+        | (Call::Export { buffer, .. }, Answer::Export(written)) => {
             let stored = stored(written.number, written.length);
             beyond_is_kept(buffer, &outcome.bytes, stored, "the buffer")
         }
@@ -20,12 +21,11 @@ pub fn check(call: &Call, outcome: &Outcome) -> Result<(), String> {
             beyond_is_kept(table, &outcome.table, number_count, "the table")
         }
         (Call::Write { output, .. }, Answer::Write(written))
-        | (Call::Acknowledge { output, .. }, Answer::Acknowledge(written)) => {
-            match written.number {
-                0 => beyond_is_kept(output, &outcome.bytes, written.length, "the output"),
-                _ => all_zero(&outcome.bytes),
-            }
-        }
+        | (Call::Acknowledge { output, .. }, Answer::Acknowledge(written))
+        | (Call::Import { output, .. }, Answer::Import(written)) => match written.number {
+            0 => beyond_is_kept(output, &outcome.bytes, written.length, "the output"),
+            _ => all_zero(&outcome.bytes),
+        },
         _ => Ok(()),
     }
 }

@@ -8,12 +8,12 @@ use crate::call::{Answer, Outcome};
 use crate::sections::PLANS;
 
 /// The operations that refuse, Compare once for each of its inputs, with the
-/// numbers that each can give. Normalise and Read add 14 to Judge's. The text
+/// numbers that each can give. Normalise, Read and Export add 14 to Judge's. The text
 /// that Write judges releases what is to be released and ends its last
 /// segment, so that 4 and 5 cannot be met in it. An acknowledgement has the received
 /// level and version and its own segments, so that of the text's refusals only that of a
 /// lent byte and that of the new reference are left.
-const REFUSING: [(&str, &[u32]); 8] = [
+const REFUSING: [(&str, &[u32]); 10] = [
     ("judge", &[1, 2, 3, 4, 5, 6, 7, 8, 9, 10, 11, 12, 13]),
     ("normalise", &[1, 2, 3, 4, 5, 6, 7, 8, 9, 10, 11, 12, 13, 14]),
     ("compare, first", &[1, 2, 3, 4, 5, 6, 7, 8, 9, 10, 11, 12, 13]),
@@ -22,11 +22,13 @@ const REFUSING: [(&str, &[u32]); 8] = [
     ("read", &[1, 2, 3, 4, 5, 6, 7, 8, 9, 10, 11, 12, 13, 14]),
     ("write", &[1, 2, 3, 6, 7, 8, 9, 10, 11, 12, 13, 14, 15, 16]),
     ("acknowledge", &[1, 8, 10, 14, 15, 16, 23]),
+    ("export", &[1, 2, 3, 4, 5, 6, 7, 8, 9, 10, 11, 12, 13, 14]),
+    ("import", &[1, 2, 3, 6, 7, 8, 9, 10, 11, 12, 13, 14, 15, 16, 24]),
 ];
 
 /// Other things that must occur: answers that are no refusals, sizes of
 /// buffers, and the ways in which two interchanges differ.
-const OTHERS: [(&str, &str); 87] = [
+const OTHERS: [(&str, &str); 113] = [
     ("acknowledge", "stored"),
     ("acknowledge output", "empty"),
     ("acknowledge output", "exact"),
@@ -36,6 +38,32 @@ const OTHERS: [(&str, &str); 87] = [
     ("acknowledge of", "one refused by 10"),
     ("acknowledge of", "one refused by 11"),
     ("acknowledge of", "one refused by 12"),
+    ("export", "stored"),
+    ("export buffer", "empty"),
+    ("export buffer", "exact"),
+    ("export buffer", "longer"),
+    ("export buffer", "one short"),
+    ("import", "stored"),
+    ("import output", "empty"),
+    ("import output", "exact"),
+    ("import output", "longer"),
+    ("import output", "one short"),
+    ("columns", "32000 lines"),
+    ("columns", "32001 lines"),
+    ("columns", "a blank line"),
+    ("columns", "a carriage return in the last line"),
+    ("columns", "a carriage return in every line"),
+    ("columns", "a leading zero"),
+    ("columns", "a line twice"),
+    ("columns", "a normal form over 32000 bytes"),
+    ("columns", "a number of 100000 digits"),
+    ("columns", "a skipped number"),
+    ("columns", "a tab behind a value"),
+    ("columns", "an empty end"),
+    ("columns", "no last line feed"),
+    ("columns", "quotes around a number"),
+    ("columns", "the heading alone"),
+    ("columns", "there and back"),
     ("judge", "accepted"),
     ("normalise", "stored"),
     ("compare", "same"),
@@ -208,6 +236,8 @@ fn told(answer: &Answer) -> (&'static str, &'static str, u32) {
         Answer::Read(listing) => ("read", "stored", listing.number),
         Answer::Write(written) => ("write", "stored", written.number),
         Answer::Acknowledge(written) => ("acknowledge", "stored", written.number),
+        Answer::Export(written) => ("export", "stored", written.number),
+        Answer::Import(written) => ("import", "stored", written.number),
     }
 }
 

@@ -19,6 +19,8 @@
 //! | read all values | [`read`] | [`values`] |
 //! | write an interchange | [`write()`] | [`text_of`] |
 //! | acknowledge an interchange | [`acknowledge`] | [`acknowledgement`] |
+//! | put it into columns for a spreadsheet | [`export`] | [`columns()`] |
+//! | and back | [`import`] | [`imported`] |
 //! | keep each interchange once | [`Shelf`] | [`Shelf`] |
 //! | count what a mailbox file holds | [`report()`] | |
 //!
@@ -79,6 +81,7 @@ compile_error!(
 );
 
 mod acknowledging;
+mod columns;
 mod comparing;
 mod judging;
 mod locating;
@@ -96,6 +99,7 @@ pub mod surface;
 mod surface;
 
 pub use acknowledging::{acknowledge, acknowledgement, Lent, LentList};
+pub use columns::{columns, export, import, imported};
 pub use comparing::{compare, keep, Comparison, ComparisonRefused, Which};
 pub use judging::{judge, judge_by_table, Interchange, ServiceCharacters};
 pub use locating::{locate, part};

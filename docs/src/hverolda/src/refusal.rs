@@ -66,6 +66,9 @@ pub enum Fault {
     /// 23: the received interchange cannot be acknowledged; why stands at
     /// [`acknowledge`](crate::acknowledge()).
     NoAcknowledgement,
+    /// 24: the text is none that [`export`](crate::export()) gives for a trimmed list of
+    /// values without tab, carriage return and line feed.
+    NoColumns,
     /// A number above these, by which only an archive that is newer than this
     /// crate refuses; see [`rules`](crate::rules()).
     Unknown(u32),
@@ -73,7 +76,7 @@ pub enum Fault {
 
 /// The faults in the order of their numbers, from 1, with what is wrong as the
 /// end of a sentence.
-const FAULTS: [(Fault, &str); 23] = [
+const FAULTS: [(Fault, &str); 24] = [
     (Fault::OverLength, "there are more than 32000 bytes"),
     (Fault::Advice, "the service string advice is not usable"),
     (Fault::Beginning, "the body does not begin with UNB and the element separator"),
@@ -97,6 +100,7 @@ const FAULTS: [(Fault, &str); 23] = [
     (Fault::Table, "the table's entry breaks its rules"),
     (Fault::Body, "the table wants another segment here, or none"),
     (Fault::NoAcknowledgement, "it cannot be acknowledged: it is refused by other than 10, 11 and 12, or UNB lacks a sound reference, a sender or a recipient"),
+    (Fault::NoColumns, "it is no text in columns: a line, a number, an empty end or a line's end is not as export writes it"),
 ];
 
 impl Fault {
@@ -173,7 +177,7 @@ impl fmt::Display for Refusal {
             Fault::List | Fault::NoRelease => {
                 write!(f, "refused {number} at record {place}: {fault}")
             }
-            Fault::NoSlot | Fault::Shelf | Fault::NoAcknowledgement => {
+            Fault::NoSlot | Fault::Shelf | Fault::NoAcknowledgement | Fault::NoColumns => {
                 write!(f, "refused {number}: {fault}")
             }
             Fault::NoRoom => write!(f, "refused {number}: {fault}: {place} are needed"),
@@ -196,22 +200,22 @@ mod tests {
     }
 
     #[test]
-    fn the_numbers_are_one_to_twenty_three() {
+    fn the_numbers_are_one_to_twenty_four() {
         let numbers: Vec<u32> = FAULTS.iter().map(|(fault, _)| fault.number()).collect();
-        assert_eq!(numbers, (1..=23).collect::<Vec<u32>>());
+        assert_eq!(numbers, (1..=24).collect::<Vec<u32>>());
         assert_eq!(Fault::of_number(0), None);
         assert_eq!(Fault::of_number(12), Some(Fault::Count));
     }
 
     #[test]
     fn a_number_of_a_newer_archive_is_told() {
-        for number in [24, u32::MAX] {
+        for number in [25, u32::MAX] {
             let fault = Fault::of_number(number).unwrap();
             assert_eq!((fault, fault.number()), (Fault::Unknown(number), number));
-            assert!(Fault::NoAcknowledgement < fault);
+            assert!(Fault::NoColumns < fault);
         }
-        let newer = "refused 24, place 64: the archive is newer, and this crate does not know why";
-        assert_eq!(sentence(24, 64), newer);
+        let newer = "refused 25, place 64: the archive is newer, and this crate does not know why";
+        assert_eq!(sentence(25, 64), newer);
     }
 
     #[test]

@@ -115,6 +115,24 @@ extern "C" {
         room: usize,
     ) -> Written;
 
+    /// Stores the contents of one interchange in columns.
+    pub fn hverolda_export(
+        buffer: *mut u8,
+        room: usize,
+        input: *const u8,
+        length: usize,
+    ) -> Written;
+
+    /// Stores the interchange of a text in columns.
+    pub fn hverolda_import(
+        service: *const u8,
+        service_length: usize,
+        columns: *const u8,
+        length: usize,
+        output: *mut u8,
+        room: usize,
+    ) -> Written;
+
     /// Writes an empty shelf over a buffer.
     pub fn hverolda_shelf_start(shelf: *mut u8, size: usize) -> Started;
 
@@ -267,6 +285,27 @@ pub fn acknowledge(
             message.0.len(),
             message.1.as_ptr(),
             message.1.len(),
+            output.as_mut_ptr(),
+            output.len(),
+        )
+    }
+}
+
+/// Stores the contents of one interchange in columns.
+pub fn export(input: &[u8], buffer: &mut [u8]) -> Written {
+    // SAFETY: as in `normalise`.
+    unsafe { hverolda_export(buffer.as_mut_ptr(), buffer.len(), input.as_ptr(), input.len()) }
+}
+
+/// Stores the interchange of a text in columns.
+pub fn import(service: &[u8], columns: &[u8], output: &mut [u8]) -> Written {
+    // SAFETY: as in `normalise`; the other slices are only read.
+    unsafe {
+        hverolda_import(
+            service.as_ptr(),
+            service.len(),
+            columns.as_ptr(),
+            columns.len(),
             output.as_mut_ptr(),
             output.len(),
         )

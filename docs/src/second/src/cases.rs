@@ -4,7 +4,7 @@
 //! Paper, clause "The example and its neighbours"; the examples of the
 //! standard stand in `standard_examples`, the cases of a change request in a
 //! module of its own. The lines are those that hold now. Each case has also the
-//! line of its acknowledgement.
+//! line of its acknowledgement, and some have their text in columns.
 
 use std::fs;
 use std::io;
@@ -12,8 +12,9 @@ use std::path::Path;
 
 use crate::acknowledgement_cases::{acknowledged, DATE, MESSAGE, REFERENCE};
 use crate::break_cases::{break_cases, break_pairs};
+use crate::column_cases::column_cases;
 use crate::operations::{compare, judge};
-use crate::program_lines::acknowledged_line;
+use crate::program_lines::{acknowledged_line, exported_lines};
 use crate::report_lines::{compare_line, judge_line};
 use crate::section_cases::{section_cases, section_pairs};
 use crate::standard_examples::{standard_cases, standard_pairs};
@@ -193,7 +194,16 @@ fn disagreements(cases: &[Case], pairs: &[Pair]) -> Vec<String> {
 
 /// All disagreements between the program and its cases.
 pub fn check_cases() -> Vec<String> {
-    disagreements(&all_cases(), &all_pairs())
+    let cases = all_cases();
+    let mut found = disagreements(&cases, &all_pairs());
+    for columns in column_cases() {
+        let case = cases.iter().find(|case| case.name == columns.name);
+        let text = case.map(|case| exported_lines(&case.input));
+        if text.as_deref() != Some(columns.text.as_bytes()) {
+            found.push(format!("{}: other columns", columns.name));
+        }
+    }
+    found
 }
 
 /// Writes a file for each case, and the files of expected lines.
@@ -210,6 +220,9 @@ pub fn write_cases(folder: &Path) -> io::Result<()> {
         reports.push_str(&format!("{} {}\n", case.name, acknowledged(&case)));
     }
     fs::write(folder.join("EXPECTED-ACKNOWLEDGE"), reports)?;
+    for columns in column_cases() {
+        fs::write(folder.join(format!("{}.tsv", columns.name)), &columns.text)?;
+    }
     let mut compared = String::new();
     for pair in all_pairs() {
         compared.push_str(&format!("{} {} {}\n", pair.first, pair.second, pair.expected));

@@ -2,8 +2,8 @@
 //! the change requests that have landed: it judges one EDIFACT interchange,
 //! reads its values, writes interchanges, makes a normal form, says whether two
 //! interchanges are the same, keeps normal forms on a shelf, reports on a file of
-//! interchanges, judges by a table of message structures, and acknowledges an
-//! interchange.
+//! interchanges, judges by a table of message structures, acknowledges an
+//! interchange, and puts one into columns and back.
 //!
 //! One module for one idea; the first comment of each module names the clause
 //! of the paper, or the request, that it follows. The operations stand in
@@ -18,6 +18,9 @@ pub mod break_checks;
 pub mod carrying_checks;
 pub mod carrying_over;
 pub mod cases;
+pub mod column_cases;
+pub mod column_checks;
+pub mod columns;
 pub mod contents;
 pub mod control;
 pub mod either_order;

@@ -1,6 +1,6 @@
 //! The command line:
-//! `second judge|judge-by|compare|locate|respell|report|shelf|acknowledge|answers|
-//! generate|cases|selftest`.
+//! `second judge|judge-by|compare|locate|respell|report|shelf|acknowledge|export|import|
+//! answers|generate|cases|selftest`.
 
 use std::fs::{self, File};
 use std::io::{self, BufReader, BufWriter, Read, Write};
@@ -20,6 +20,7 @@ const USAGE: &str =
                      shelf SIZE [put FILE | get SLOT | remove SLOT | slots - | sums - | \
                      carry - | back -].. | \
                      acknowledge DATE REFERENCE MESSAGE FILE.. | \
+                     export FILE.. | import SERVICE FILE.. | \
                      answers [FILE] | generate SEED COUNT [KINDS] | cases DIR | selftest";
 
 fn main() -> ExitCode {
@@ -39,6 +40,8 @@ fn main() -> ExitCode {
         ["acknowledge", date, reference, message, ref files @ ..] => {
             acknowledge([date, reference, message], files)
         }
+        ["export", ref files @ ..] => export(files),
+        ["import", service, ref files @ ..] => import(service, files),
         ["answers"] => answers(None),
         ["answers", file] => answers(Some(file)),
         ["generate", seed, count] => generate(seed, count, generator::ALL_KINDS),
@@ -165,6 +168,25 @@ fn acknowledge(lent: [&str; 3], files: &[&str]) -> io::Result<ExitCode> {
         let received = fs::read(file)?;
         let line = program_lines::acknowledged_line(&received, date, reference, message);
         out.write_all(&line)?;
+        out.write_all(b"\n")?;
+    }
+    out.flush()?;
+    Ok(ExitCode::SUCCESS)
+}
+
+fn export(files: &[&str]) -> io::Result<ExitCode> {
+    let mut out = BufWriter::new(io::stdout());
+    for file in files {
+        out.write_all(&program_lines::exported_lines(&fs::read(file)?))?;
+    }
+    out.flush()?;
+    Ok(ExitCode::SUCCESS)
+}
+
+fn import(service: &str, files: &[&str]) -> io::Result<ExitCode> {
+    let mut out = BufWriter::new(io::stdout());
+    for file in files {
+        out.write_all(&program_lines::imported_line(service.as_bytes(), &fs::read(file)?))?;
         out.write_all(b"\n")?;
     }
     out.flush()?;

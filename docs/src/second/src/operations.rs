@@ -3,14 +3,15 @@
 //! Paper, clause "Operations" and the stages and exit buffers of clause
 //! "Refusals by number"; change request 2026-10: Locate has a repeat number; change
 //! request 2026-08, "Message structures", has the second Judge; change request
-//! 2026-11: Acknowledge.
+//! 2026-11: Acknowledge; change request 2026-12: Export and Import.
 
 use crate::acknowledgement::{put_together, Lent};
+use crate::columns::{columns_of, list_of_columns};
 use crate::contents::{Contents, Part};
 use crate::judging::{accept, accept_by, Accepted};
 use crate::message_table::entries_of;
 use crate::normal_form::{text, text_length};
-use crate::refusal::{refuse, Answer, Refusal, ADVICE, BUFFER, LONGEST, OVER_LENGTH};
+use crate::refusal::{refuse, Answer, Refusal, ADVICE, BUFFER, LONGEST, NO_COLUMNS, OVER_LENGTH};
 use crate::service_characters::{from_six, ServiceCharacters};
 use crate::trimming::trim;
 use crate::value_list::{check_spellable, contents_of, list_of, records_of};
@@ -213,6 +214,29 @@ pub fn acknowledge(received: &[u8], lent: &Lent, output: &mut [u8]) -> Answer<us
         Err(refusal) => {
             output.fill(0);
             Err(refusal)
+        }
+    }
+}
+
+/// The length of the contents in columns, which then begin the buffer; a refusal
+/// leaves the buffer unchanged.
+pub fn export(input: &[u8], buffer: &mut [u8]) -> Answer<usize> {
+    let text = columns_of(&accept(input)?.contents);
+    if buffer.len() < text.len() {
+        return refuse(BUFFER, text.len());
+    }
+    buffer[..text.len()].copy_from_slice(&text);
+    Ok(text.len())
+}
+
+/// The length of the interchange that a text in columns tells, which then begins
+/// the output; a refusal leaves the whole output zero.
+pub fn import(service: &[u8], text: &[u8], output: &mut [u8]) -> Answer<usize> {
+    match list_of_columns(text) {
+        Some(list) => write(service, &list.values, &list.table, output),
+        None => {
+            output.fill(0);
+            refuse(NO_COLUMNS, 0)
         }
     }
 }

@@ -1,12 +1,15 @@
-//! The lines of the programs `compare`, `locate` and `acknowledge`: an
-//! operation's line, and after it what its companion hands back; or the text.
+//! The lines of the programs `compare` and `locate`: an operation's line, and
+//! after it what its companion hands back; and those of `acknowledge`, `export`
+//! and `import`: the text, or the line of a refusal.
 //!
-//! Paper, clause "Operations"; change request 2026-11, "Acknowledgements".
+//! Paper, clause "Operations"; change requests 2026-11, "Acknowledgements", and
+//! 2026-12, "Lines for a spreadsheet".
 
 use crate::acknowledgement::Lent;
 use crate::acknowledgement_cases::one_element;
-use crate::operations::{acknowledge, compare, keep, locate, spelled, Comparison, Numbers};
-use crate::refusal::LONGEST;
+use crate::operations::{acknowledge, compare, export, import, keep, locate, spelled};
+use crate::operations::{Comparison, Numbers};
+use crate::refusal::{BUFFER, LONGEST};
 use crate::report_lines::{compare_line, locate_line, number_of, refusal_line};
 
 /// Compare's line, with the number of the one to keep after `same`.
@@ -38,6 +41,28 @@ pub fn acknowledged_line(received: &[u8], date: &str, reference: &str, message: 
     let mut text = vec![0; LONGEST];
     match acknowledge(received, &lent, &mut text) {
         Ok(length) => text[..length].to_vec(),
+        Err(refusal) => refusal_line(&refusal).into_bytes(),
+    }
+}
+
+/// The contents of an input in columns, a line feed after each line.
+pub fn exported_lines(input: &[u8]) -> Vec<u8> {
+    let length = match export(input, &mut []) {
+        Err(refusal) if refusal.number == BUFFER => refusal.place,
+        _ => 0,
+    };
+    let mut text = vec![0; length];
+    match export(input, &mut text) {
+        Ok(_) => text,
+        Err(refusal) => format!("{}\n", refusal_line(&refusal)).into_bytes(),
+    }
+}
+
+/// The interchange of a text in columns.
+pub fn imported_line(service: &[u8], text: &[u8]) -> Vec<u8> {
+    let mut output = vec![0; LONGEST];
+    match import(service, text, &mut output) {
+        Ok(length) => output[..length].to_vec(),
         Err(refusal) => refusal_line(&refusal).into_bytes(),
     }
 }

@@ -1,9 +1,9 @@
 //! A refusal: its number and its place.
 //!
 //! Paper, clause "Refusals by number"; change request 2026-04, "The shelf", has
-//! 17 to 20, 2026-08, "Message structures", 21 and 22, and 2026-11,
-//! "Acknowledgements", 23. The order by place and then by number is the order
-//! within a stage.
+//! 17 to 20, 2026-08, "Message structures", 21 and 22, 2026-11,
+//! "Acknowledgements", 23, and 2026-12, "Lines for a spreadsheet", 24. The order
+//! by place and then by number is the order within a stage.
 
 /// The longest input, text and normal form, in bytes (refusals 1 and 13).
 pub const LONGEST: usize = 32_000;
@@ -34,6 +34,7 @@ pub const FREE_SLOT: u32 = 20;
 pub const TABLE: u32 = 21;
 pub const BODY: u32 = 22;
 pub const NO_REPORT: u32 = 23;
+pub const NO_COLUMNS: u32 = 24;
 
 /// Fields in this order, so that the derived order is "the lowest place, then
 /// the lowest number".

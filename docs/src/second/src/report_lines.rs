@@ -63,7 +63,7 @@ pub fn report_line(answer: &Answer<Report>) -> String {
     format!("report {}", words.join(" "))
 }
 
-/// The line of Normalise, of Write and of Acknowledge.
+/// The line of Normalise, Write, Acknowledge, Export and Import.
 pub fn length_line(answer: &Answer<usize>, buffer: &[u8]) -> String {
     match answer {
         Ok(length) => format!("length {length} {}", sum(buffer)),

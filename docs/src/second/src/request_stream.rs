@@ -3,7 +3,8 @@
 //!
 //! A field is a 4-byte big-endian byte count and that many bytes; numbers are
 //! 4-byte big-endian. The operations are those of the paper's clause
-//! "Operations" and that of change request 2026-11, "Acknowledgements".
+//! "Operations" and those of change requests 2026-11, "Acknowledgements", and
+//! 2026-12, "Lines for a spreadsheet".
 
 use std::io::{self, Read, Write};
 
@@ -23,6 +24,8 @@ pub enum Request {
     Read { bytes: Vec<u8>, table: Vec<u32>, input: Vec<u8> },
     Write { service: Vec<u8>, values: Vec<u8>, table: Vec<u32>, output: Vec<u8> },
     Acknowledge { received: Vec<u8>, date: List, reference: List, message: List, output: Vec<u8> },
+    Export { buffer: Vec<u8>, input: Vec<u8> },
+    Import { service: Vec<u8>, text: Vec<u8>, output: Vec<u8> },
 }
 
 fn malformed(what: &str) -> io::Error {
@@ -63,7 +66,13 @@ fn request_of(letter: u8, stream: &mut impl Read) -> io::Result<Request> {
             message: list(stream)?,
             output: field(stream)?,
         },
-        _ => return Err(malformed("a request begins with none of J N C K L P R W A")),
+        b'E' => Request::Export { buffer: field(stream)?, input: field(stream)? },
+        b'I' => Request::Import {
+            service: field(stream)?,
+            text: field(stream)?,
+            output: field(stream)?,
+        },
+        _ => return Err(malformed("a request begins with none of J N C K L P R W A E I")),
     })
 }
 
@@ -133,6 +142,14 @@ pub fn answer(request: Request) -> String {
             let answer = operations::acknowledge(&received, &lent, &mut output);
             lines::length_line(&answer, &output)
         }
+        Request::Export { mut buffer, input } => {
+            let answer = operations::export(&input, &mut buffer);
+            lines::length_line(&answer, &buffer)
+        }
+        Request::Import { service, text, mut output } => {
+            let answer = operations::import(&service, &text, &mut output);
+            lines::length_line(&answer, &output)
+        }
     }
 }
 
@@ -176,6 +193,8 @@ fn letter_and_fields(request: &Request) -> (u8, Vec<Vec<u8>>) {
             fields.push(output);
             (b'A', fields)
         }
+        Request::Export { buffer, input } => (b'E', vec![buffer, input]),
+        Request::Import { service, text, output } => (b'I', vec![service, text, output]),
     }
 }
 

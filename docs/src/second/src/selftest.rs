@@ -7,6 +7,7 @@
 use crate::acknowledgement_checks::check_acknowledgements;
 use crate::break_checks::check_breaks;
 use crate::carrying_checks::check_carrying;
+use crate::column_checks::check_columns;
 use crate::either_order::check_either_order;
 use crate::generator::{any_input, any_valid, request, same_contents, Random};
 use crate::level::{holds, Level, Version};
@@ -53,6 +54,7 @@ pub fn run() -> Result<usize, String> {
     check_either_order()?;
     check_tables()?;
     check_acknowledgements()?;
+    check_columns()?;
     if let Some(line) = crate::cases::check_cases().pop() {
         return Err(line);
     }

@@ -34,7 +34,7 @@ pub struct Verdict {
     pub terminator: u8,
 }
 
-/// What Normalise, Write and Acknowledge say.
+/// What Normalise, Write, Acknowledge, Export and Import say.
 #[repr(C)]
 #[derive(Clone, Copy, Debug, Default, PartialEq, Eq)]
 #[must_use]

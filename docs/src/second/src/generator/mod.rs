@@ -1,13 +1,14 @@
 //! The generator: seeded pseudo-random requests that aim at every rule.
 //!
 //! Paper, clauses "Operations" and "Refusals by number"; change requests
-//! 2026-01, "Line breaks between segments", 2026-10, "Syntax version 4", and
-//! 2026-11, "Acknowledgements".
+//! 2026-01, "Line breaks between segments", 2026-10, "Syntax version 4",
+//! 2026-11, "Acknowledgements", and 2026-12, "Lines for a spreadsheet".
 //! Most inputs are small; about one in a hundred is about a limit. About one in
 //! three has line breaks, and one in three is of version 4.
 
 mod acknowledgements;
 mod breaks;
+mod columns;
 mod damage;
 mod draft;
 mod limits;
@@ -29,6 +30,7 @@ use crate::request_stream::{put_request, Request};
 use crate::value_list::{List, NEXT_COMPONENT, NEXT_REPEAT};
 use acknowledgements::acknowledge_request;
 use breaks::with_misplaced_breaks;
+use columns::{export_request, import_request};
 use damage::{damage_anywhere, damage_bytes, damage_draft, is_done_to_draft, AIMS};
 use draft::{any_version, pad, respelled, single, usable_characters, valid_draft};
 use limits::{long_draft, long_input, Measure};
@@ -36,6 +38,7 @@ use lists::{break_list, fill_table, list_of_draft, random_list};
 
 pub use acknowledgements::with_parties;
 pub use breaks::{filled_with_breaks, in_lines, with_breaks, Broken};
+pub use columns::{any_columns, slip};
 pub use draft::{Draft, DraftElement, DraftRepeat, DraftSegment, Value};
 pub use mailboxes::any_file;
 pub use orders::{two_orders, TwoOrders};
@@ -46,7 +49,7 @@ pub use tables::{
 };
 
 /// The letters of all operations.
-pub const ALL_KINDS: &str = "JNCKLPRWA";
+pub const ALL_KINDS: &str = "JNCKLPRWAEI";
 
 /// Puts so many requests of these kinds on the stream.
 pub fn generate(seed: u64, count: u64, kinds: &[u8], out: &mut impl Write) -> io::Result<()> {
@@ -81,6 +84,8 @@ pub fn request(random: &mut Random, kind: u8) -> Request {
         }
         b'R' => read_request(random),
         b'A' => acknowledge_request(random),
+        b'E' => export_request(random),
+        b'I' => import_request(random),
         _ => write_request(random),
     }
 }

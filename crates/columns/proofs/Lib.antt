@@ -1,0 +1,4 @@
+pub mod Tight
+pub mod Decimals
+pub mod Words
+pub mod Cases
