@@ -50,8 +50,10 @@ operands_of() {
 closed() { "$@" >&-; }
 full() { "$@" >/dev/full; }
 deaf() { "$@" 2>&-; }
-small() { (ulimit -s 512 && "$@"); }
-narrow() { (ulimit -v 100000 && "$@"); }
+# under an emulator, whose own memory would count, nothing is limited
+limit() { [[ -n ${EMULATED-} ]] || ulimit "$@"; }
+small() { (limit -s 512 && "$@"); }
+narrow() { (limit -v 100000 && "$@"); }
 # a gigabyte of one byte, of which the reader takes what it wants
 gigabyte() { head -c 1000000000 /dev/zero 2>/dev/null | tr '\0' "${1-\0}" 2>/dev/null; }
 
