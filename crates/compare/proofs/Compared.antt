@@ -5,7 +5,7 @@ use mathlib.Core.Bool.{Bool, true, false, _&&_}
 use mathlib.Core.List.{List, [], _∷_}
 use mathlib.Core.Option.{Option, none, some}
 use native.Mathlib.Omega.{arith}
-use lib.ListN.{length, take, drop, replicate, length-append, length-replicate}
+use lib.ListN.{length, take, drop, getD, replicate, length-append, length-replicate}
 use lib.Seq.{take-at, length-take-le}
 use Rattle.lists.specs.Lists.{if_then_else_, same, any, maybe}
 use Rattle.lists.proofs.Texts.{same-eq, same-refl}
@@ -18,14 +18,20 @@ use Rattle.stages.specs.Stages.{placesOf, brackets, refusalOf}
 use Rattle.stages.proofs.Over.{within}
 use Rattle.stages.proofs.Stages.{accepted-unmet}
 use Rattle.answers.specs.declared.Figures.{Figures}
+use Rattle.answers.specs.declared.Stored.{Stored}
+use Rattle.answers.specs.declared.Stored.the-variants.{Length, Refused}
 use Rattle.answers.specs.declared.Compared.{Compared}
 use Rattle.answers.specs.declared.Compared.the-variants.{Same, Different, FirstRefused, SecondRefused}
-use Rattle.answers.specs.Answers.{Answer, given, refusedInput, toldCompared}
-use Rattle.operations.specs.Judge.{figuresOf, normaliseBuffer}
+use Rattle.answers.specs.Answers.{Answer, given, refused, refusedInput, toldStored, toldCompared}
+use Rattle.contracts.specs.Promises.{Normalises}
+use Rattle.contracts.proofs.Told.{given-refused, given-is, refused-is}
+use Rattle.operations.specs.Judge.{figuresOf, normaliseRefusal, normalise, normaliseBuffer}
 use Rattle.operations.specs.Compare.{isAccepted, areSame, compare}
-use Rattle.operations.proofs.Answered.{compare-by, normalises}
+use Rattle.operations.proofs.Answered.{compare-by, normalise-judged, normalise-given, normalises}
+use Rattle.normal_form_laws.proofs.Theorems.{normal-length}
 use Rattle.judge.proofs.Told.{length-of}
 use Rattle.refusals.specs.Limits.{mostBytes}
+use Rattle.compare.specs.Forms.{Room, comparedTo}
 
 -- ---- what is known of an accepted input
 
@@ -45,6 +51,62 @@ form-held s {n = n} {after = after} known e d =
     let holds = d ∙ normalises zeros s (known .0) room .1 in
     let fits : n ≤ length after = omega (arith, ap length holds, length-append form (drop (length form) zeros)) in
     (fits, sym (length-take-le n after fits), ap (take n) holds ∙ take-at form (drop (length form) zeros) n (sym long))
+
+-- a buffer that is as long as any normal form has room for one, and so has a shorter one for that of a short input
+pub long-room : (s : List ℕ) → Room (replicate mostBytes 0) s
+long-room s e = omega (arith, form-fits s e, length-replicate {A = ℕ} mostBytes 0)
+
+pub short-room : (s : List ℕ) → length s ≤ 1019 → Room (replicate 2048 0) s
+short-room s h e = omega (arith, normal-length s e, length-replicate {A = ℕ} 2048 0)
+
+-- ---- what Normalise says of an input
+
+module _ (buffer s : List ℕ) {r : Stored} {after : List ℕ} (said : Normalises buffer s r after) where
+  -- it is accepted, and its normal form stands in front
+  pub form-stored : {n : ℕ} → r ≡ Length n → (refusalOf s ≡ none) × (n ≤ length after) × (n ≡ length (take n after)) × (take n after ≡ normalForm s)
+  unfolding normalise toldStored given
+  form-stored {n} d =
+      let form = normalForm s in
+      let (passed, told) = given-is (length form ∷ []) (n ∷ []) (normaliseRefusal buffer s) (sym (ap toldStored d) ∙ said .0) in
+      let long : n ≡ length form = ap (λ (l : List ℕ). getD l 0 0) told in
+      let holds = said .1 ∙ normalise-given buffer s passed .1 in
+      let fits : n ≤ length after = omega (arith, ap length holds, length-append form (drop (length form) buffer)) in
+      (accepts (refusalOf s) refl passed, fits, sym (length-take-le n after fits), ap (take n) holds ∙ take-at form (drop (length form) buffer) n (sym long))
+    where
+      accepts : (o : Option Refusal) → refusalOf s ≡ o → normaliseRefusal buffer s ≡ none → o ≡ none
+      accepts none e h = refl
+      accepts (some q) e h = sym (normalise-judged buffer s e) ∙ h
+
+  -- it is refused: where there is room, the refusal is its own
+  pub form-refused : {q : Refusal} → Room buffer s → r ≡ Refused q → refusalOf s ≡ some q
+  unfolding normalise toldStored
+  form-refused {q} room d =
+      let told = sym (ap toldStored d) ∙ said .0 in
+      refuses told (refusalOf s) refl (refused-is (length (normalForm s) ∷ []) q (normaliseRefusal buffer s) told)
+    where
+      refuses : refused q ≡ normalise buffer s → (o : Option Refusal) → refusalOf s ≡ o → normaliseRefusal buffer s ≡ some q → o ≡ some q
+      refuses told none e h = absurd (given-refused (length (normalForm s) ∷ []) q (sym (told ∙ normalises buffer s e (room e) .0)))
+      refuses told (some p) e h = sym (normalise-judged buffer s e) ∙ h
+
+-- ---- what is answered of the second, where the first is accepted and this is its normal form
+
+module _ (text second : List ℕ) where
+  pub text-refused : {r : Refusal} → refusalOf second ≡ some r → toldCompared (SecondRefused r) ≡ comparedTo text second
+  unfolding comparedTo toldCompared maybe
+  text-refused e = sym (ap (maybe (given ((if same text (normalForm second) then 1 else 0) ∷ [])) (refusedInput 2)) e)
+
+  module _ (f : refusalOf second ≡ none) where
+    by-text : (t : Bool) → same text (normalForm second) ≡ t → given ((if t then 1 else 0) ∷ []) ≡ comparedTo text second
+    unfolding comparedTo maybe
+    by-text t h = sym (ap₂ (λ (u : Bool) (o : Option Refusal). maybe (given ((if u then 1 else 0) ∷ [])) (refusedInput 2) o) h f)
+
+    pub text-same : same text (normalForm second) ≡ true → toldCompared Same ≡ comparedTo text second
+    unfolding toldCompared
+    text-same h = by-text true h
+
+    pub text-differs : same text (normalForm second) ≡ false → toldCompared Different ≡ comparedTo text second
+    unfolding toldCompared
+    text-differs h = by-text false h
 
 -- ---- what is answered
 
@@ -72,17 +134,24 @@ module _ (first second : List ℕ) where
     unfolding toldCompared
     forms-same h = sym (by-forms true h)
 
-    -- or they are not
-    pub forms-differ : same (normalForm first) (normalForm second) ≡ false → toldCompared Different ≡ compare first second
-    unfolding toldCompared
-    forms-differ h = sym (by-forms false h)
+  -- both are accepted, and what is answered of the second where the first's normal form is known is the answer
+  pub text-compared : {text : List ℕ} → refusalOf first ≡ none → text ≡ normalForm first → (r : Compared) → toldCompared r ≡ comparedTo text second
+      → toldCompared r ≡ compare first second
+  text-compared {text} e d r told = told ∙ step (refusalOf second) refl
+    where
+      step : (o : Option Refusal) → refusalOf second ≡ o → comparedTo text second ≡ compare first second
+      step none f =
+          sym (by-text text second f (same text (normalForm second)) refl)
+          ∙ sym (by-forms e f (same text (normalForm second)) (ap (λ (l : List ℕ). same l (normalForm second)) (sym d)))
+      step (some r) f = sym (text-refused text second f) ∙ second-refused e f
 
-  -- the first is accepted, and the second has its bytes
-  pub bytes-same : refusalOf first ≡ none → same first second ≡ true → toldCompared Same ≡ compare first second
-  bytes-same e h =
-      let d = same-eq first second h in
-      forms-same e (ap refusalOf (sym d) ∙ e)
-      (ap (λ (s : List ℕ). same (normalForm first) (normalForm s)) (sym d) ∙ same-refl (normalForm first))
+  -- the second has the first's bytes
+  pub bytes-same : same first second ≡ true → (r : Compared) → toldCompared r ≡ compare first first → toldCompared r ≡ compare first second
+  bytes-same h r told = told ∙ ap (compare first) (same-eq first second h)
+
+-- an accepted input is the same as itself
+pub itself-same : (s : List ℕ) → refusalOf s ≡ none → toldCompared Same ≡ compare s s
+itself-same s e = forms-same s s e e (same-refl (normalForm s))
 
 -- ---- what a caller of Compare learns
 

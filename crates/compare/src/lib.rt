@@ -1,46 +1,51 @@
 // Compare and Keep (paper 01, "Operations"). Compare promises, for any bytes, the answer that
 // `operations` gives; Keep which part of which input it hands back. Each input is judged once, and one
-// that has the first's bytes not at all; others that are accepted are compared by their normal forms,
-// for which two arrays take 64,000 bytes of stack.
+// that has the first's bytes not at all; others are compared by their normal forms, for which two arrays
+// are taken from the stack: 64,000 bytes, or 4,096 where both inputs are short.
 ghost use mathlib.Core.Path.{_≡_};
 ghost use mathlib.Core.Option.{none};
-ghost use Rattle.lists.specs.Lists.{same};
-ghost use Rattle.stages.specs.Contents.{normalForm};
-ghost use Rattle.stages.specs.Stages.{refusalOf};
-ghost use Rattle.operations.specs.Judge.{figuresOf};
+ghost use Prim.Native.Nat.{_≤_};
+ghost use lib.ListN.{length};
+ghost use Rattle.refusals.specs.Refusals.{answering};
+ghost use Rattle.stages.specs.Stages.{stagesIn};
+ghost use Rattle.stage_opening.specs.Runs.{foundBy};
+ghost use Rattle.answers.specs.Answers.{toldCompared};
 ghost use Rattle.operations.specs.Compare.{keep as keepOf};
 ghost use Rattle.contracts.specs.Promises.{Compares, Keeps};
+ghost use Rattle.compare.specs.Forms.{Room, comparedTo};
 ghost use Rattle.compare.specs.Parts.{partOf};
 use answers::Compared;
-use answers::Figures;
 use answers::Judged;
+use answers::Stored;
+use stage_opening::Found;
+use stage_opening::Progress;
 use texts::equal;
 
-// The normal forms of two interchanges are the same, which Judge accepted and of which it said this.
-fn equal_forms(first: &[u8], second: &[u8], i: Figures, j: Figures) -> bool
-    requires { ⌜ ((refusalOf (now first) ≡ none) × (i ≡ figuresOf (now first))) × ((refusalOf (now second) ≡ none) × (j ≡ figuresOf (now second))) ⌝ }
-    ensures { λ r. ⌜ r ≡ same (normalForm (now (first .entry))) (normalForm (now (second .entry))) ⌝ }
+// An input that 1 to 12 pass, compared with its own bytes: it is the same unless 13 is met, which is
+// asked only where a bound does not tell.
+fn compare_itself(s: &[u8], found: Found) -> Compared
+    requires { ⌜ (answering (stagesIn (now s) 1 12) ≡ none) × (found ≡ foundBy 12 (now s)) ⌝ }
+    ensures { λ r. ⌜ Compares (now (s .entry)) (now (s .entry)) r ⌝ }
 {
-    let count = i.length;
-    if count != j.length {
-        return false;
+    if judge::most_length(s, found) <= refusals::MOST_BYTES {
+        return Compared::Same;
     }
-    let mut a = [0u8; refusals::MOST_BYTES];
-    let mut b = [0u8; refusals::MOST_BYTES];
-    normalise::store_form(&mut a, first, i);
-    normalise::store_form(&mut b, second, j);
-    equal(&a[..count], &b[..count])
+    match judge::judge_length(s, found) {
+        Judged::Refused(r) => Compared::FirstRefused(r),
+        Judged::Accepted(_) => Compared::Same,
+    }
 }
 
-// The first was accepted, and the second has other bytes.
-fn compare_second(first: &[u8], second: &[u8], i: Figures) -> Compared
-    requires { ⌜ (refusalOf (now first) ≡ none) × (i ≡ figuresOf (now first)) ⌝ }
-    ensures { λ r. ⌜ Compares (now (first .entry)) (now (second .entry)) r ⌝ }
+// The second, where the first is accepted and this is its normal form; the second's is stored in the
+// buffer.
+fn compare_with(text: &[u8], buffer: &mut [u8], second: &[u8]) -> Compared
+    requires { ⌜ Room (now buffer) (now second) ⌝ }
+    ensures { λ r. ⌜ toldCompared r ≡ comparedTo (now (text .entry)) (now (second .entry)) ⌝ }
 {
-    match judge::judge(second) {
-        Judged::Refused(r) => Compared::SecondRefused(r),
-        Judged::Accepted(j) => {
-            if equal_forms(first, second, i, j) {
+    match normalise::normalise(buffer, second) {
+        Stored::Refused(r) => Compared::SecondRefused(r),
+        Stored::Length(n) => {
+            if equal(text, &buffer[..n]) {
                 return Compared::Same;
             }
             Compared::Different
@@ -48,18 +53,61 @@ fn compare_second(first: &[u8], second: &[u8], i: Figures) -> Compared
     }
 }
 
+// Both, where 1 to 12 pass the first; their normal forms are stored in the buffers.
+fn compare_in(a: &mut [u8], b: &mut [u8], first: &[u8], second: &[u8], found: Found) -> Compared
+    requires { ⌜ ((answering (stagesIn (now first) 1 12) ≡ none) × (found ≡ foundBy 12 (now first))) × Room (now a) (now first) × Room (now b) (now second) ⌝ }
+    ensures { λ r. ⌜ Compares (now (first .entry)) (now (second .entry)) r ⌝ }
+{
+    match normalise::store_found(a, first, found) {
+        Stored::Refused(r) => Compared::FirstRefused(r),
+        Stored::Length(n) => compare_with(&a[..n], b, second),
+    }
+}
+
+// In arrays with room for the normal forms of two inputs of at most 1,019 bytes.
+fn compare_short(first: &[u8], second: &[u8], found: Found) -> Compared
+    requires { ⌜ ((answering (stagesIn (now first) 1 12) ≡ none) × (found ≡ foundBy 12 (now first))) × (length (now first) ≤ 1019) × (length (now second) ≤ 1019) ⌝ }
+    ensures { λ r. ⌜ Compares (now (first .entry)) (now (second .entry)) r ⌝ }
+{
+    let mut a = [0u8; 2048];
+    let mut b = [0u8; 2048];
+    compare_in(&mut a, &mut b, first, second, found)
+}
+
+// In arrays with room for any normal forms.
+fn compare_long(first: &[u8], second: &[u8], found: Found) -> Compared
+    requires { ⌜ (answering (stagesIn (now first) 1 12) ≡ none) × (found ≡ foundBy 12 (now first)) ⌝ }
+    ensures { λ r. ⌜ Compares (now (first .entry)) (now (second .entry)) r ⌝ }
+{
+    let mut a = [0u8; refusals::MOST_BYTES];
+    let mut b = [0u8; refusals::MOST_BYTES];
+    compare_in(&mut a, &mut b, first, second, found)
+}
+
+// The first passes 1 to 12.
+fn compare_passed(first: &[u8], second: &[u8], found: Found) -> Compared
+    requires { ⌜ (answering (stagesIn (now first) 1 12) ≡ none) × (found ≡ foundBy 12 (now first)) ⌝ }
+    ensures { λ r. ⌜ Compares (now (first .entry)) (now (second .entry)) r ⌝ }
+{
+    if equal(first, second) {
+        return compare_itself(first, found);
+    }
+    if 1019 < first.len() {
+        return compare_long(first, second, found);
+    }
+    if 1019 < second.len() {
+        return compare_long(first, second, found);
+    }
+    compare_short(first, second, found)
+}
+
 // "1st is judged first".
 pub fn compare(first: &[u8], second: &[u8]) -> Compared
     ensures { λ r. ⌜ Compares (now (first .entry)) (now (second .entry)) r ⌝ }
 {
-    match judge::judge(first) {
-        Judged::Refused(r) => Compared::FirstRefused(r),
-        Judged::Accepted(i) => {
-            if equal(first, second) {
-                return Compared::Same;
-            }
-            compare_second(first, second, i)
-        }
+    match judge::stages_to_12(first) {
+        Progress::Refused(r) => Compared::FirstRefused(r),
+        Progress::Passed(found) => compare_passed(first, second, found),
     }
 }
 

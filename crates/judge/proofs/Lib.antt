@@ -1,3 +1,4 @@
 pub mod Bodies
 pub mod Stages
+mod QuickWay
 pub mod Told

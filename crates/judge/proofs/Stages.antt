@@ -1,5 +1,5 @@
 -- What each stage of the code finds is what its stage of the paper answers. Assumes nothing.
-use Prim.Native.Nat.{ℕ, suc, _+_, _<_, _≤_}
+use Prim.Native.Nat.{ℕ, suc, _+_, _-_, _<_, _≤_}
 use mathlib.Core.Path.{_≡_, refl, sym, ap, ap₂, subst, _∙_}
 use mathlib.Core.Bool.{Bool, true, false}
 use mathlib.Core.List.{List, [], _∷_, _++_, map, reverse}
@@ -33,6 +33,8 @@ use Rattle.stages.specs.Stages.{placesOf, brackets, bracketsIn, bracketed, stag
 use Rattle.stages.proofs.Stages.{unmet, run-on, run-none}
 use Rattle.emission_laws.specs.Emission.{nothing, emitted}
 use Rattle.verbatim.specs.Verbatim.{faultless, visible}
+use Rattle.stage_length.specs.Bound.{mostContents}
+use Rattle.stage_length.proofs.Bound.{contents-most}
 use Rattle.stage_walks.specs.Walks.{ordered}
 use Rattle.stage_walks.proofs.Walks.{ordered-answers}
 use Rattle.stage_opening.specs.declared.Found.{Found}
@@ -249,6 +251,11 @@ module _ (s : List ℕ) (e : answering (stagesIn s 1 12) ≡ none) {found : Foun
   unfolding bracketsIn brackets those all
   read = run-none s 1 6 12 refl e .0
 
+  -- it is not too long, and its body begins in it
+  pub begins-in : (length s ≤ mostBytes) × (found .start ≤ length s)
+  unfolding foundBy
+  begins-in = (short s read, omega (arith, begun s read, ap (λ (f : Found). f .start) d))
+
   -- the version that the header names gives the fifth byte of the normal form
   module _ {r : ℕ} (h : r ≡ normalRepetition (contentsOf (segmentAt (found .characters) s (found .start)) ∷ [])) where
     pub repetition-is : r ≡ normalRepetition (contents s)
@@ -293,6 +300,10 @@ module _ (s : List ℕ) (e : answering (stagesIn s 1 12) ≡ none) {found : Foun
     pub measured-form : {n : ℕ} → n ≡ measure → n + 9 ≡ length (normalForm s)
     measured-form k = omega (arith, k, measure-is, form-length s read)
 
+    -- the normal form is not longer than its bound
+    pub form-most : length (normalForm s) ≤ mostContents (found .characters) r (length s - found .start) + 9
+    form-most = omega (arith, measured-form {n = measure} refl, contents-most (found .characters) r s (found .start))
+
 module _ (s : List ℕ) (n : ℕ) (e : n ≡ length (normalForm s)) where
   length-answers : {b : Bool} → ltb mostBytes (length (normalForm s)) ≡ b
       → judged s (if b then some (record { fault = NormalTooLong; place = length (normalForm s) }) else none) ≡ judged s (answering (stagesIn s 13 13))
@@ -330,10 +341,20 @@ module _ (s : List ℕ) where
   unfolding refusalOf stages stagesIn bracketsIn brackets those all
   whole e d = run-on s 1 12 13 refl ∙ ap₂ orElse e d
 
+  -- what one of 1 to 12 answers is the answer
+  pub earlier-refuses : {r : Refusal} → answering (stagesIn s 1 12) ≡ some r → refusalOf s ≡ some r
+  unfolding orElse
+  earlier-refuses e = whole e refl
+
+  -- where none of them does and the normal form is not too long, nothing is refused
+  pub short-accepted : answering (stagesIn s 1 12) ≡ none → length (normalForm s) ≤ mostBytes → refusalOf s ≡ none
+  unfolding stagesIn bracketsIn brackets those all bracketed placesOf normalTooLong isOver answering orElse
+  short-accepted e h = whole e (one-place NormalTooLong (length (normalForm s)) [] (le-ltb mostBytes (length (normalForm s)) h))
+
   -- one of 1 to 12 answers
   pub earlier-answers : {r : Refusal} → answering (stagesIn s 1 12) ≡ some r → toldJudged (judged-as.Refused r) ≡ judge s
   unfolding judged maybe orElse
-  earlier-answers {r} e = told refl (whole e refl)
+  earlier-answers {r} e = told refl (earlier-refuses e)
 
   -- none of them does
   pub last-answers : {r : Judged} → answering (stagesIn s 1 12) ≡ none → r ≡ judged s (answering (stagesIn s 13 13)) → toldJudged r ≡ judge s

@@ -27,9 +27,10 @@ use Rattle.emission_laws.proofs.Theorems.{contents-emitted}
 use Rattle.verbatim.specs.Verbatim.{faultless, visible}
 use Rattle.stage_walks.specs.Walks.{refuse}
 use Rattle.storing.proofs.Stores.{sets-append}
+use Rattle.stage_opening.specs.declared.Found.{Found}
 use Rattle.stage_opening.specs.Runs.{foundBy}
 use Rattle.judge.proofs.Bodies.{accepted-ended}
-use Rattle.judge.proofs.Stages.{repetition-is, measurable}
+use Rattle.judge.proofs.Stages.{repetition-is, measurable, short-accepted}
 use Rattle.answers.specs.declared.Stored.the-variants.{Length, Refused}
 use Rattle.answers.specs.Answers.{given, toldStored}
 use Rattle.contracts.specs.Promises.{Normalises}
@@ -118,3 +119,14 @@ module _ (buffer s : List ℕ) where
 pub parts-fit : (c : Characters) (text : List ℕ) {form : List ℕ} {n room : ℕ} → form ≡ adviceOf c ++ text → n ≡ length form → n ≤ room
     → (9 ≤ room) × (9 + length text ≤ room)
 parts-fit c text w e h = let sum = ap length w ∙ length-append (adviceOf c) text in let advice = nine c in (omega arith, omega arith)
+
+-- and the place after them is its length
+pub parts-end : (c : Characters) (text : List ℕ) {form : List ℕ} {n : ℕ} → form ≡ adviceOf c ++ text → n ≡ 9 + length text → n ≡ length form
+parts-end c text w e = let sum = ap length w ∙ length-append (adviceOf c) text in let advice = nine c in omega arith
+
+-- where a bound says that it is not too long, for 13 and for the buffer, it may be stored
+pub found-fits : (buffer s : List ℕ) → answering (stagesIn s 1 12) ≡ none → {found : Found} → found ≡ foundBy 12 s
+    → {most : ℕ} → length (normalForm s) ≤ most → most ≤ mostBytes → most ≤ length buffer
+    → (refusalOf s ≡ none) × (found .characters ≡ charactersOf s) × (length (normalForm s) ≤ length buffer)
+unfolding foundBy
+found-fits buffer s e d l m n = (short-accepted s e (omega arith), ap (λ (f : Found). f .characters) d, omega arith)

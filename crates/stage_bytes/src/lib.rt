@@ -92,20 +92,20 @@ fn all_orderly(s: &[u8], c: Characters, level: u8, start: usize) -> bool
     found
 }
 
-// The last byte is a line break.
-fn ends_in_break(s: &[u8]) -> bool {
+// The last byte is outside the level: a line break, or a terminator that no level has.
+fn ends_outside(s: &[u8], level: u8) -> bool {
     if s.len() == 0 {
         return false;
     }
-    is_break(s[s.len() - 1])
+    !is_in_level(level, s[s.len() - 1])
 }
 
 // Where every byte is in the level, or all are orderly, every byte of a value is in the level: only the
-// others need the walk over the tokens. The first question is idle where the last byte is a break.
+// others need the walk over the tokens. The first question is idle where the last byte is outside the level.
 pub fn in_level(s: &[u8], c: Characters, level: u8, start: usize) -> Outcome
     ensures { λ r. ⌜ r ≡ outcome (leveled level (tokensAt c (now (s .entry)) start)) ⌝ }
 {
-    if !ends_in_break(s) {
+    if !ends_outside(s, level) {
         if all_in_level(s, start, level) {
             return Outcome::Passed;
         }

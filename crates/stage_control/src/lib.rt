@@ -36,7 +36,7 @@ pub struct Headers {
 }
 
 // The header that a trailer of this kind closes.
-fn header_of(h: Headers, kind: Kind) -> usize
+pub fn header_of(h: Headers, kind: Kind) -> usize
     ensures { λ r. ⌜ r ≡ headerKept h kind ⌝ }
 {
     match kind {
@@ -68,7 +68,7 @@ fn kept_after(kind: Kind, unb: Headers, ung: Headers, unh: Headers, other: Heade
 }
 
 // One segment more, whose reference begins at this place.
-fn passed_header(h: Headers, kind: Kind, reference: usize) -> Headers
+pub fn passed_header(h: Headers, kind: Kind, reference: usize) -> Headers
     ensures { λ r. ⌜ r ≡ headersAfter h kind reference ⌝ }
 {
     let unb = Headers {
@@ -100,7 +100,7 @@ fn groups_or_messages(w: Walk) -> u32
 }
 
 // The count that a trailer of this kind has to give.
-fn true_count(w: Walk, kind: Kind) -> u32
+pub fn true_count(w: Walk, kind: Kind) -> u32
     requires { ⌜ Within mostBytes w ⌝ }
     ensures { λ r. ⌜ r ≡ countDue w kind ⌝ }
 {
@@ -142,7 +142,7 @@ fn trailer_control(
 }
 
 // One segment. A segment that has a count is a trailer.
-fn segment_control(
+pub fn segment_control(
     s: &[u8],
     c: Characters,
     at: usize,

@@ -70,7 +70,7 @@ fn section_named(s: &[u8], c: Characters, from: usize) -> Section
 }
 
 // The section that the segment at `at` begins, which only a UNS does: its first element names it.
-fn section_at(s: &[u8], c: Characters, at: usize, kind: Kind) -> Section
+pub fn section_at(s: &[u8], c: Characters, at: usize, kind: Kind) -> Section
     ensures { λ r. ⌜ r ≡ sectionBegun kind (segmentAt c (now (s .entry)) at) ⌝ }
 {
     if is_marker(kind) {

@@ -4,7 +4,7 @@ use mathlib.Core.Path.{_≡_, refl, sym, ap, subst, _∙_}
 use mathlib.Core.Bool.{true}
 use mathlib.Core.List.{List, [], _∷_, _++_, map}
 use native.Mathlib.Omega.{arith}
-use lib.ListN.{length, drop, length-append, length-map}
+use lib.ListN.{length, take, drop, length-append, length-map, length-take, length-drop}
 use Rattle.characters.specs.declared.Characters.{Characters}
 use Rattle.values.specs.Tokens.{Token, separator}
 use Rattle.values.specs.Spelling.{Bytes, spellByte}
@@ -132,6 +132,17 @@ module _ (c : Characters) (bytes table : List ℕ) where
 
     pub next-value : {r : Record} → at + 3 ≤ length table → entryOf r ≡ recordAt table at → r .start + r .size ≤ length bytes
     next-value h d = good-value bytes (drop at table) (drop (at + 3) table) (read-next table at h d) (g .good)
+
+    -- the text is at least as long as the next value
+    pub long-value : {r : Record} → at + 3 ≤ length table → entryOf r ≡ recordAt table at → r .size ≤ length (composedText c (listedIn bytes table))
+    unfolding valueIn
+    long-value {r} h d = omega (
+      arith,
+      next-value h d,
+      length-take (r .size) (drop (r .start) bytes),
+      length-drop (r .start) bytes,
+      gone-long c (listedIn bytes table) m (g .gone) (itemOf bytes r) (listedIn bytes (drop (at + 3) table)) (listed-next bytes table at h d),
+    )
 
     pub reached-next : {r : Record} {n : Measure} → at + 3 ≤ length table → entryOf r ≡ recordAt table at → n ≡ after c m (recordTokens (itemOf bytes r))
         → Reached c bytes table n (at + 3)

@@ -60,7 +60,11 @@ pub fn text_length(c: Characters, bytes: &[u8], table: &[u32]) -> usize
     };
     let mut at = 0;
     while 2 < table.len() - at {
-        m = with_record(m, c, bytes, record_at(table, at));
+        let r = record_at(table, at);
+        if refusals::MOST_BYTES < r.size as usize {
+            return 32001;
+        }
+        m = with_record(m, c, bytes, r);
         if refusals::MOST_BYTES < m.total {
             return 32001;
         }

@@ -7,7 +7,7 @@ use mathlib.Core.List.{List, [], _∷_, _++_}
 use mathlib.Core.Option.{none, some, Option·some-ne-none}
 use native.Mathlib.Numerals.{add-one}
 use native.Mathlib.Omega.{arith}
-use lib.ListN.{length, drop, getD, length-drop, drop-of-length-le}
+use lib.ListN.{length, drop, getD, length-drop}
 use lib.Dec.{eqb, ltb}
 use borrow.Author.Tests.{lt-ltb, le-ltb, ltb-false, not-true, eq-eqb, ne-eqb}
 use Rattle.lists.specs.Lists.{if_then_else_, all, any, at, maybe}
@@ -19,10 +19,11 @@ use Rattle.refusals.specs.declared.Refusal.{Refusal}
 use Rattle.refusals.specs.Refusals.{met, placeIf, isLower, lowerOf, lowest}
 use Rattle.refusals.proofs.Order.{key, not-lower}
 use Rattle.stage_walks.specs.Walks.{refuse}
-use Rattle.characters.specs.Characters.{isBreak}
+use Rattle.characters.specs.declared.Characters.{Characters}
+use Rattle.characters.specs.Characters.{isBreak, hasRelease, isService}
 use Rattle.values.specs.Spelling.{leadsBreak}
 use Rattle.operations.specs.ValueList.{Entry, entries, valueIn}
-use Rattle.operations.specs.Write.{numbersWhere, badTable, brokenStart, badEntry, badList}
+use Rattle.operations.specs.Write.{numbersWhere, badTable, brokenStart, badEntry, badList, lacksRelease}
 use Rattle.value_lists.specs.Records.{recordAt, firstRecord, wellListed}
 use Rattle.refusals.specs.Limits.{mostNumbers}
 
@@ -241,14 +242,45 @@ module _ (bytes : List ℕ) where
     pub good-rest : wellListed bytes rest ≡ true
     good-rest = and-right (passes e) (wellListed bytes rest) next-good
 
--- ---- a value's bytes
+-- ---- record by record
 
-module _ (t : ℕ → Bool) (value : List ℕ) (i : ℕ) where
-  -- one of those from a place on passes, by the one that stands there
-  pub any-next : i < length value → any t (drop i value) ≡ (t (getD value i 0) || any t (drop (i + 1) value))
-  unfolding any
-  any-next h = ap (any t) (drop-next value i h)
+-- The records of a good list before a place of the table pass.
+pub record Asked (f : Fault) (fails : Entry → Bool) (bytes table : List ℕ) (at n : ℕ) : Type 0 where
+  pub moved : firstRecord f fails 0 (entries table) ≡ firstRecord f fails n (entries (drop at table))
+  pub good : wellListed bytes (drop at table) ≡ true
+  pub inside : at ≤ length table
+  pub few : n ≤ at
 
-  pub any-end : length value ≤ i → any t (drop i value) ≡ false
-  unfolding any
-  any-end h = ap (any t) (drop-of-length-le value h)
+module _ (f : Fault) (fails : Entry → Bool) (bytes table : List ℕ) where
+  pub asked-start : wellListed bytes table ≡ true → Asked f fails bytes table 0 0
+  asked-start w = record { moved = refl; good = w; inside = omega arith; few = omega arith }
+
+  module _ (at n : ℕ) (g : Asked f fails bytes table at n) where
+    -- a record is read
+    module _ {e : Entry} (h : at + 3 ≤ length table) (d : e ≡ recordAt table at) where
+      next : entries (drop at table) ≡ e ∷ entries (drop (at + 3) table)
+      next = read-next table at h d
+
+      pub asked-value : e .start + e .size ≤ length bytes
+      asked-value = good-value bytes (drop at table) (drop (at + 3) table) next (g .good)
+
+      pub asked-fails : fails e ≡ true → firstRecord f fails 0 (entries table) ≡ refuse f n
+      asked-fails t = g .moved ∙ first-fails f fails n next t
+
+      pub asked-passes : fails e ≡ false → Asked f fails bytes table (at + 3) (n + 1)
+      asked-passes t = record {
+        moved = g .moved ∙ first-passes f fails n next t;
+        good = good-rest bytes (drop at table) (drop (at + 3) table) next (g .good);
+        inside = h;
+        few = omega (arith, g .few);
+      }
+
+    pub asked-end : length table ≤ at + 2 → firstRecord f fails 0 (entries table) ≡ none
+    asked-end h = g .moved ∙ first-none f fails n (records-end table at h)
+
+-- ---- 16
+
+-- where there is no release character, a service character in the value is the whole test
+pub bare-value : (c : Characters) (value : List ℕ) → c .release ≡ 32 → {found : Bool} → found ≡ any (isService c) value → found ≡ lacksRelease c value
+unfolding lacksRelease hasRelease
+bare-value c value h d = d ∙ sym (ap (λ (t : Bool). not (not t) && any (isService c) value) (eq-eqb (c .release) 32 h))

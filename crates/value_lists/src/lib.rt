@@ -12,6 +12,7 @@ ghost use Rattle.refusals.specs.Refusals.{met, lowest, outcome};
 ghost use Rattle.values.specs.Spelling.{leadsBreak};
 ghost use Rattle.operations.specs.ValueList.{entries, valueIn};
 ghost use Rattle.operations.specs.Write.{numbersWhere, badEntry, badList, lacksRelease, lacksRepetition, cannotStand};
+ghost use Rattle.service_places.specs.Places.{Noted};
 ghost use Rattle.value_lists.specs.Records.{entryOf, recordAt, firstRecord, wellListed};
 use characters::Characters;
 use line_breaks::is_break;
@@ -150,10 +151,10 @@ fn cannot_stand(c: Characters, bytes: &[u8], r: Record) -> bool
     lacks_release(c, value_of(bytes, r)) | lacks_repetition(c, r.kind)
 }
 
-// What refusal 16 answers, for a list that refusal 15 does not refuse.
-pub fn check_release(c: Characters, bytes: &[u8], table: &[u32]) -> Outcome
+// Each record and each byte of its value is asked.
+fn check_each(c: Characters, bytes: &[u8], table: &[u32]) -> Outcome
     requires { ⌜ wellListed (now bytes) (now table) ≡ true ⌝ }
-    ensures { λ r. ⌜ r ≡ outcome (lowest (met NeedsRelease (numbersWhere (cannotStand c (now (bytes .entry))) 0 (entries (now (table .entry)))))) ⌝ }
+    ensures { λ r. ⌜ r ≡ outcome (firstRecord NeedsRelease (cannotStand c (now (bytes .entry))) 0 (entries (now (table .entry)))) ⌝ }
 {
     let mut at = 0;
     let mut n = 0;
@@ -165,4 +166,78 @@ pub fn check_release(c: Characters, bytes: &[u8], table: &[u32]) -> Outcome
         n += 1;
     }
     Outcome::Passed
+}
+
+// The same test where there is no release character, by the places of the service characters.
+fn cannot_stand_there(
+    c: Characters,
+    bytes: &[u8],
+    size: usize,
+    places: &[usize; service_places::BLOCKS],
+    r: Record,
+) -> bool
+    requires { ⌜ (c .release ≡ 32) × (r .start + r .size ≤ length (now bytes)) × Noted (isService c) (now bytes) size (now places) ⌝ }
+    ensures { λ lacking. ⌜ lacking ≡ cannotStand c (now (bytes .entry)) (entryOf r) ⌝ }
+{
+    let start = r.start as usize;
+    let end = start + r.size as usize;
+    service_places::holds_between(c, bytes, size, places, start, end) | lacks_repetition(c, r.kind)
+}
+
+fn check_there(
+    c: Characters,
+    bytes: &[u8],
+    table: &[u32],
+    size: usize,
+    places: &[usize; service_places::BLOCKS],
+) -> Outcome
+    requires { ⌜ (c .release ≡ 32) × (wellListed (now bytes) (now table) ≡ true) × Noted (isService c) (now bytes) size (now places) ⌝ }
+    ensures { λ r. ⌜ r ≡ outcome (firstRecord NeedsRelease (cannotStand c (now (bytes .entry))) 0 (entries (now (table .entry)))) ⌝ }
+{
+    let mut at = 0;
+    let mut n = 0;
+    while 2 < table.len() - at {
+        if cannot_stand_there(c, bytes, size, places, record_at(table, at)) {
+            return failed(Fault::NeedsRelease, n);
+        }
+        at += 3;
+        n += 1;
+    }
+    Outcome::Passed
+}
+
+// The places of the service characters are stored first, so that a record costs a few steps however long its value is.
+fn check_by_places(c: Characters, bytes: &[u8], table: &[u32]) -> Outcome
+    requires { ⌜ (c .release ≡ 32) × (wellListed (now bytes) (now table) ≡ true) ⌝ }
+    ensures { λ r. ⌜ r ≡ outcome (firstRecord NeedsRelease (cannotStand c (now (bytes .entry))) 0 (entries (now (table .entry)))) ⌝ }
+{
+    let mut places = [0usize; service_places::BLOCKS];
+    let size = service_places::store_places(c, bytes, &mut places);
+    check_there(c, bytes, table, size, &places)
+}
+
+// The lengths of all records are above four times the number of bytes: many values overlap. Any answer
+// is right, also where a sum wraps; this one says which way is the shorter.
+fn overlaps(bytes: &[u8], table: &[u32]) -> bool {
+    let mut sum: u64 = 0;
+    let mut at = 0;
+    while 2 < table.len() - at {
+        sum = std::num::wrapping_add_u64(sum, table[at + 2] as u64);
+        at += 3;
+    }
+    bytes.len() < (sum / 4) as usize
+}
+
+// What refusal 16 answers, for a list that refusal 15 does not refuse.
+pub fn check_release(c: Characters, bytes: &[u8], table: &[u32]) -> Outcome
+    requires { ⌜ wellListed (now bytes) (now table) ≡ true ⌝ }
+    ensures { λ r. ⌜ r ≡ outcome (lowest (met NeedsRelease (numbersWhere (cannotStand c (now (bytes .entry))) 0 (entries (now (table .entry)))))) ⌝ }
+{
+    if c.release != b' ' {
+        return check_each(c, bytes, table);
+    }
+    if overlaps(bytes, table) {
+        return check_by_places(c, bytes, table);
+    }
+    check_each(c, bytes, table)
 }

@@ -1,12 +1,12 @@
 -- A body that passes the test, and in which no fault 4 lies and no byte of a value below the space, is emitted as it stands, without its
 -- line breaks. Assumes nothing.
-use Prim.Native.Nat.{ℕ, zero, suc, _+_}
+use Prim.Native.Nat.{ℕ, zero, suc, _+_, _-_}
 use mathlib.Core.Path.{_≡_, refl, sym, ap, ap₂, subst, _∙_}
 use mathlib.Core.Bool.{Bool, true, false, not, _&&_, _||_, false≢true, or-true}
 use mathlib.Core.List.{List, [], _∷_, _++_, append-nil, append-assoc}
 use native.Mathlib.Omega.{arith}
 use lib.Dec.{eqb, leb}
-use lib.ListN.{drop, replicate, replicate-append-replicate}
+use lib.ListN.{drop}
 use borrow.Author.Tests.{eq-eqb, not-true}
 use mathlib.Core.Logic.{_⊎_, inl, inr, ⊎-elim}
 use Rattle.lists.specs.Lists.{if_then_else_, member, all, those}
@@ -18,14 +18,15 @@ use Rattle.characters.specs.Characters.{role, isService, serviceCharacters, has
 use Rattle.characters.proofs.Words.{break-says}
 use Rattle.values.specs.Tokens.{Token, byte, separator, fault, Reading, inside, released, passing, unreleased, reading, taken, tokensFrom, tokens, tokensAt}
 use Rattle.values.specs.Values.{isFault}
-use Rattle.values.specs.Spelling.{spellByte}
+use Rattle.values.specs.Spelling.{spellByte, separatorOf}
 use Rattle.stages.specs.Contents.{normalCharacters}
 use Rattle.spelling_laws.proofs.Service.{serves, separable, separable-low, Part, separates, releases, plain, part, service-serves}
 use Rattle.emission_laws.specs.declared.Held.{Held}
 use Rattle.emission_laws.specs.Emission.{nothing, separated, heldNext, letOut, spelledNext, emitted}
-use Rattle.emission_laws.proofs.Steps.{let-out-runs, byte-first}
+use Rattle.emission_laws.proofs.Steps.{byte-first}
 use Rattle.line_breaks.specs.Unbroken.{unbroken}
-use Rattle.verbatim.specs.Verbatim.{isNormal, spelledNormally, endsRepeat, partsComponents, partsRepeats, partsElements, idle, isRepetition, partsElement, partsSegment, clean, verbatim, faultless, visible, isVisible}
+use Rattle.verbatim.specs.Verbatim.{isNormal, spelledNormally, idle, partsSegment, clean, verbatim, faultless, visible, isVisible}
+use Rattle.verbatim.proofs.Held.{Follows, none-held, follows-separator, none-kept, kept as keeps, none-out, separator-stands}
 use Rattle.verbatim.proofs.Unrepeated.{emitted-bare}
 
 -- ---- bytes below the space
@@ -66,138 +67,6 @@ module _ (b : ℕ) (bs : List ℕ) where
       if-false (leb 32 b) (b ∷ unbroken bs) (unbroken bs) (⊎-elim (λ (q : b ≡ 13). ap (leb 32) q) (λ (q : b ≡ 10). ap (leb 32) q) (break-says b .0 e))
 
 module _ (c : Characters) where
-  -- ---- what is held back
-
-  -- What may be held back after a byte: component separators only after one of them, those of repeats only after one of either rank, and
-  -- those of elements only after one of the three.
-  record Follows (before : ℕ) (h : Held) : Type 0 where
-    no-components : partsComponents c before ≡ false → h .components ≡ 0
-    no-repeats : partsElement c before ≡ false → h .repeats ≡ 0
-    no-elements : partsSegment c before ≡ false → h .elements ≡ 0
-
-  none-held : (before : ℕ) → Follows before nothing
-  none-held before = record { no-components = λ p. refl; no-repeats = λ p. refl; no-elements = λ p. refl }
-
-  module _ (b : ℕ) where
-    -- a byte that separates components separates components or repeats, and so on
-    parts-element : partsElement c b ≡ false → partsComponents c b ≡ false
-    parts-element p = or-none-left (partsComponents c b) (isRepetition c b) p
-
-    parts-segment : partsSegment c b ≡ false → partsElement c b ≡ false
-    parts-segment p = or-none-left (partsElement c b) (eqb b (c .element)) p
-
-    no-element : b ≡ c .element → partsSegment c b ≡ false → ⊥
-    no-element e p = false≢true (sym (or-none-right (partsElement c b) (eqb b (c .element)) p) ∙ eq-eqb b (c .element) e)
-
-    no-repeat : hasRepetition c ≡ true → b ≡ c .repetition → partsElement c b ≡ false → ⊥
-    no-repeat q e p =
-        false≢true (sym (or-none-right (partsComponents c b) (isRepetition c b) p) ∙ and-both (hasRepetition c) (eqb b (c .repetition)) q (eq-eqb b (c .repetition) e))
-
-    no-component : b ≡ c .component → partsComponents c b ≡ false → ⊥
-    no-component e p = false≢true (sym p ∙ eq-eqb b (c .component) e)
-
-    module _ (h : Held) where
-      after-element : b ≡ c .element → Follows b (separated h 1)
-      unfolding separated
-      after-element e = record { no-components = λ p. refl; no-repeats = λ p. refl; no-elements = λ p. absurd (no-element e p) }
-
-      after-repeat : hasRepetition c ≡ true → b ≡ c .repetition → Follows b (separated h 2)
-      unfolding separated
-      after-repeat q e =
-          record {
-            no-components = λ p. refl;
-            no-repeats = λ p. absurd (no-repeat q e p);
-            no-elements = λ p. absurd (no-repeat q e (parts-segment p));
-          }
-
-      after-component : b ≡ c .component → Follows b (separated h 3)
-      after-component e =
-          record {
-            no-components = λ p. absurd (no-component e p);
-            no-repeats = λ p. absurd (no-component e (parts-element p));
-            no-elements = λ p. absurd (no-component e (parts-element (parts-segment p)));
-          }
-
-    -- where nothing ends a repeat, the repetition separator does not
-    none-parts : partsRepeats c b ≡ false → partsElement c b ≡ false
-    unfolding endsRepeat
-    none-parts p = step (hasRepetition c) (or-none-right (partsComponents c b) (eqb b (endsRepeat c)) p)
-      where
-        step : (t : Bool) → eqb b (if t then c .repetition else c .terminator) ≡ false → (partsComponents c b || (t && eqb b (c .repetition))) ≡ false
-        step true k = ap₂ _||_ (or-none-left (partsComponents c b) (eqb b (endsRepeat c)) p) k
-        step false k = ap (λ (u : Bool). u || false) (or-none-left (partsComponents c b) (eqb b (endsRepeat c)) p)
-
-  -- what is not idle: what ends a repeat is not after a component separator, and so on
-  module _ (a b : ℕ) (i : not (idle c a b) ≡ true) where
-    abbrev ofRepeat : Bool
-    ofRepeat = eqb b (endsRepeat c) && partsComponents c a
-
-    abbrev ofElement : Bool
-    ofElement = eqb b (c .element) && partsRepeats c a
-
-    abbrev ofSegment : Bool
-    ofSegment = eqb b (c .terminator) && partsElements c a
-
-    none-idle : (ofRepeat || (ofElement || ofSegment)) ≡ false
-    unfolding idle
-    none-idle = not-true (idle c a b) i
-
-    before-repeat : b ≡ endsRepeat c → partsComponents c a ≡ false
-    before-repeat e =
-        sym (ap (λ (t : Bool). t && partsComponents c a) (eq-eqb b (endsRepeat c) e)) ∙ or-none-left ofRepeat (ofElement || ofSegment) none-idle
-
-    before-element : b ≡ c .element → partsElement c a ≡ false
-    before-element e =
-        none-parts a
-        (sym (ap (λ (t : Bool). t && partsRepeats c a) (eq-eqb b (c .element) e))
-        ∙ or-none-left ofElement ofSegment (or-none-right ofRepeat (ofElement || ofSegment) none-idle))
-
-    before-terminator : b ≡ c .terminator → partsSegment c a ≡ false
-    before-terminator e =
-        let p : partsElements c a ≡ false
-        = sym (ap (λ (t : Bool). t && partsElements c a) (eq-eqb b (c .terminator) e))
-        ∙ or-none-right ofElement ofSegment (or-none-right ofRepeat (ofElement || ofSegment) none-idle) in
-        ap₂ _||_ (none-parts a (or-none-left (partsRepeats c a) (eqb a (c .element)) p)) (or-none-right (partsRepeats c a) (eqb a (c .element)) p)
-
-  -- after a byte that separates none of them nothing is held back
-  none-dropped : (a : ℕ) {h : Held} → Follows a h → partsSegment c a ≡ false → [] ≡ letOut c h
-  unfolding letOut
-  none-dropped a {h} f p =
-      let q = parts-segment a p in
-      sym (ap₂ (λ (x y : ℕ). replicate x (c .element) ++ (replicate y (c .repetition) ++ replicate (h .components) (c .component))) (f .no-elements p) (f .no-repeats q)
-      ∙ ap (λ (x : ℕ). replicate x (c .component)) (f .no-components (parts-element a q)))
-
-  -- one more in front of a text
-  more : (k x : ℕ) (text : List ℕ) → replicate (k + 1) x ++ text ≡ replicate k x ++ (x ∷ text)
-  more k x text =
-      ap (λ (l : List ℕ). l ++ text) (sym (replicate-append-replicate k 1 x)) ∙ append-assoc (replicate k x) (x ∷ []) text
-
-  module _ (h : Held) (text : List ℕ) where
-    one-element : h .components ≡ 0 → h .repeats ≡ 0 → letOut c (separated h 1) ++ text ≡ letOut c h ++ (c .element ∷ text)
-    unfolding separated
-    one-element z y =
-        let-out-runs c (separated h 1) text
-        ∙ more (h .elements) (c .element) text
-        ∙ sym (let-out-runs c h (c .element ∷ text)
-        ∙ ap₂ (λ (j k : ℕ). replicate (h .elements) (c .element) ++ (replicate j (c .repetition) ++ (replicate k (c .component) ++ (c .element ∷ text)))) y z)
-
-    one-repeat : h .components ≡ 0 → letOut c (separated h 2) ++ text ≡ letOut c h ++ (c .repetition ∷ text)
-    unfolding separated
-    one-repeat z =
-        let-out-runs c (separated h 2) text
-        ∙ ap (λ (l : List ℕ). replicate (h .elements) (c .element) ++ l) (more (h .repeats) (c .repetition) text)
-        ∙ sym (let-out-runs c h (c .repetition ∷ text)
-        ∙ ap (λ (k : ℕ). replicate (h .elements) (c .element) ++ (replicate (h .repeats) (c .repetition) ++ (replicate k (c .component) ++ (c .repetition ∷ text)))) z)
-
-    one-component : letOut c (separated h 3) ++ text ≡ letOut c h ++ (c .component ∷ text)
-    unfolding separated
-    one-component =
-        let-out-runs c (separated h 3) text
-        ∙ ap (λ (l : List ℕ). replicate (h .elements) (c .element) ++ (replicate (h .repeats) (c .repetition) ++ l)) (more (h .components) (c .component) text)
-        ∙ sym (let-out-runs c h (c .component ∷ text))
-
-  -- ---- what is emitted
-
   -- a release character that stands directly before the bytes
   unfoldable afterRelease : Reading → List ℕ → List ℕ
   afterRelease inside bs = bs
@@ -206,7 +75,7 @@ module _ (c : Characters) where
 
   -- after a release character anything may be held back, and after a terminator nothing is
   unfoldable FollowsHere : Reading → ℕ → Held → Type 0
-  FollowsHere inside before h = Follows before h
+  FollowsHere inside before h = Follows c before h
   FollowsHere (released from) before h = Unit {0}
   FollowsHere passing before h = h ≡ nothing
 
@@ -229,7 +98,7 @@ module _ (c : Characters) where
       -- after this byte nothing is held back
       rest : faultless (onward inside) ≡ true → visible (onward inside) ≡ true → emitted c nothing (onward inside) ≡ unbroken bs
       unfolding afterRelease FollowsHere letOut
-      rest s w = go inside (place + 1) b nothing l (none-held b) s w
+      rest s w = go inside (place + 1) b nothing l (none-held c b) s w
 
       -- and after a terminator line breaks are passed over
       rest-passing : faultless (onward passing) ≡ true → visible (onward passing) ≡ true → emitted c nothing (onward passing) ≡ unbroken bs
@@ -240,33 +109,24 @@ module _ (c : Characters) where
       stays : isService c b ≡ true → letOut c h ++ (b ∷ unbroken bs) ≡ letOut c h ++ unbroken (b ∷ bs)
       stays v = ap (λ (t : List ℕ). letOut c h ++ t) (sym (kept b bs (printed b v)))
 
-      unreleased-stands : (before : ℕ) → Follows before h → not (idle c before b) ≡ true → {r : Role} → Part c b r → isService c b ≡ serves r
+      -- a separator, by what is emitted after it
+      separated-stands : (before : ℕ) → Follows c before h → not (idle c before b) ≡ true → isService c b ≡ true
+          → (rank : ℕ) → separable c rank ≡ true → b ≡ separatorOf c (3 - rank)
+          → (ts : List Token) → emitted c (separated h rank) ts ≡ letOut c (separated h rank) ++ unbroken bs
+          → emitted c h (separator rank place ∷ ts) ≡ letOut c h ++ unbroken (b ∷ bs)
+      separated-stands before f i v rank q e ts r =
+          separator-stands c h rank (separable-low c rank q) (keeps c before b f i rank q e) place ts (unbroken bs) r
+          ∙ ap (λ (x : ℕ). letOut c h ++ (x ∷ unbroken bs)) (sym e)
+          ∙ stays v
+
+      unreleased-stands : (before : ℕ) → Follows c before h → not (idle c before b) ≡ true → {r : Role} → Part c b r → isService c b ≡ serves r
           → faultless (unreleased r b place (onward (reading r place))) ≡ true → visible (unreleased r b place (onward (reading r place))) ≡ true
           → emitted c h (unreleased r b place (onward (reading r place))) ≡ letOut c h ++ unbroken (b ∷ bs)
-      unfolding faultless visible isVisible all isFault unreleased reading emitted spelledNext heldNext separated separable endsRepeat spellByte afterRelease FollowsHere
-      unreleased-stands before f i (separates zero q e) v s w =
-          ap₂ (λ (x : ℕ) (t : List ℕ). x ∷ t) (sym e) (rest-passing s w)
-          ∙ ap (λ (t : List ℕ). t ++ (b ∷ unbroken bs)) (none-dropped before f (before-terminator before b i e))
-          ∙ stays v
-      unreleased-stands before f i (separates (suc zero) q e) v s w =
-          let p = before-element before b i e in
-          go inside (place + 1) b (separated h 1) l (after-element b h e) s w
-          ∙ one-element h (unbroken bs) (f .no-components (parts-element before p)) (f .no-repeats p)
-          ∙ ap (λ (x : ℕ). letOut c h ++ (x ∷ unbroken bs)) (sym e)
-          ∙ stays v
-      unreleased-stands before f i (separates (suc (suc zero)) q e) v s w =
-          let r : b ≡ endsRepeat c = e ∙ sym (if-true (hasRepetition c) (c .repetition) (c .terminator) q) in
-          go inside (place + 1) b (separated h 2) l (after-repeat b h q e) s w
-          ∙ one-repeat h (unbroken bs) (f .no-components (before-repeat before b i r))
-          ∙ ap (λ (x : ℕ). letOut c h ++ (x ∷ unbroken bs)) (sym e)
-          ∙ stays v
-      unreleased-stands before f i (separates (suc (suc (suc zero))) q e) v s w =
-          go inside (place + 1) b (separated h 3) l (after-component b h e) s w
-          ∙ one-component h (unbroken bs)
-          ∙ ap (λ (x : ℕ). letOut c h ++ (x ∷ unbroken bs)) (sym e)
-          ∙ stays v
-      unreleased-stands before f i (separates (suc (suc (suc (suc rank)))) q e) v s w =
-          absurd (omega (arith, separable-low c (suc (suc (suc (suc rank)))) q))
+      unfolding faultless visible isVisible all isFault unreleased reading separated spellByte letOut afterRelease FollowsHere
+      unreleased-stands before f i (separates zero q e) v s w = separated-stands before f i v zero q e (onward passing) (rest-passing s w)
+      unreleased-stands before f i (separates (suc rank) q e) v s w =
+          separated-stands before f i v (suc rank) q e (onward inside)
+          (go inside (place + 1) b (separated h (suc rank)) l (follows-separator c b h (suc rank) q e) s w)
       unreleased-stands before f i (releases e q) v s w =
           go (released place) (place + 1) b h l tt s w ∙ ap (λ (x : ℕ). letOut c h ++ unbroken (x ∷ bs)) (sym e)
       unreleased-stands before f i plain v s w =
@@ -283,7 +143,7 @@ module _ (c : Characters) where
       passing-stands before true e f i s w =
           go passing (place + 1) b h l f s w ∙ ap (λ (t : List ℕ). letOut c h ++ t) (sym (left-out b bs e))
       passing-stands before false e f i s w =
-          unreleased-stands before (subst (Follows before) (sym f) (none-held before)) i (part c b) (service-serves c b) s w
+          unreleased-stands before (subst (Follows c before) (sym f) (none-held c before)) i (part c b) (service-serves c b) s w
 
       -- a service character is spelled after a release character again
       released-stands : (from : ℕ) → isService c b ≡ true → isService c (c .release) ≡ true → faultless (onward inside) ≡ true → visible (byte b from place ∷ onward inside) ≡ true
@@ -305,7 +165,7 @@ module _ (c : Characters) where
 
     as-they-stand : isService c (c .release) ≡ true → (bs : List ℕ) → Stands bs
     unfolding clean faultless all isFault tokensFrom emitted afterRelease FollowsHere letOut unbroken those
-    as-they-stand r [] inside place before h l f s w = none-dropped before f (not-true (partsSegment c before) l) ∙ sym (append-nil (letOut c h))
+    as-they-stand r [] inside place before h l f s w = none-out c h (none-kept c before f (not-true (partsSegment c before) l)) ∙ sym (append-nil (letOut c h))
     as-they-stand r [] (released from) place before h l f s w = absurd (false≢true s)
     as-they-stand r [] passing place before h l f s w = ap (λ (k : Held). letOut c k ++ []) (sym f)
     as-they-stand r (b ∷ bs) inside place before h l f s w =
@@ -318,7 +178,7 @@ module _ (c : Characters) where
         (and-left (not (idle c before b)) (clean c b bs) l) s w
 
   -- its characters are those of a normal form
-  named : (repetition : ℕ) → isNormal c repetition ≡ true → normalCharacters (c .mark) repetition ≡ c
+  pub named : (repetition : ℕ) → isNormal c repetition ≡ true → normalCharacters (c .mark) repetition ≡ c
   unfolding isNormal sixBytes spelledOut
   named repetition v = sym (ap sixBytes (same-eq (spelledOut c) (spelledOut (normalCharacters (c .mark) repetition)) v))
 
@@ -330,7 +190,7 @@ module _ (c : Characters) where
         let normal = named repetition v in
         as-they-stand (subst Printed normal (normal-printed (c .mark) repetition p))
         (subst (λ (m : Characters). isService m (m .release) ≡ true) normal (normal-release (c .mark) repetition))
-        (drop start s) inside start 0 nothing l (none-held 0) f w
+        (drop start s) inside start 0 nothing l (none-held c 0) f w
 
     -- it is, with the fifth byte that its version gives it
     emitted-either : (repetition : ℕ) → leb 32 repetition ≡ true

@@ -1,3 +1,4 @@
 pub mod Clean
+pub mod Held
 pub mod Emitted
 pub mod Unrepeated

@@ -23,7 +23,8 @@ pub fn normal_characters(mark: u8, repetition: u8) -> Characters
     }
 }
 
-fn is_normal(c: Characters, repetition: u8) -> bool
+// The service characters are those of a normal form with this fifth byte.
+pub fn is_normal(c: Characters, repetition: u8) -> bool
     ensures { λ r. ⌜ r ≡ isNormal c repetition ⌝ }
 {
     let n = normal_characters(c.mark, repetition);
@@ -33,7 +34,7 @@ fn is_normal(c: Characters, repetition: u8) -> bool
 }
 
 // The repetition separator, or the terminator where there is none.
-fn ends_repeat(c: Characters) -> u8
+pub fn ends_repeat(c: Characters) -> u8
     ensures { λ r. ⌜ r ≡ endsRepeat c ⌝ }
 {
     if c.repetition == b' ' {
@@ -44,7 +45,7 @@ fn ends_repeat(c: Characters) -> u8
 
 // An empty end may stand between two bytes, of which `r` ends a repeat. Nothing here branches, so that
 // many bytes are asked at once.
-fn is_idle(c: Characters, r: u8, a: u8, b: u8) -> bool
+pub fn is_idle(c: Characters, r: u8, a: u8, b: u8) -> bool
     requires { ⌜ r ≡ endsRepeat c ⌝ }
     ensures { λ found. ⌜ found ≡ idle c a b ⌝ }
 {

@@ -30,27 +30,30 @@
  * Threads. The functions have no state: no globals, no heap, no errno, no input or output. Calls may
  * run at the same time as long as each keeps to what is owed above.
  *
- * Stack. Compare and Keep hold two arrays of 32,000 bytes each, and take some 65,300 bytes in all. A
- * shelf's Put holds one, and takes some 33,300. Judge by a table calls itself for groups within groups,
- * which are at most eight deep, and takes some 3,000 at most, whatever the table and the input are. All
- * others but these take less than 2,000. There is no other recursion.
+ * Stack. Compare and Keep hold two arrays of 32,000 bytes each, or of 2,048 where neither input has
+ * more than 1,019 bytes, and take some 65,300 bytes at most. A shelf's Put holds one of 32,000, and
+ * takes some 33,300. Write and Acknowledge have room for one of 8,192, which is used while 16 is asked
+ * without a release character, and take less than 11,000. Judge by a table calls itself for groups
+ * within groups, which are at most eight deep, and takes some 3,000 at most, whatever the table and
+ * the input are. All others but these take less than 2,000. There is no other recursion.
  *
  * Cost. What a function does with an input is a few steps a byte, and of an input over 32,000 bytes
- * none. Write looks at every value that its table names, and these may overlap. Under a release
- * character it stops where the text is over 32,000 bytes. Without one it first looks for service
- * characters in all values (refusal 16): 32,000 records that name the same N bytes cost 32,000 * N
- * steps, some 2 s for N = 32,000 and ten times as long for ten times as many. Who takes lists from
- * strangers adds up the lengths first: more than 32,000 bytes in values are refused in any case.
+ * none. Write costs a few steps for each record of its table and for each byte of the text, and stops
+ * where the text is over 32,000 bytes. Without a release character it first looks for service
+ * characters in all values (refusal 16), which may be of any length and overlap: some 1 ns for each
+ * byte lent, 10 ms for 10,000,000, and a few times that for a list that was made to be slow.
  * Each function of a shelf but Start judges all texts that the shelf keeps, so that a call costs what
- * Judge costs over them and a tenth more, some 0.4 ms for a full shelf; and less than twice as much
- * for one that was made to be slow. Report goes once over the file, which may have 65,536 bytes, and
- * judges each piece: some 0.7 ms for 65,536 bytes of orders, and some three times that for the
- * smallest interchanges that there are. Judge by a table costs what Judge costs, a pass over the table,
- * which stops at 999 entries, and a few steps for each segment and each entry that has its turn: some
- * 80 us more for 32,000 bytes of orders under a table of 68 entries. At most all entries have their
- * turn at each segment: for 999 entries and a body of 8,000 segments that is made so, some 40 ms.
- * Acknowledge costs what Judge costs over the received input and the text, and a few steps for each
- * record of the lent tables, which have at most 96,000 numbers each.
+ * Judge costs over them, some 330 us for a full shelf of 64 orders, and some 15 us more; for one that
+ * was made to be slow some 90 us more. Report goes once over the file, which may have 65,536 bytes,
+ * and judges each piece: some 680 us for 65,536 bytes of orders, some 1,900 us for the smallest
+ * interchanges that there are. These times of shelf and Report were taken before Judge became faster
+ * (request 2026-09). Judge by a table costs what Judge costs, a pass over the table, which stops at
+ * 999 entries, and a few steps for each segment and each entry that has its turn: some 80 us more for
+ * 32,000 bytes of orders under a table of 68 entries. At most all entries have their turn at each
+ * segment: for 999 entries and a body of 8,000 segments that is made so, some 40 ms.
+ * Acknowledge costs what Judge costs over the received input and the text, a few steps for each
+ * record of the lent tables, which have at most 96,000 numbers each, and a few for each byte of the
+ * text. It stops behind the value with which the text is over 32,000 bytes.
  * Export costs a few steps for each byte of the input and of the text. Import costs a few steps for each
  * byte of the text, which may have any length, and no more for one that was made to be slow.
  *

@@ -1,44 +1,29 @@
--- `judge::stages_to_12` meets its contract: (10 11 12) follows 1 to 9. Assumes nothing.
-use mathlib.Core.Path.{refl}
-use Rattle.stage_walks.specs.Walks.{controlled}
-use Rattle.stage_walks.proofs.Walks.{controlled-answers}
-use Rattle.judge.proofs.Stages.{short-by, walked}
-use Rattle.lists.specs.Lists.{all, those}
-use Rattle.refusals.specs.Refusals.{number}
-use Rattle.stages.specs.Stages.{brackets, bracketsIn}
-use Rattle.stage_opening.specs.Runs.{foundBy}
-use Rattle.stage_opening.proofs.Runs.{refused-before}
+-- `judge::stages_to_12` meets its contract: what the quick way does not pass, the stages answer in turn. Assumes nothing.
+use mathlib.Core.Path.{subst}
 use borrow.Author.Needs.{needs}
+use Rattle.judge.specs.Judging.{Quickly}
 use Rattle.judge.proofs.stages_to_12.Statement.{statement}
 use Rattle.judge.proofs.stages_to_12.Tie as tie
 
-stages-to-9-requires : tie.Need-stages-to-9-requires
-stages-to-9-requires c κs = search needs
-
-enum-known-r : tie.Need-enum-known-r
-enum-known-r c = search needs
+quickly-requires : tie.Need-quickly-requires
+quickly-requires c κs = search needs
 
 enum-known-found : tie.Need-enum-known-found
 enum-known-found c = search needs
 
-check-requires : tie.Need-check-requires
-unfolding bracketsIn brackets those all
-check-requires c κs =
-    short-by (c .before .before .before .before .before .before .args .s .now) 9 refl (c .before .before .before .before .stages-to-9 .ensures) (c .before .before .found .given .1)
+enum-told : tie.Need-enum-told
+enum-told c = search needs
 
-after-requires : tie.Need-after-requires
-after-requires c κs = search needs
+stages-to-12-in-turn-requires : tie.Need-stages-to-12-in-turn-requires
+stages-to-12-in-turn-requires c κs = search needs
 
 returns : tie.Need-returns
-unfolding bracketsIn brackets those all
 returns c =
-    refused-before (c .before .before .before .before .before .args .s .now) 1 9 (c .before .before .before .stages-to-9 .ensures) 12 refl (c .before .r .given .1)
+    subst (Quickly (c .before .before .before .before .before .args .s .now)) (c .before .found .given .1) (c .before .before .before .quickly .ensures)
 
 returns-2 : tie.Need-returns-2
-unfolding bracketsIn brackets those all foundBy
-returns-2 c =
-    let s = c .before .before .before .before .before .before .before .before .args .s .now in
-    walked s 1 9 12 refl (λ f. controlled) (controlled-answers s) refl (c .before .before .before .before .before .before .stages-to-9 .ensures) (c .before .before .before .before .found .given .1) (c .before .check .ensures) (c .after .ensures)
+returns-2 c = search needs
 
 pub stages-to-12-spec : {M : Type 1} → statement M
-stages-to-12-spec = tie.close (tie.spec stages-to-9-requires enum-known-r enum-known-found check-requires after-requires returns returns-2)
+stages-to-12-spec =
+    tie.close (tie.spec quickly-requires enum-known-found enum-told stages-to-12-in-turn-requires returns returns-2)

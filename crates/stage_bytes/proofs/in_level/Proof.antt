@@ -8,8 +8,8 @@ use borrow.Author.Needs.{needs}
 use Rattle.stage_bytes.proofs.in_level.Statement.{statement}
 use Rattle.stage_bytes.proofs.in_level.Tie as tie
 
-ends-in-break-requires : tie.Need-ends-in-break-requires
-ends-in-break-requires c κs = search needs
+ends-outside-requires : tie.Need-ends-outside-requires
+ends-outside-requires c κs = search needs
 
 all-in-level-requires : tie.Need-all-in-level-requires
 all-in-level-requires c κs = search needs
@@ -35,7 +35,7 @@ pub in-level-spec : {M : Type 1} → statement M
 in-level-spec =
     tie.close
     (tie.spec
-    ends-in-break-requires
+    ends-outside-requires
     all-in-level-requires
     returns
     all-orderly-requires

@@ -1,5 +1,5 @@
 -- `stage_length::measured` meets its contract: a body that is spelled as in its normal form has its length without line
--- breaks, and another one is measured token by token. Assumes nothing.
+-- breaks, and another one is measured segment by segment. Assumes nothing.
 use Prim.Native.Nat.{ℕ}
 use mathlib.Core.Path.{sym, ap, _∙_}
 use lib.ListN.{length}
@@ -29,14 +29,14 @@ returns c =
 normal-characters-requires : tie.Need-normal-characters-requires
 normal-characters-requires c κs = search needs
 
-measured-by-token-requires : tie.Need-measured-by-token-requires
-measured-by-token-requires c κs = search needs
+measured-by-segment-requires : tie.Need-measured-by-segment-requires
+measured-by-segment-requires c κs = search needs
 
 returns-2 : tie.Need-returns-2
 returns-2 c =
     let args = c .before .before .before .before .before .args in
     let ts = tokensAt (args .c) (args .s .now) (args .start) in
-    c .measured-by-token .ensures ∙ ap (λ (n : Characters). length (emitted n nothing ts)) (c .before .normal-characters .ensures)
+    c .measured-by-segment .ensures ∙ ap (λ (n : Characters). length (emitted n nothing ts)) (c .before .normal-characters .ensures)
 
 pub measured-spec : {M : Type 1} → statement M
-measured-spec = tie.close (tie.spec is-verbatim-requires unbroken-length-requires returns normal-characters-requires measured-by-token-requires returns-2)
+measured-spec = tie.close (tie.spec is-verbatim-requires unbroken-length-requires returns normal-characters-requires measured-by-segment-requires returns-2)

@@ -9,7 +9,7 @@ use Rattle.emission_laws.specs.declared.Held.{Held}
 use Rattle.operations.specs.ValueList.{listedIn}
 use Rattle.value_list_text.specs.Composing.{composedText}
 use Rattle.value_list_text.proofs.Composed.{ended-total}
-use Rattle.value_list_text.proofs.Rows.{listed-few, Reached, reached-start, at-most, next-value, reached-next, reached-end}
+use Rattle.value_list_text.proofs.Rows.{listed-few, Reached, reached-start, at-most, next-value, long-value, reached-next, reached-end}
 use Rattle.value_list_text.proofs.Lengths.{capped-over, capped-last}
 use Rattle.value_list_text.proofs.text_length.Statement.{statement}
 use Rattle.value_list_text.proofs.text_length.Tie as tie
@@ -34,19 +34,34 @@ sub-loop c = omega (arith, c .loop .inv .0 .inside)
 record-at-requires : tie.Need-record-at-requires Inv-loop μ-loop
 record-at-requires c κs = search needs
 
-with-record-requires : tie.Need-with-record-requires Inv-loop μ-loop
-with-record-requires c κs =
-    let g = c .before .before .loop .inv .0 in (
-      next-value (c .before .before .before .before .before .before .args .c) (c .before .before .before .before .before .before .args .bytes .now) (c .before .before .before .before .before .before .args .table .now) (c .before .before .loop .m) g (omega (arith, g .inside)) (c .record-at .ensures),
-      omega (arith, g .gone .few, listed-few (c .before .before .before .before .before .before .args .bytes .now) (c .before .before .before .before .before .before .args .table .now), c .before .before .before .before .before .before .pre .1, c .before .before .loop .inv .1),
-    )
+cast-if1 : tie.Need-cast-if1 Inv-loop μ-loop
+cast-if1 c = search needs
 
 returns : tie.Need-returns Inv-loop μ-loop
 returns c =
-    let g = c .before .before .before .before .before .loop .inv .0 in
-    let next = reached-next (c .before .before .before .before .before .before .before .before .before .args .c) (c .before .before .before .before .before .before .before .before .before .args .bytes .now) (c .before .before .before .before .before .before .before .before .before .args .table .now) (c .before .before .before .before .before .loop .m) g (omega (arith, g .inside)) (c .before .before .before .record-at .ensures) (c .before .before .with-record .ensures) in
-    capped-over (length (composedText (c .before .before .before .before .before .before .before .before .before .args .c) (listedIn (c .before .before .before .before .before .before .before .before .before .args .bytes .now) (c .before .before .before .before .before .before .before .before .before .args .table .now))))
-    (omega (arith, at-most (c .before .before .before .before .before .before .before .before .before .args .c) (c .before .before .before .before .before .before .before .before .before .args .bytes .now) (c .before .before .before .before .before .before .before .before .before .args .table .now) (c .before .before .with-record .result) next))
+    let x = c .before .before .before .before .before .before .before .before .args in
+    let state = c .before .before .before .before .loop in
+    let g = state .inv .0 in
+    capped-over (length (composedText (x .c) (listedIn (x .bytes .now) (x .table .now))))
+    (omega (arith, c .if1 .taken, long-value (x .c) (x .bytes .now) (x .table .now) (state .m) g (omega (arith, g .inside)) (c .before .before .record-at .ensures)))
+
+with-record-requires : tie.Need-with-record-requires Inv-loop μ-loop
+with-record-requires c κs =
+    let x = c .before .before .before .before .before .before .before .before .args in
+    let state = c .before .before .before .before .loop in
+    let g = state .inv .0 in (
+      next-value (x .c) (x .bytes .now) (x .table .now) (state .m) g (omega (arith, g .inside)) (c .before .before .record-at .ensures),
+      omega (arith, g .gone .few, listed-few (x .bytes .now) (x .table .now), c .before .before .before .before .before .before .before .before .pre .1, state .inv .1),
+    )
+
+returns-2 : tie.Need-returns-2 Inv-loop μ-loop
+returns-2 c =
+    let x = c .before .before .before .before .before .before .before .before .before .before .before .args in
+    let state = c .before .before .before .before .before .before .before .loop in
+    let g = state .inv .0 in
+    let next = reached-next (x .c) (x .bytes .now) (x .table .now) (state .m) g (omega (arith, g .inside)) (c .before .before .before .before .before .record-at .ensures) (c .before .before .with-record .ensures) in
+    capped-over (length (composedText (x .c) (listedIn (x .bytes .now) (x .table .now))))
+    (omega (arith, at-most (x .c) (x .bytes .now) (x .table .now) (c .before .before .with-record .result) next))
 
 add-at : tie.Need-add-at Inv-loop μ-loop
 add-at c = omega arith
@@ -56,14 +71,16 @@ loop-less c = omega arith
 
 loop-again : tie.Need-loop-again Inv-loop μ-loop
 loop-again c =
-    let g = c .before .before .before .before .before .loop .inv .0 in
-    (reached-next (c .before .before .before .before .before .before .before .before .before .args .c) (c .before .before .before .before .before .before .before .before .before .args .bytes .now) (c .before .before .before .before .before .before .before .before .before .args .table .now) (c .before .before .before .before .before .loop .m) g (omega (arith, g .inside)) (c .before .before .before .record-at .ensures) (c .before .before .with-record .ensures), omega arith)
+    let x = c .before .before .before .before .before .before .before .before .before .before .before .args in
+    let state = c .before .before .before .before .before .before .before .loop in
+    let g = state .inv .0 in
+    (reached-next (x .c) (x .bytes .now) (x .table .now) (state .m) g (omega (arith, g .inside)) (c .before .before .before .before .before .record-at .ensures) (c .before .before .with-record .ensures), omega arith)
 
 with-separator-requires : tie.Need-with-separator-requires Inv-loop μ-loop
 with-separator-requires c κs = omega (arith, c .before .loop .inv .0 .gone .few, listed-few (c .before .before .before .before .before .args .bytes .now) (c .before .before .before .before .before .args .table .now), c .before .before .before .before .before .pre .1, c .before .loop .inv .1)
 
-returns-2 : tie.Need-returns-2 Inv-loop μ-loop
-returns-2 c =
+returns-3 : tie.Need-returns-3 Inv-loop μ-loop
+returns-3 c =
     let bytes = c .before .before .before .before .before .before .args .bytes .now in
     let table = c .before .before .before .before .before .before .args .table .now in
     let g = c .before .before .loop .inv .0 in
@@ -81,10 +98,12 @@ text-length-spec =
     loop-holds
     sub-loop
     record-at-requires
-    with-record-requires
+    cast-if1
     returns
+    with-record-requires
+    returns-2
     add-at
     loop-less
     loop-again
     with-separator-requires
-    returns-2)
+    returns-3)

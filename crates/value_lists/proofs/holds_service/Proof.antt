@@ -8,7 +8,7 @@ use lib.ListN.{length, drop}
 use borrow.Author.Needs.{needs}
 use Rattle.lists.specs.Lists.{any}
 use Rattle.characters.specs.Characters.{isService}
-use Rattle.value_lists.proofs.Records.{any-next, any-end}
+use Rattle.service_places.proofs.Places.{any-next, any-end}
 use Rattle.value_lists.proofs.holds_service.Statement.{statement}
 use Rattle.value_lists.proofs.holds_service.Tie as tie
 

@@ -9,9 +9,11 @@ use second::generator::{in_lines, Random};
 use second::operations;
 use second::refusal::LONGEST;
 
-use crate::{agreed, opaque, orders, surface, NAMES};
+use crate::sides::Buffers;
+use crate::{opaque, orders, surface, SEED};
 
-const INTERCHANGES: usize = 10_000;
+const INTERCHANGES: usize = 2_000;
+const NAMES: [&str; 4] = ["judge", "second's judge", "normalise", "second's normalise"];
 
 /// An order and the same in lines, which is not too long for an input.
 fn both(random: &mut Random) -> [Vec<u8>; 2] {
@@ -26,12 +28,8 @@ fn both(random: &mut Random) -> [Vec<u8>; 2] {
 }
 
 /// For each function its shortest time on each of the two inputs.
-fn least(
-    inputs: &[Vec<u8>; 2],
-    rounds: usize,
-    ours: &mut [u8],
-    theirs: &mut [u8],
-) -> [[u64; 2]; 4] {
+fn least(inputs: &[Vec<u8>; 2], rounds: usize, buffers: &mut Buffers) -> [[u64; 2]; 4] {
+    let [ours, .., theirs] = &mut buffers.0;
     let mut least = [[u64::MAX; 2]; 4];
     for round in 0..rounds {
         for turn in 0..8 {
@@ -54,13 +52,14 @@ fn least(
 /// Prints, for each function, the best time without breaks and with them, for
 /// each byte of the order without breaks, and how they relate; then ours over
 /// the second program's.
-pub fn report(random: &mut Random, rounds: usize, ours: &mut [u8], theirs: &mut [u8]) {
+pub fn report(rounds: usize) {
+    let (mut random, mut buffers) = (Random::new(SEED), Buffers::new(LONGEST));
     let (mut bytes, mut sums) = ([0; 2], [[0u64; 2]; 4]);
     for _ in 0..INTERCHANGES {
-        let inputs = both(random);
-        assert_eq!(agreed(&inputs, ours, theirs), 2, "an order in lines is refused");
+        let inputs = both(&mut random);
+        assert!(inputs.iter().all(|input| buffers.agreed(input)), "an order is refused");
         assert!(surface::is_same(&inputs[0], &inputs[1]), "not the same");
-        for (sums, least) in sums.iter_mut().zip(least(&inputs, rounds, ours, theirs)) {
+        for (sums, least) in sums.iter_mut().zip(least(&inputs, rounds, &mut buffers)) {
             *sums = [sums[0] + least[0], sums[1] + least[1]];
         }
         bytes = [bytes[0] + inputs[0].len(), bytes[1] + inputs[1].len()];

@@ -1,17 +1,18 @@
 //! Seeded interchanges of orders, each accepted: what a mailbox holds on a
 //! plain day. Most have the standard's service characters, some others; a few
 //! values have released characters. One sender in four leaves empty ends.
+//! `flavours` makes others, by a manner of its own.
 
 use second::generator::{Draft, Random};
 use second::level::Level;
 use second::service_characters::{ServiceCharacters, INFORMATION_SEPARATORS, PRINTABLE};
 
 type Repeat = Vec<Vec<u8>>;
-type Element = Vec<Repeat>;
-type Segment = Vec<Element>;
+pub type Element = Vec<Repeat>;
+pub type Segment = Vec<Element>;
 
 /// Other characters that an advice may name.
-const OTHERS: ServiceCharacters = ServiceCharacters {
+pub const OTHERS: ServiceCharacters = ServiceCharacters {
     component: b'*',
     element: b'%',
     mark: b',',
@@ -48,11 +49,11 @@ const GOODS: [&str; 8] = [
 ];
 
 /// An element of the components that the text has, one after each `:`.
-fn element(text: &str) -> Element {
+pub fn element(text: &str) -> Element {
     vec![text.split(':').map(|component| component.as_bytes().to_vec()).collect()]
 }
 
-fn value(text: impl AsRef<[u8]>) -> Element {
+pub fn value(text: impl AsRef<[u8]>) -> Element {
     vec![vec![text.as_ref().to_vec()]]
 }
 
@@ -68,7 +69,7 @@ fn name(random: &mut Random, released: bool) -> Element {
 }
 
 /// A segment of an order: a party, a date, a line of goods, a quantity, ...
-fn order_segment(random: &mut Random, line: usize, released: bool) -> Segment {
+pub fn order_segment(random: &mut Random, line: usize, released: bool) -> Segment {
     match random.below(8) {
         0 => {
             let party = random.pick(&["BY", "SU", "DP", "IV"]);
@@ -96,18 +97,70 @@ fn order_segment(random: &mut Random, line: usize, released: bool) -> Segment {
     }
 }
 
+/// Which segments of an order have empty ends.
+#[derive(Clone, Copy, PartialEq, Eq)]
+pub enum Ends {
+    None,
+    Some,
+    One,
+    Each,
+}
+
+/// What an interchange consists of between UNB and UNZ.
+#[derive(Clone, Copy, PartialEq, Eq)]
+pub enum Shape {
+    /// One to four messages, now and then in a group.
+    Few,
+    /// Messages of some 150 bytes.
+    Messages,
+    /// Groups of one such message.
+    Groups,
+}
+
+/// How an interchange is made and spelled.
+#[derive(Clone, Copy)]
+pub struct Manner {
+    pub characters: ServiceCharacters,
+    pub advice: bool,
+    /// UNB's first element.
+    pub syntax: &'static str,
+    /// May names hold the standard's service characters?
+    pub released: bool,
+    pub ends: Ends,
+    pub shape: Shape,
+    /// Makes a segment of an order.
+    pub segment: fn(&mut Random, usize, bool) -> Segment,
+}
+
+pub const PLAIN: Manner = Manner {
+    characters: PRINTABLE,
+    advice: false,
+    syntax: "UNOA:2",
+    released: true,
+    ends: Ends::None,
+    shape: Shape::Few,
+    segment: order_segment,
+};
+
 struct Maker<'a> {
     random: &'a mut Random,
-    released: bool,
-    pads: bool,
+    manner: Manner,
     segments: Vec<Segment>,
+    padded: bool,
     bytes: usize,
 }
 
 impl Maker<'_> {
-    /// Adds a segment of the order, now and then with empty ends.
+    /// Adds a segment of the order, with empty ends where the manner has them.
     fn put_padded(&mut self, mut segment: Segment) {
-        if self.pads && self.random.chance(15) {
+        let pads = match self.manner.ends {
+            Ends::None => false,
+            Ends::Some => self.random.chance(15),
+            Ends::One => !self.padded,
+            Ends::Each => true,
+        };
+        self.padded |= pads;
+        if pads {
             segment.extend([value(""), element(":")]);
         }
         self.put(segment);
@@ -128,7 +181,7 @@ impl Maker<'_> {
         self.put_padded(order);
         while self.bytes + 60 < target {
             let line = self.segments.len() - first;
-            let segment = order_segment(self.random, line, self.released);
+            let segment = (self.manner.segment)(self.random, line, self.manner.released);
             self.put_padded(segment);
         }
         let count = self.segments.len() - first + 1;
@@ -139,20 +192,37 @@ impl Maker<'_> {
         let reference = figures(self.random, 10);
         self.put(vec![
             value("UNB"),
-            element("UNOA:2"),
+            element(self.manner.syntax),
             element("5790000000012:14"),
             element("4012345000009:14"),
             element("261115:0842"),
             value(&reference),
         ]);
+        let count = match self.manner.shape {
+            Shape::Few => self.few(target),
+            Shape::Messages => self.messages(target / 150, target),
+            Shape::Groups => {
+                let groups = target / 250;
+                (0..groups).for_each(|number| self.group(1, target * (number + 1) / groups));
+                groups
+            }
+        };
+        self.put(vec![value("UNZ"), value(count.to_string()), value(&reference)]);
+    }
+
+    /// One to four messages; what UNZ counts of them.
+    fn few(&mut self, target: usize) -> usize {
         let messages = self.random.between(1, 4);
         if self.random.chance(15) {
             self.group(messages, target);
-        } else {
-            (1..=messages).for_each(|number| self.message(target * number / messages));
+            return 1;
         }
-        let count = if self.segments[1][0][0][0] == b"UNG" { 1 } else { messages };
-        self.put(vec![value("UNZ"), value(count.to_string()), value(&reference)]);
+        self.messages(messages, target)
+    }
+
+    fn messages(&mut self, count: usize, target: usize) -> usize {
+        (1..=count).for_each(|number| self.message(target * number / count));
+        count
     }
 
     fn group(&mut self, messages: usize, target: usize) {
@@ -160,7 +230,7 @@ impl Maker<'_> {
         let mut header = vec![value("UNG"), value("ORDERS"), value("5790000000012")];
         header.extend([value("4012345000009"), element("261115:0842"), value(&reference)]);
         self.put(header);
-        (1..=messages).for_each(|number| self.message(target * number / messages));
+        self.messages(messages, target);
         self.put(vec![value("UNE"), value(messages.to_string()), value(&reference)]);
     }
 }
@@ -174,8 +244,14 @@ pub fn order(random: &mut Random, target: usize) -> Vec<u8> {
         _ => (INFORMATION_SEPARATORS, false),
     };
     let released = characters.release.is_some();
-    let pads = random.chance(25);
-    let mut maker = Maker { random, released, pads, segments: Vec::new(), bytes: 0 };
+    let ends = if random.chance(25) { Ends::Some } else { Ends::None };
+    order_in(Manner { characters, advice, released, ends, ..PLAIN }, random, target)
+}
+
+/// One interchange of about so many bytes, made in this manner.
+pub fn order_in(manner: Manner, random: &mut Random, target: usize) -> Vec<u8> {
+    let Manner { characters, advice, .. } = manner;
+    let mut maker = Maker { random, manner, segments: Vec::new(), padded: false, bytes: 0 };
     maker.interchange(target);
     Draft { characters, advice, level: Level::A, segments: maker.segments }.spelled()
 }

@@ -4,7 +4,11 @@ use std::time::Instant;
 
 use second::operations::{self, Comparison};
 
-use crate::{opaque, surface};
+use second::generator::Random;
+
+use crate::{opaque, orders, surface, SEED};
+
+const PAIRS: usize = 600;
 
 /// A kind of pair, by its name, and how its second input is made from the first.
 const KINDS: [(&str, fn(&[u8]) -> Vec<u8>, bool); 3] = [
@@ -32,11 +36,17 @@ fn one_digit_changed(order: &[u8]) -> Vec<u8> {
 }
 
 /// Prints, for each kind, the best time of ours and of the second program's, for each byte of the two inputs.
-pub fn report(orders: &[Vec<u8>], rounds: usize) {
+pub fn report(rounds: usize) {
+    let mut random = Random::new(SEED);
+    let mut order = || {
+        let target = random.between(1_000, 30_000);
+        orders::order(&mut random, target)
+    };
+    let orders: Vec<Vec<u8>> = (0..PAIRS).map(|_| order()).collect();
     println!("{:<20}{:>12}{:>12}{:>12}", "compare, ns a byte", "ours", "second's", "ratio");
     for (name, other, same) in KINDS {
         let (mut bytes, mut sums) = (0, [0u64; 2]);
-        for order in orders {
+        for order in &orders {
             let other = other(order);
             bytes += order.len() + other.len();
             let mut least = [u64::MAX; 2];

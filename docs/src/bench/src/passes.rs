@@ -1,60 +1,118 @@
-//! What each pass of Judge costs: an order that is spoiled so that one stage
-//! refuses it, at its end where the stage reads that far, is judged by the
-//! passes up to that stage. The difference of two such times is a pass.
+//! What each pass of ours costs. Judge asks the stages in turn only where its one
+//! walk finds something; so an order is spoiled where that walk begins, where it
+//! ends, or not at all, and differences of such times are passes.
 
-use second::refusal::{BYTE, INSIDE_SEGMENT, LEVEL, ORDER, REFERENCE};
+use std::time::Instant;
 
-/// A stage that refuses the spoiled order, and what its time has more than the
-/// stage's before it.
-pub struct Spoiled {
-    pub pass: &'static str,
-    /// 0 where nothing is spoiled.
-    pub number: u32,
+use second::refusal::{LEVEL, LONGEST, ORDER};
+
+use crate::sides::Buffers;
+use crate::{opaque, surface};
+
+const PASSES: [&str; 5] = ["the walk", "8", "13", "Normalise", "(4 5 6)"];
+
+/// What each pass costs, in nanoseconds a byte.
+pub type Costs = [f64; PASSES.len()];
+
+/// What is done to an order, and the number that refuses it then; 0 where nothing is
+/// done.
+struct Spoiled {
+    number: u32,
     spoil: fn(&mut Vec<u8>),
 }
 
-pub const STAGES: [Spoiled; 6] = [
-    Spoiled { pass: "(4 5 6)", number: INSIDE_SEGMENT, spoil: unended },
-    Spoiled { pass: "7", number: LEVEL, spoil: other_level },
-    Spoiled { pass: "8", number: BYTE, spoil: other_byte },
-    Spoiled { pass: "9", number: ORDER, spoil: other_trailer },
-    Spoiled { pass: "(10 11 12)", number: REFERENCE, spoil: other_reference },
-    Spoiled { pass: "13", number: 0, spoil: |_| {} },
+/// The stages (4 5 6), asked in turn; these and 8; the walk to its end and these;
+/// what an accepted order takes.
+const SPOILED: [Spoiled; 4] = [
+    Spoiled {
+        number: LEVEL,
+        spoil: |order| {
+            other_second(order);
+            other_level(order);
+        },
+    },
+    Spoiled { number: ORDER, spoil: other_second },
+    Spoiled { number: LEVEL, spoil: other_level },
+    Spoiled { number: 0, spoil: |_| {} },
 ];
 
 impl Spoiled {
-    /// The order, spoiled for this stage.
-    pub fn of(&self, order: &[u8]) -> Vec<u8> {
+    fn of(&self, order: &[u8]) -> Vec<u8> {
         let mut input = order.to_vec();
         (self.spoil)(&mut input);
         input
     }
+
+    fn judged(&self, input: &[u8]) -> u64 {
+        let began = Instant::now();
+        let answer = opaque(surface::judge(opaque(input)));
+        let time = began.elapsed().as_nanos() as u64;
+        assert_eq!(answer.err().map_or(0, |refusal| refusal.number), self.number);
+        time
+    }
 }
 
-fn unended(order: &mut Vec<u8>) {
-    order.pop();
-}
-
+/// UNB names a level that there is not, which is asked after the walk.
 fn other_level(order: &mut Vec<u8>) {
-    let level = order.windows(4).position(|bytes| bytes == b"UNOA");
+    let level = order.windows(3).position(|bytes| bytes == b"UNO");
     order[level.expect("an order names its level") + 3] = b'Y';
 }
 
-/// The last byte of UNZ's reference is in no level.
-fn other_byte(order: &mut Vec<u8>) {
-    let last = order.len() - 2;
-    order[last] = b'#';
+/// The segment behind UNB is a user segment, so that the walk ends there.
+fn other_second(order: &mut Vec<u8>) {
+    let second = order.windows(3).position(|tag| tag == b"UNH" || tag == b"UNG");
+    order[second.expect("an order has a second segment")] = b'X';
 }
 
-/// `END` stands for UNZ.
-fn other_trailer(order: &mut Vec<u8>) {
-    let trailer = order.windows(3).rposition(|bytes| bytes == b"UNZ");
-    let trailer = trailer.expect("an order has a trailer");
-    order[trailer..trailer + 3].copy_from_slice(b"END");
+fn normalised(input: &[u8], buffer: &mut [u8]) -> u64 {
+    let began = Instant::now();
+    let answer = opaque(surface::normalise(opaque(input), buffer));
+    assert!(answer.is_ok());
+    began.elapsed().as_nanos() as u64
 }
 
-/// The last digit of UNZ's reference is another.
-fn other_reference(order: &mut Vec<u8>) {
-    let last = order.len() - 2;
-    order[last] = if order[last] == b'0' { b'1' } else { b'0' };
+/// The shortest times of an order, spoiled so and so, and of its Normalise.
+fn shortest(order: &[u8], rounds: usize, buffers: &mut Buffers) -> Costs {
+    let spoiled = SPOILED.map(|spoiled| spoiled.of(order));
+    for (input, spoiled) in spoiled.iter().zip(&SPOILED) {
+        assert_eq!(buffers.agreed(input), spoiled.number == 0);
+    }
+    let mut buffer = vec![0; LONGEST];
+    let mut least = [u64::MAX; PASSES.len()];
+    for _ in 0..rounds {
+        for (number, input) in spoiled.iter().enumerate() {
+            least[number] = least[number].min(SPOILED[number].judged(input));
+        }
+        let last = &mut least[SPOILED.len()];
+        *last = (*last).min(normalised(order, &mut buffer));
+    }
+    least.map(|time| time as f64)
+}
+
+pub fn costs(orders: &[Vec<u8>], rounds: usize, buffers: &mut Buffers) -> Costs {
+    let bytes: usize = orders.iter().map(Vec::len).sum();
+    let mut sums = [0.0; PASSES.len()];
+    for order in orders {
+        let shortest = shortest(order, rounds, buffers);
+        sums.iter_mut().zip(shortest).for_each(|(sum, time)| *sum += time);
+    }
+    let [segments, to_bytes, walked, judged, normalised] = sums.map(|sum| sum / bytes as f64);
+    let (walk, level) = (walked - segments, to_bytes - segments);
+    [walk, level, judged - walk - level, normalised - judged, segments]
+}
+
+/// Prints what the passes cost in each flavour.
+pub fn print(flavours: &[(&str, Costs)]) {
+    println!(
+        "passes, ns a byte: Judge's walk over the segments, 8, 13; what Normalise takes more than \
+         Judge; (4 5 6), the first stage that is asked in turn where something is found"
+    );
+    print!("{:<30}", "");
+    PASSES.iter().for_each(|pass| print!("{pass:>11}"));
+    println!();
+    for (name, costs) in flavours {
+        print!("{name:<30}");
+        costs.iter().for_each(|cost| print!("{cost:>11.2}"));
+        println!();
+    }
 }

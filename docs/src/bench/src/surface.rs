@@ -103,6 +103,16 @@ extern "C" {
         input: *const u8,
         length: usize,
     ) -> NormaliseNumbers;
+    fn hverolda_write(
+        service: *const u8,
+        service_length: usize,
+        values: *const u8,
+        values_length: usize,
+        table: *const u32,
+        table_length: usize,
+        output: *mut u8,
+        room: usize,
+    ) -> NormaliseNumbers;
     fn hverolda_shelf_start(shelf: *mut u8, size: usize) -> StartNumbers;
     fn hverolda_shelf_put(
         shelf: *mut u8,
@@ -219,4 +229,22 @@ pub fn report(file: &[u8]) -> (usize, usize, usize) {
     let told = unsafe { hverolda_report(file.as_ptr(), file.len()) };
     assert_eq!(told.number, 0);
     (told.accepted as usize, told.refused.iter().sum::<u32>() as usize, told.total)
+}
+
+/// Write.
+pub fn write(service: &[u8], values: &[u8], table: &[u32], output: &mut [u8]) -> Answer<usize> {
+    // SAFETY: as in `normalise`.
+    let answer = unsafe {
+        hverolda_write(
+            service.as_ptr(),
+            service.len(),
+            values.as_ptr(),
+            values.len(),
+            table.as_ptr(),
+            table.len(),
+            output.as_mut_ptr(),
+            output.len(),
+        )
+    };
+    told(answer.number, answer.place, answer.length)
 }

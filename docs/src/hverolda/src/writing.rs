@@ -14,11 +14,11 @@ use crate::{surface, LONGEST};
 /// [`read`](crate::read) stores them; the values may stand anywhere in the
 /// bytes.
 ///
-/// Values may overlap, and all that the table names are looked at: without a
-/// release character 32,000 records of the same N bytes cost 32,000 * N steps
-/// before they are refused, some 2 s for N = 32,000. Who takes tables from
-/// strangers adds up the lengths first: more than 32,000 bytes in values are
-/// refused in any case.
+/// It costs a few steps for each record of the table and for each byte of the
+/// text, and stops where the text is over 32,000 bytes. Without a release
+/// character it first looks for service characters in all values (16), which may
+/// be of any length and overlap: some 1 ns for each byte lent, 10 ms for
+/// 10,000,000, and a few times that for a list that was made to be slow.
 ///
 /// # Errors
 ///

@@ -1,0 +1,4 @@
+pub mod Stretching
+pub mod Steps
+pub mod Alike
+pub mod Releasing
