@@ -9,8 +9,6 @@ use lib.ListN.{length}
 use Rattle.lists.specs.Lists.{if_then_else_}
 use Rattle.lists.proofs.Texts.{if-true}
 use Rattle.characters.specs.declared.Characters.{Characters}
-use Rattle.refusals.specs.declared.Outcome.{Outcome}
-use Rattle.refusals.specs.declared.Outcome.the-variants.{Passed}
 use Rattle.refusals.proofs.Stages.{passed-is}
 use Rattle.values.specs.Tokens.{ends, tokensAt}
 use Rattle.segments.specs.declared.Kind.{Kind}
@@ -34,6 +32,9 @@ use Rattle.stage_order.proofs.GoesOn.{goesAt, goes-over, goes-end, goes-next}
 use Rattle.stage_control.specs.declared.Headers.{Headers}
 use Rattle.stage_control.specs.Controlling.{headerKept, headersAfter, countDue, controlledBy}
 use Rattle.stage_control.proofs.Stage.{Passing, passing-begun, passing-within, passing-end, passing-next}
+use Rattle.ordinary_controls.specs.declared.Control.{Control}
+use Rattle.ordinary_controls.specs.declared.Control.the-variants as control
+use Rattle.ordinary_controls.specs.Standing.{Controls}
 use Rattle.clean_walk.specs.declared.Clean.the-variants as clean
 use Rattle.clean_walk.specs.declared.Step.{Step}
 use Rattle.clean_walk.specs.declared.Step.the-variants.{Next, Other}
@@ -71,11 +72,12 @@ module _ (c : Characters) (s : List ℕ) where
 
   -- and of a segment of any kind
   pub segment-passes : {at : ℕ} {walk stepped after : Walk} {headers kept : Headers} {kind : Kind} {section : Section} {p : Positions}
-      {reference header count : ℕ} {answer : Outcome} → NamedAs c s at kind → section ≡ sectionBegun kind (segmentAt c s at)
-      → fitsBy walk kind section ≡ true → p ≡ positionsOf kind → ElementAt c s at (p .reference) reference → header ≡ headerKept headers kind
-      → count ≡ countDue walk kind → answer ≡ controlledBy c s at p reference header count → answer ≡ Passed → stepped ≡ steppedBy walk kind
+      {reference header count : ℕ} {answer : Control} → NamedAs c s at kind → section ≡ sectionBegun kind (segmentAt c s at)
+      → fitsBy walk kind section ≡ true → p ≡ positionsOf kind → header ≡ headerKept headers kind → count ≡ countDue walk kind
+      → Controls c s at p header count answer → answer ≡ control.Passed reference → stepped ≡ steppedBy walk kind
       → after ≡ begunBy stepped section → kept ≡ headersAfter headers kind reference → Passes c s at walk headers after kept
-  segment-passes {at} {walk} {stepped} {after} {headers} {kept} {kind} {section} {p} {reference} n b f q e h m a o w v u =
+  segment-passes {at} {walk} {stepped} {after} {headers} {kept} {kind} {section} {p} {reference} {header} {count} n b f q h m a o w v u =
+      let (there, passed) = subst (Controls c s at p header count) o a in
       record {
         rule = n .0;
         kind = kind;
@@ -85,8 +87,8 @@ module _ (c : Characters) (s : List ℕ) where
         fits = f;
         after-is = v ∙ ap (λ (before : Walk). begunBy before section) w;
         reference = reference;
-        reference-at = subst (λ (r : Positions). ElementAt c s at (r .reference) reference) q e;
-        control = sym (a ∙ (λ i. controlledBy c s at (q i) reference (h i) (m i))) ∙ o;
+        reference-at = subst (λ (r : Positions). ElementAt c s at (r .reference) reference) q there;
+        control = sym (λ i. controlledBy c s at (q i) reference (h i) (m i)) ∙ passed;
         kept-is = u;
       }
 

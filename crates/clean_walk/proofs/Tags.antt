@@ -1,19 +1,16 @@
 -- The tag of a segment by the four bytes that spell it. Assumes nothing.
-use Prim.Native.Nat.{ℕ, _+_, _≤_, _<_}
-use mathlib.Core.Path.{_≡_, refl, sym, ap, _∙_}
-use mathlib.Core.Bool.{Bool, true, false, _&&_, _||_, or-comm, or-true, false≢true}
+use Prim.Native.Nat.{ℕ, _+_, _<_}
+use mathlib.Core.Path.{_≡_, refl, sym, ap, subst, _∙_}
+use mathlib.Core.Bool.{Bool, true, false, _&&_, _||_, or-comm, or-true}
 use mathlib.Core.List.{List, [], _∷_}
-use mathlib.Core.Logic.{_⊎_, inl, inr, ⊎-elim}
 use native.Mathlib.Omega.{arith}
 use lib.ListN.{length, getD}
 use lib.Dec.{eqb, leb}
 use borrow.Author.Tests.{ne-eqb, le-leb}
-use Rattle.lists.specs.Lists.{if_then_else_, text, begins, all}
+use Rattle.lists.specs.Lists.{text, begins, all}
 use Rattle.lists.proofs.Texts.{and-left, and-right, and-both}
 use Rattle.characters.specs.declared.Characters.{Characters}
-use Rattle.characters.specs.declared.Role.{Role}
-use Rattle.characters.specs.declared.Role.the-variants as role
-use Rattle.characters.specs.Characters.{role as roleIn, upper, digit, afterBreaks}
+use Rattle.characters.specs.Characters.{upper, digit}
 use Rattle.values.proofs.Steps.{at-plain}
 use Rattle.segments.specs.declared.Kind.{Kind}
 use Rattle.segments.specs.declared.Kind.the-variants.{Unb, Ung, Unh, Uns, Unt, Une, Unz, User}
@@ -22,17 +19,18 @@ use Rattle.segments.specs.Tags.{isTag, kindOf, tagRule}
 use Rattle.control_elements.specs.Positions.{positionTable, positionsOf}
 use Rattle.walk_laws.proofs.Places.{each}
 use Rattle.scanner.specs.declared.Lexed.the-variants.{Byte, Separator}
-use Rattle.scanner.specs.Scanner.{lexSeparator}
 use Rattle.scanner.specs.Scan.{segmentAt}
-use Rattle.scanner.proofs.Lexing.{Lexes, lex-separator, lexes-as}
+use Rattle.scanner.proofs.Lexing.{Lexes}
 use Rattle.tags.specs.declared.Word.{Word}
 use Rattle.tags.specs.Words.{begun, grown, passed, Words}
 use Rattle.tags.specs.Naming.{wellNamed}
 use Rattle.tags.proofs.Reading.{up-to-start, up-to-byte, word-ended}
 use Rattle.tags.proofs.Repeats.{repeat-with-value}
 use Rattle.tags.proofs.Tagging.{kind-begun, kind-three, rule-named}
-use Rattle.ordinary_runs.specs.Runs.{isOrdinary, quiet}
-use Rattle.ordinary_runs.proofs.Runs.{role-plain}
+use Rattle.ordinary_runs.specs.Runs.{isOrdinary, quiet, Run}
+use Rattle.ordinary_runs.proofs.Runs.{role-plain, run-none, run-next}
+use Rattle.ordinary_controls.specs.Standing.{Tagged}
+use Rattle.ordinary_controls.proofs.Standing.{ends-at}
 use Rattle.clean_walk.specs.Clean.{SpellsTag, NamedAs}
 
 -- ---- the rule, by three letters or digits
@@ -89,25 +87,6 @@ module _ (c : Characters) (s : List ℕ) where
         ended = and-right (calm && named) end e;
       }
 
-  -- the terminator and the element separator end the tag and its element
-  Ends : ℕ → Type 0
-  Ends at = (rank : ℕ) × (next : ℕ) × (rank ≤ 1) × Lexes c s at (Separator rank next)
-
-  ends-tag : (at : ℕ) → at < length s → (eqb (getD s at 0) (c .terminator) || eqb (getD s at 0) (c .element)) ≡ true → Ends at
-  unfolding roleIn lexSeparator Ends
-  ends-tag at h e =
-      ⊎-elim
-      (λ r. (0, afterBreaks s (at + 1), omega arith, lexes-as c s at (lex-separator c s at 0 h r) refl))
-      (λ r. (1, at + 1, omega arith, lexes-as c s at (lex-separator c s at 1 h r) refl))
-      (role-is (eqb (getD s at 0) (c .terminator)) (eqb (getD s at 0) (c .element)) _ e)
-    where
-      role-is : (t u : Bool) (o : Role) → (t || u) ≡ true
-          → ((if t then role.Separator 0 else if u then role.Separator 1 else o) ≡ role.Separator 0)
-          ⊎ ((if t then role.Separator 0 else if u then role.Separator 1 else o) ≡ role.Separator 1)
-      role-is true u o k = inl refl
-      role-is false true o k = inr refl
-      role-is false false o k = absurd (false≢true k)
-
   module _ (at : ℕ) (t : SpellsTag c s at) where
     abbrev a : ℕ
     a = getD s at 0
@@ -138,15 +117,13 @@ module _ (c : Characters) (s : List ℕ) where
         l
 
     kind-is : kindNamed (a ∷ b ∷ d ∷ []) ≡ kindOf (segmentAt c s at)
-    unfolding Ends
     kind-is =
-        let (rank, next, h, l) = ends-tag (at + 1 + 1 + 1) (t .inside) (t .ended) in
+        let (rank, next, h, l) = ends-at c s (at + 1 + 1 + 1) (t .inside) (t .ended) in
         kind-three c s at (word rank next) (word-is l) refl
 
     rule-is : true ≡ wellNamed (a ∷ b ∷ d ∷ []) true → tagRule (segmentAt c s at) ≡ true
-    unfolding Ends
     rule-is n =
-        let (rank, next, h, l) = ends-tag (at + 1 + 1 + 1) (t .inside) (t .ended) in
+        let (rank, next, h, l) = ends-at c s (at + 1 + 1 + 1) (t .inside) (t .ended) in
         let alone : leb rank 2 ≡ true = le-leb rank 2 (omega arith) in
         sym (rule-named c s at (word rank next) (word-is l) refl (n ∙ ap (wellNamed (a ∷ b ∷ d ∷ [])) (sym alone)) refl)
         ∙ repeat-with-value c s at (word rank next) (word-is l) (omega arith)
@@ -165,3 +142,13 @@ module _ (c : Characters) (s : List ℕ) where
       rule-is (service-well a b d (t .first) (t .second) (t .third) (ap (is User) (sym k) ∙ reference-serves kind h)),
       k ∙ kind-is,
     )
+
+    -- the tag of a segment whose control elements are asked for as they stand
+    pub tag-tagged : Tagged s at
+    tag-tagged =
+        let inside = t .inside in
+        let there : at + 1 + 1 + 1 ≡ at + 3 = omega arith in (
+          subst (Run true s at) there
+              (run-next s at refl (run-next s at refl (run-next s at refl (run-none s at) (omega arith) (t .first)) (omega arith) (t .second)) (omega arith) (t .third)),
+          omega arith,
+        )

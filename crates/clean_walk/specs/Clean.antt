@@ -50,7 +50,7 @@ module _ (c : Characters) (s : List ℕ) (at : ℕ) where
   NamedAs of = (tagRule (segmentAt c s at) ≡ true) × (of ≡ kindOf (segmentAt c s at))
 
   abbrev pub Tells : Tag → Type 0
-  Tells (tag.Named of) = NamedAs of
+  Tells (tag.Named of spelled) = NamedAs of × (spelled ≡ true → SpellsTag)
   Tells tag.Broken = Unit {0}
 
 -- ---- the segment

@@ -10,15 +10,19 @@ ghost use Rattle.refusals.specs.Limits.{mostBytes};
 ghost use Rattle.walk_laws.specs.Walking.{Within};
 ghost use Rattle.ordinary_runs.specs.Runs.{quiet};
 ghost use Rattle.segments.specs.declared.Kind.the-variants.{User};
+ghost use Rattle.ordinary_controls.specs.Standing.{Controls};
 ghost use Rattle.clean_walk.specs.Clean.{SpellsTag, NamedAs, Tells, userStep, Steps, Cleans};
 use characters::Characters;
+use control_elements::Positions;
 use control_positions::positions_of;
 use elements::element_at;
+use ordinary_controls::Control;
+use ordinary_controls::control_of;
 use ordinary_runs::is_ordinary;
 use ordinary_runs::is_quiet;
 use refusals::Outcome;
 use scanner::Scanned;
-use segment_ends::releasing;
+use scanner::releasing;
 use segment_ends::segment_ended;
 use segments::Kind;
 use segments::Section;
@@ -44,9 +48,10 @@ pub enum Clean {
     Other,
 }
 
-// The tag of a segment keeps the rule for tags, and it is a segment of this kind; or it may not keep it.
+// The tag of a segment keeps the rule for tags, and it is a segment of this kind; `spelled` says that the
+// tag's four bytes are read as they stand. Or it may not keep the rule.
 enum Tag {
-    Named(Kind),
+    Named { kind: Kind, spelled: bool },
     Broken,
 }
 
@@ -73,7 +78,10 @@ fn tag_read(s: &[u8], c: Characters, at: usize) -> Tag
     ensures { λ r. ⌜ Tells c (now (s .entry)) at r ⌝ }
 {
     if tag_holds(s, c, at) {
-        return Tag::Named(kind_at(s, c, at));
+        return Tag::Named {
+            kind: kind_at(s, c, at),
+            spelled: false,
+        };
     }
     Tag::Broken
 }
@@ -91,7 +99,10 @@ fn tag_at(s: &[u8], c: Characters, calm: bool, at: usize) -> Tag
     if positions_of(kind).reference == 0 {
         return tag_read(s, c, at);
     }
-    Tag::Named(kind)
+    Tag::Named {
+        kind,
+        spelled: true,
+    }
 }
 
 // Where it says yes, the tag keeps the rule, and it is a user segment's: it is told by its first byte.
@@ -111,8 +122,56 @@ enum Step {
     Other,
 }
 
-fn named_step(s: &[u8], c: Characters, at: usize, walk: Walk, headers: Headers, kind: Kind) -> Step
-    requires { ⌜ Within mostBytes walk × NamedAs c (now s) at kind ⌝ }
+// Stage (10 11 12) passes the segment, token by token.
+fn control_read(
+    s: &[u8],
+    c: Characters,
+    at: usize,
+    p: Positions,
+    header: usize,
+    count: u32,
+) -> Control
+    ensures { λ r. ⌜ Controls c (now (s .entry)) at p header count r ⌝ }
+{
+    let reference = element_at(s, c, at, p.reference);
+    match segment_control(s, c, at, p, reference, header, count) {
+        Outcome::Failed(_) => Control::Other,
+        Outcome::Passed => Control::Passed(reference),
+    }
+}
+
+// The same by the bytes as they stand, where they suffice.
+fn control_at(
+    s: &[u8],
+    c: Characters,
+    spelled: bool,
+    at: usize,
+    p: Positions,
+    header: usize,
+    count: u32,
+) -> Control
+    requires { ⌜ (spelled ≡ true → SpellsTag c (now s) at) ⌝ }
+    ensures { λ r. ⌜ Controls c (now (s .entry)) at p header count r ⌝ }
+{
+    if !spelled {
+        return control_read(s, c, at, p, header, count);
+    }
+    match control_of(s, c, at, p, header, count) {
+        Control::Passed(reference) => Control::Passed(reference),
+        Control::Other => control_read(s, c, at, p, header, count),
+    }
+}
+
+fn named_step(
+    s: &[u8],
+    c: Characters,
+    at: usize,
+    walk: Walk,
+    headers: Headers,
+    kind: Kind,
+    spelled: bool,
+) -> Step
+    requires { ⌜ Within mostBytes walk × NamedAs c (now s) at kind × (spelled ≡ true → SpellsTag c (now s) at) ⌝ }
     ensures { λ r. ⌜ Steps c (now (s .entry)) at walk headers r ⌝ }
 {
     let section = section_at(s, c, at, kind);
@@ -120,11 +179,10 @@ fn named_step(s: &[u8], c: Characters, at: usize, walk: Walk, headers: Headers, 
         return Step::Other;
     }
     let p = positions_of(kind);
-    let reference = element_at(s, c, at, p.reference);
     let header = header_of(headers, kind);
-    match segment_control(s, c, at, p, reference, header, true_count(walk, kind)) {
-        Outcome::Failed(_) => Step::Other,
-        Outcome::Passed => Step::Next {
+    match control_at(s, c, spelled, at, p, header, true_count(walk, kind)) {
+        Control::Other => Step::Other,
+        Control::Passed(reference) => Step::Next {
             walk: begun(stepped(walk, kind), section),
             headers: passed_header(headers, kind, reference),
         },
@@ -150,7 +208,7 @@ fn step_by(s: &[u8], c: Characters, at: usize, walk: Walk, headers: Headers, tag
     ensures { λ r. ⌜ Steps c (now (s .entry)) at walk headers r ⌝ }
 {
     match tag {
-        Tag::Named(kind) => named_step(s, c, at, walk, headers, kind),
+        Tag::Named { kind, spelled } => named_step(s, c, at, walk, headers, kind, spelled),
         Tag::Broken => Step::Other,
     }
 }

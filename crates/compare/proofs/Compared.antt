@@ -1,6 +1,6 @@
 -- What Compare answers, from what Judge says of the two inputs and from their normal forms. Assumes nothing.
-use Prim.Native.Nat.{ℕ, _≤_}
-use mathlib.Core.Path.{_≡_, refl, sym, ap, ap₂, _∙_}
+use Prim.Native.Nat.{ℕ, _+_, _*_, _≤_}
+use mathlib.Core.Path.{_≡_, refl, sym, ap, ap₂, subst, _∙_}
 use mathlib.Core.Bool.{Bool, true, false, _&&_}
 use mathlib.Core.List.{List, [], _∷_}
 use mathlib.Core.Option.{Option, none, some}
@@ -28,10 +28,10 @@ use Rattle.contracts.proofs.Told.{given-refused, given-is, refused-is}
 use Rattle.operations.specs.Judge.{figuresOf, normaliseRefusal, normalise, normaliseBuffer}
 use Rattle.operations.specs.Compare.{isAccepted, areSame, compare}
 use Rattle.operations.proofs.Answered.{compare-by, normalise-judged, normalise-given, normalises}
-use Rattle.normal_form_laws.proofs.Theorems.{normal-length}
+use Rattle.normal_form_laws.proofs.Theorems.{normal-length, normal-form}
 use Rattle.judge.proofs.Told.{length-of}
 use Rattle.refusals.specs.Limits.{mostBytes}
-use Rattle.compare.specs.Forms.{Room, comparedTo}
+use Rattle.compare.specs.Forms.{IsForm, Room, comparedTo}
 
 -- ---- what is known of an accepted input
 
@@ -56,8 +56,15 @@ form-held s {n = n} {after = after} known e d =
 pub long-room : (s : List ℕ) → Room (replicate mostBytes 0) s
 long-room s e = omega (arith, form-fits s e, length-replicate {A = ℕ} mostBytes 0)
 
-pub short-room : (s : List ℕ) → length s ≤ 1019 → Room (replicate 2048 0) s
-short-room s h e = omega (arith, normal-length s e, length-replicate {A = ℕ} 2048 0)
+-- "For n input bytes it has at most 2n + 9."
+pub room-for : (n : ℕ) (s : List ℕ) → 2 * length s + 9 ≤ n → Room (replicate n 0) s
+room-for n s h e = omega (arith, normal-length s e, length-replicate {A = ℕ} n 0)
+
+-- a text that is the normal form of an accepted input is one
+pub form-is : (s : List ℕ) {text : List ℕ} → refusalOf s ≡ none → text ≡ normalForm s → IsForm text
+form-is s e d =
+    let n = normal-form s e in
+    subst IsForm (sym d) (n .accepted, n .own-form)
 
 -- ---- what Normalise says of an input
 
@@ -107,6 +114,13 @@ module _ (text second : List ℕ) where
     pub text-differs : same text (normalForm second) ≡ false → toldCompared Different ≡ comparedTo text second
     unfolding toldCompared
     text-differs h = by-text false h
+
+-- what has the bytes of a normal form has that normal form
+pub bytes-form : (text second : List ℕ) → IsForm text → same text second ≡ true → toldCompared Same ≡ comparedTo text second
+bytes-form text second form h =
+    let e : text ≡ second = same-eq text second h in
+    subst (λ (s : List ℕ). toldCompared Same ≡ comparedTo text s) e
+    (text-same text text (form .0) (ap (same text) (form .1) ∙ same-refl text))
 
 -- ---- what is answered
 

@@ -9,6 +9,10 @@ use Rattle.stages.specs.Contents.{normalForm}
 use Rattle.stages.specs.Stages.{refusalOf}
 use Rattle.answers.specs.Answers.{Answer, given, refusedInput}
 
+-- the text is accepted, and is its own normal form
+abbrev pub IsForm : List ℕ → Type 0
+IsForm text = (refusalOf text ≡ none) × (normalForm text ≡ text)
+
 -- the buffer has room for the normal form of the input, if that is accepted
 abbrev pub Room : (buffer s : List ℕ) → Type 0
 Room buffer s = refusalOf s ≡ none → length (normalForm s) ≤ length buffer

@@ -2,9 +2,12 @@
 // element or a component of a repeat begins, whether a byte of a value stands in a piece, and a value
 // byte by byte up to its end. It promises the pieces into which `values` cuts the larger piece, by their
 // numbers. What trimming leaves of them is left to `trimmed_values`.
+ghost use Prim.Native.Nat.{_+_, _≤_};
 ghost use mathlib.Core.Path.{_≡_};
+ghost use lib.ListN.{length};
 ghost use Rattle.values.specs.Tokens.{tokensAt};
 ghost use Rattle.elements.specs.Elements.{PieceAt, SegmentAt, ElementAt, RepeatAt, ComponentAt, holdsByte};
+ghost use Rattle.elements.specs.Sixteen.{weight, Separators, GoesOn};
 ghost use Rattle.elements.specs.Values.{EndsAt, NextAt};
 use characters::Characters;
 use scanner::Lexed;
@@ -54,12 +57,68 @@ pub fn segment_at(s: &[u8], c: Characters, start: usize, number: usize) -> usize
     piece_at(s, c, start, 0, number)
 }
 
+// What a byte adds to the sum of sixteen: an element separator 1, and a byte that may end the segment or
+// take the next one with it 15.
+fn weight(c: Characters, b: u8) -> u8
+    ensures { λ r. ⌜ r ≡ weight c b ⌝ }
+{
+    if (b == c.terminator) | (b == c.release) {
+        return 15;
+    }
+    if b == c.element { 1 } else { 0 }
+}
+
+// How many of sixteen bytes are element separators, if fewer than 15; else nothing is told. It never ends
+// early, so that all are asked at once.
+fn separators(s: &[u8], c: Characters, from: usize) -> u8
+    requires { ⌜ from + 16 ≤ length (now s) ⌝ }
+    ensures { λ r. ⌜ Separators c (now (s .entry)) from (from + 16) r ⌝ }
+{
+    let mut sum: u8 = 0;
+    let mut number: usize = 0;
+    while number < 16 {
+        sum += weight(c, s[from + number]);
+        number += 1;
+    }
+    sum
+}
+
+// The place at which the search for an element goes on, and the number that the element has from there.
+struct Search {
+    at: usize,
+    left: usize,
+}
+
+// The search past as many times sixteen bytes as it can be told of that they only pass elements.
+fn past_sixteens(s: &[u8], c: Characters, from: usize, position: usize) -> Search
+    ensures { λ r. ⌜ GoesOn c (now (s .entry)) from position r ⌝ }
+{
+    let mut at = from;
+    let mut left = position;
+    while at < s.len() {
+        if s.len() - at < 16 {
+            return Search { at, left };
+        }
+        let passed = separators(s, c, at);
+        if 15 <= passed {
+            return Search { at, left };
+        }
+        if left <= passed as usize {
+            return Search { at, left };
+        }
+        at += 16;
+        left -= passed as usize;
+    }
+    Search { at, left }
+}
+
 // Where the element of that number begins in the segment that begins at `from`; 0 is the tag.
 // The input's length where the segment has no such element.
 pub fn element_at(s: &[u8], c: Characters, from: usize, position: usize) -> usize
     ensures { λ r. ⌜ ElementAt c (now (s .entry)) from position r ⌝ }
 {
-    piece_at(s, c, from, 1, position)
+    let search = past_sixteens(s, c, from, position);
+    piece_at(s, c, search.at, 1, search.left)
 }
 
 // Where the repeat of that number begins in the element that begins at `from`. The input's length where

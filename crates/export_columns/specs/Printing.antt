@@ -71,6 +71,10 @@ heldText l =
 abbrev pub grown : Line → Line
 grown l = record { end = l .end + length (numbersDue l) + 1; position = l .position; begun = true; held = nothing }
 
+-- so many bytes more of a value of which some are printed
+abbrev pub longer : ℕ → Line → Line
+longer count l = record { end = l .end + count; position = l .position; begun = l .begun; held = l .held }
+
 -- a byte of a value lets out what is held back
 abbrev pub afterByte : Line → Line
 afterByte l = grown (pastHeld l)

@@ -4,7 +4,7 @@
 // buffer at exit: what is beyond the text, and all of it where something is refused, keeps its values.
 ghost use mathlib.Core.Path.{_≡_};
 ghost use mathlib.Core.Option.{none};
-ghost use Prim.Native.Nat.{_+_, _≤_};
+ghost use Prim.Native.Nat.{_+_, _≤_, _<_};
 ghost use lib.ListN.{length};
 ghost use lib.Seq.{sets};
 ghost use Rattle.refusals.specs.Limits.{mostBytes};
@@ -12,7 +12,7 @@ ghost use Rattle.values.specs.Tokens.{tokensAt};
 ghost use Rattle.stages.specs.Stages.{refusalOf};
 ghost use Rattle.operations.specs.Judge.{figuresOf};
 ghost use Rattle.columns.specs.Promises.{Exports};
-ghost use Rattle.export_columns.specs.Printing.{first, holding, numbersDue, begunLine, lineEnd, nextLine, marksText, afterMarks, pastHeld, heldText, grown, afterByte, byteText, afterSeparator, separatorText, linesRest, linesOf, Room, Roomy};
+ghost use Rattle.export_columns.specs.Printing.{first, holding, numbersDue, begunLine, lineEnd, nextLine, marksText, afterMarks, pastHeld, heldText, grown, longer, afterByte, byteText, afterSeparator, separatorText, linesRest, linesOf, Room, Roomy};
 use answers::Figures;
 use answers::Judged;
 use answers::Stored;
@@ -24,6 +24,8 @@ use column_lines::put_numbers;
 use emission_laws::Held;
 use held_separators::after_separator;
 use held_separators::nothing_held;
+use plain_runs::past_plain;
+use plain_runs::put_plain;
 use refusals::Fault;
 use refusals::Refusal;
 use scanner::Lexed;
@@ -129,6 +131,21 @@ fn with_one_more(l: Line) -> Line
     }
 }
 
+// With so many bytes more of the open value, of which some are there.
+fn with_more(l: Line, count: usize) -> Line
+    requires { ⌜ l .end + count < 18446744073709551616 ⌝ }
+    ensures { λ r. ⌜ r ≡ longer count l ⌝ }
+{
+    let position = l.position;
+    let held = l.held;
+    Line {
+        end: l.end + count,
+        position,
+        begun: l.begun,
+        held,
+    }
+}
+
 // Past a byte of a value, which lets out what is held back.
 fn with_byte(l: Line) -> Line
     requires { ⌜ Roomy l 1 ⌝ }
@@ -162,7 +179,8 @@ fn with_separator(l: Line, rank: u8) -> Line
     with_held(l, held)
 }
 
-// How long the text of the body is that begins at `start`.
+// How long the text of the body is that begins at `start`. The plain bytes that follow one of a value are
+// counted at once.
 fn text_length(s: &[u8], c: Characters, start: usize) -> usize
     requires { ⌜ length (now s) ≤ mostBytes ⌝ }
     ensures { λ r. ⌜ r ≡ length (linesOf (tokensAt c (now (s .entry)) start)) ⌝ }
@@ -176,8 +194,8 @@ fn text_length(s: &[u8], c: Characters, start: usize) -> usize
                 place: _,
                 next,
             } => {
-                l = with_byte(l);
-                at = next;
+                at = past_plain(s, c, next);
+                l = with_more(with_byte(l), at - next);
             }
             Lexed::Separator { rank, next } => {
                 l = with_separator(l, rank);
@@ -278,7 +296,8 @@ fn put_separator(buffer: &mut [u8], l: Line, rank: u8) -> Line
     with_held(l, held)
 }
 
-// Stores the lines of the body that begins at `start`, after the heading.
+// Stores the lines of the body that begins at `start`, after the heading. The plain bytes that follow one of
+// a value are copied at once.
 fn put_lines(buffer: &mut [u8], s: &[u8], c: Characters, start: usize)
     requires { ⌜ (length (now s) ≤ mostBytes) × (39 + length (linesRest first (tokensAt c (now s) start)) ≤ length (now buffer)) ⌝ }
     ensures { λ _. ⌜ now (buffer .exit) ≡ sets (now (buffer .entry)) 39 (linesRest first (tokensAt c (now (s .entry)) start)) ⌝ }
@@ -292,8 +311,10 @@ fn put_lines(buffer: &mut [u8], s: &[u8], c: Characters, start: usize)
                 place: _,
                 next,
             } => {
-                l = put_byte(buffer, l, byte);
-                at = next;
+                let begun = put_byte(buffer, l, byte);
+                at = past_plain(s, c, next);
+                put_plain(buffer, begun.end, s, next, at);
+                l = with_more(begun, at - next);
             }
             Lexed::Separator { rank, next } => {
                 l = put_separator(buffer, l, rank);

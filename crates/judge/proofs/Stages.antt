@@ -1,11 +1,11 @@
 -- What each stage of the code finds is what its stage of the paper answers. Assumes nothing.
-use Prim.Native.Nat.{ℕ, suc, _+_, _-_, _<_, _≤_}
+use Prim.Native.Nat.{ℕ, suc, _+_, _<_, _≤_}
 use mathlib.Core.Path.{_≡_, refl, sym, ap, ap₂, subst, _∙_}
 use mathlib.Core.Bool.{Bool, true, false}
 use mathlib.Core.List.{List, [], _∷_, _++_, map, reverse}
 use mathlib.Core.Option.{Option, none, some}
 use native.Mathlib.Omega.{arith}
-use lib.ListN.{length}
+use lib.ListN.{length, drop}
 use lib.Dec.{eqb, ltb, lit≤}
 use borrow.Author.Tests.{lt-ltb, le-ltb, eqb-false, eq-eqb, ne-eqb}
 use Rattle.lists.specs.Lists.{if_then_else_, all, any, those, text, same, at, maybe, through}
@@ -33,8 +33,8 @@ use Rattle.stages.specs.Stages.{placesOf, brackets, bracketsIn, bracketed, stag
 use Rattle.stages.proofs.Stages.{unmet, run-on, run-none}
 use Rattle.emission_laws.specs.Emission.{nothing, emitted}
 use Rattle.verbatim.specs.Verbatim.{faultless, visible}
-use Rattle.stage_length.specs.Bound.{mostContents}
-use Rattle.stage_length.proofs.Bound.{contents-most}
+use Rattle.length_bound.specs.Bound.{mostContents}
+use Rattle.length_bound.proofs.Bound.{contents-most}
 use Rattle.stage_walks.specs.Walks.{ordered}
 use Rattle.stage_walks.proofs.Walks.{ordered-answers}
 use Rattle.stage_opening.specs.declared.Found.{Found}
@@ -301,7 +301,7 @@ module _ (s : List ℕ) (e : answering (stagesIn s 1 12) ≡ none) {found : Foun
     measured-form k = omega (arith, k, measure-is, form-length s read)
 
     -- the normal form is not longer than its bound
-    pub form-most : length (normalForm s) ≤ mostContents (found .characters) r (length s - found .start) + 9
+    pub form-most : length (normalForm s) ≤ mostContents (found .characters) r (drop (found .start) s) + 9
     form-most = omega (arith, measured-form {n = measure} refl, contents-most (found .characters) r s (found .start))
 
 module _ (s : List ℕ) (n : ℕ) (e : n ≡ length (normalForm s)) where

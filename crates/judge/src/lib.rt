@@ -25,6 +25,7 @@ use stage_opening::Found;
 use stage_opening::Progress;
 use stage_opening::refused;
 use stage_order::Ordered;
+use verbatim::is_normal;
 
 // What was found before a stage that passes, or the stage's refusal.
 fn after(found: Found, stage: Outcome) -> Progress
@@ -193,7 +194,8 @@ pub fn stages_to_12(s: &[u8]) -> Progress
 }
 
 // A length that the normal form does not exceed, of an input that 1 to 12 pass: where it is at most
-// 32,000, 13 passes too, and nothing need be measured.
+// 32,000, 13 passes too, and nothing need be measured. A short body has room to double, and then nothing
+// need be counted either.
 pub fn most_length(s: &[u8], found: Found) -> usize
     requires { ⌜ (answering (stagesIn (now s) 1 12) ≡ none) × (found ≡ foundBy 12 (now s)) ⌝ }
     ensures { λ r. ⌜ length (normalForm (now (s .entry))) ≤ r ⌝ }
@@ -201,7 +203,11 @@ pub fn most_length(s: &[u8], found: Found) -> usize
     let c = found.characters;
     let start = found.start;
     let repetition = stage_level::normal_repetition(s, c, start);
-    stage_length::at_most(s, c, start, repetition) + 9
+    let twice = 2 * (s.len() - start) + 9;
+    if (twice <= refusals::MOST_BYTES) & !is_normal(c, repetition) {
+        return twice;
+    }
+    length_bound::at_most(s, c, start, repetition) + 9
 }
 
 // 13, of an input that all others passed: the length of the normal form.

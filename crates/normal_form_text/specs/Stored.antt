@@ -1,5 +1,5 @@
 -- A part of a body that is stored. Assumes nothing.
-use Prim.Native.Nat.{ℕ, _+_, _*_, _≤_, _<_}
+use Prim.Native.Nat.{ℕ, _+_, _≤_}
 use mathlib.Core.Path.{_≡_}
 use mathlib.Core.List.{List}
 use lib.ListN.{length}
@@ -7,21 +7,16 @@ use lib.Seq.{sets}
 use Rattle.characters.specs.declared.Characters.{Characters}
 use Rattle.stretches.specs.declared.Reached.{Reached}
 use Rattle.stretches.specs.Stretches.{emittedAt}
+use Rattle.stage_length.specs.Measured.{Measured}
 
 -- there is room for what is emitted from a place on
 abbrev pub Fits : Characters → Characters → List ℕ → List ℕ → Reached → Type 0
 Fits c n s buffer r = r .total + length (emittedAt c n s (r .at)) ≤ length buffer
 
--- What is emitted from a place on is stored up to another one, which lies behind it unless nothing is left: the rest, stored from there, gives
--- what the whole gives, and the text has the same length. Two bytes are spelled for each byte passed, at most, after the nine of an advice.
+-- What is emitted from a place on is stored up to another one: the rest, stored from there, gives what the whole gives.
 pub record Stored (c n : Characters) (s buffer stored : List ℕ) (from r : Reached) : Type 0 where
   pub same : sets buffer (from .total) (emittedAt c n s (from .at)) ≡ sets stored (r .total) (emittedAt c n s (r .at))
-  pub counted : from .total + length (emittedAt c n s (from .at)) ≡ r .total + length (emittedAt c n s (r .at))
-  pub fits : Fits c n s stored r
-  pub low : r .total ≤ 9 + 2 * r .at
-  pub on : from .at ≤ r .at
-  pub further : from .at < length s → from .at < r .at
-  pub inside : r .at ≤ length s
+  pub measured : Measured c n s from r
 
 -- a text is stored from a place on, and this is the place after it
 abbrev pub PutAt : (buffer : List ℕ) (from : ℕ) (text stored : List ℕ) (end : ℕ) → Type 0

@@ -1,3 +1,4 @@
 pub mod Marks
 pub mod Contents
 pub mod Steps
+pub mod Runs

@@ -63,6 +63,10 @@ pastHeld l = afterMarks 2 (l .held .components) (pastRepeats l)
 abbrev pub grown : Listing → Listing
 grown l = record { records = l .records; kind = l .kind; start = l .start; size = l .size + 1; held = nothing }
 
+-- so many bytes more in an open value that has some
+abbrev pub longer : ℕ → Listing → Listing
+longer count l = record { records = l .records; kind = l .kind; start = l .start; size = l .size + count; held = l .held }
+
 -- a byte of a value lets out what is held back
 abbrev pub afterByte : Listing → Listing
 afterByte l = grown (pastHeld l)

@@ -5,12 +5,13 @@ ghost use mathlib.Core.Path.{_≡_};
 ghost use Prim.Native.Nat.{_+_, _≤_};
 ghost use lib.ListN.{length};
 ghost use Rattle.values.specs.Tokens.{tokensAt};
-ghost use Rattle.read_counts.specs.Tally.{fresh, values, end, afterMarks, pastHeld, grown, afterByte, afterSeparator, Tallies};
+ghost use Rattle.read_counts.specs.Tally.{fresh, values, end, afterMarks, pastHeld, grown, longer, afterByte, afterSeparator, Tallies};
 ghost use Rattle.refusals.specs.Limits.{mostBytes};
 use characters::Characters;
 use emission_laws::Held;
 use held_separators::after_separator;
 use held_separators::nothing_held;
+use plain_runs::past_plain;
 use scanner::Lexed;
 use scanner::lex;
 
@@ -89,6 +90,21 @@ pub fn with_one_more(l: Listing) -> Listing
     }
 }
 
+// With so many bytes more in the open value, of which some are there.
+pub fn with_more(l: Listing, count: usize) -> Listing
+    requires { ⌜ l .size + count ≤ mostBytes ⌝ }
+    ensures { λ r. ⌜ r ≡ longer count l ⌝ }
+{
+    let held = l.held;
+    Listing {
+        records: l.records,
+        kind: l.kind,
+        start: l.start,
+        size: l.size + count,
+        held,
+    }
+}
+
 // Past a byte of a value, which lets out what is held back.
 pub fn with_byte(l: Listing) -> Listing
     requires { ⌜ (values l ≤ mostBytes) × (end l ≤ mostBytes) ⌝ }
@@ -120,6 +136,7 @@ pub fn with_separator(l: Listing, rank: u8) -> Listing
     }
 }
 
+// The plain bytes that follow one of a value are counted at once.
 pub fn tally_of(s: &[u8], c: Characters, start: usize) -> Tally
     requires { ⌜ length (now s) ≤ mostBytes ⌝ }
     ensures { λ r. ⌜ Tallies (tokensAt c (now (s .entry)) start) r ⌝ }
@@ -133,8 +150,8 @@ pub fn tally_of(s: &[u8], c: Characters, start: usize) -> Tally
                 place: _,
                 next,
             } => {
-                l = with_byte(l);
-                at = next;
+                at = past_plain(s, c, next);
+                l = with_more(with_byte(l), at - next);
             }
             Lexed::Separator { rank, next } => {
                 l = with_separator(l, rank);

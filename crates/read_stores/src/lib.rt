@@ -12,9 +12,12 @@ ghost use Rattle.read_counts.specs.Tally.{entryOf, values, end, marksOut, after
 ghost use Rattle.read_stores.specs.Stores.{Room, Stores};
 ghost use Rattle.refusals.specs.Limits.{mostBytes};
 use characters::Characters;
+use plain_runs::past_plain;
+use plain_runs::put_plain;
 use read_counts::Listing;
 use read_counts::after_marks;
 use read_counts::start_of_list;
+use read_counts::with_more;
 use read_counts::with_one_more;
 use read_counts::with_separator;
 use scanner::Lexed;
@@ -82,7 +85,8 @@ fn put_separator(table: &mut [u32], l: Listing, rank: u8) -> Listing
     with_separator(l, rank)
 }
 
-// Stores the values of the body that begins at `start`.
+// Stores the values of the body that begins at `start`. The plain bytes that follow one of a value are
+// copied at once.
 pub fn put_values(buffer: &mut [u8], table: &mut [u32], s: &[u8], c: Characters, start: usize)
     requires { ⌜ (length (now s) ≤ mostBytes) × Room (now buffer) (now table) (tokensAt c (now s) start) ⌝ }
     ensures { λ _. ⌜ Stores (now (buffer .entry)) (now (table .entry)) (tokensAt c (now (s .entry)) start) (now (buffer .exit)) (now (table .exit)) ⌝ }
@@ -96,8 +100,10 @@ pub fn put_values(buffer: &mut [u8], table: &mut [u32], s: &[u8], c: Characters,
                 place: _,
                 next,
             } => {
-                l = put_value_byte(buffer, table, l, byte);
-                at = next;
+                let begun = put_value_byte(buffer, table, l, byte);
+                at = past_plain(s, c, next);
+                put_plain(buffer, begun.start + begun.size, s, next, at);
+                l = with_more(begun, at - next);
             }
             Lexed::Separator { rank, next } => {
                 l = put_separator(table, l, rank);

@@ -107,7 +107,7 @@ pub enum Scanned {
 }
 
 // The byte that takes the next one with it, or the terminator where no byte does.
-fn releasing(c: Characters) -> u8
+pub fn releasing(c: Characters) -> u8
     ensures { λ r. ⌜ r ≡ releasing c (role c (c .release)) ⌝ }
 {
     match role_of(c, c.release) {

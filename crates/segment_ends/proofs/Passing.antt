@@ -3,12 +3,11 @@ use Prim.Native.Nat.{ℕ, _+_, _-_, _≤_, _<_}
 use mathlib.Core.Path.{_≡_, refl, sym, ap, _∙_, subst}
 use mathlib.Core.Bool.{Bool, true, false, not, _&&_, _||_, false≢true}
 use mathlib.Core.List.{List}
-use mathlib.Core.Logic.{inl, inr}
 use native.Mathlib.Omega.{arith}
 use lib.ListN.{length, getD}
 use lib.Dec.{eqb}
-use mir.Val.{boolByte}
-use borrow.Author.Tests.{eqb-true, eqb-false, not-false}
+use borrow.Author.Tests.{eqb-true, eqb-false}
+use Rattle.lists.proofs.Texts.{or-none-left, or-none-right}
 use Rattle.characters.specs.declared.Characters.{Characters}
 use Rattle.characters.specs.declared.Role.{Role}
 use Rattle.characters.specs.declared.Role.the-variants as role
@@ -16,52 +15,16 @@ use Rattle.characters.specs.Characters.{role as roleIn, isService, afterBreaks}
 use Rattle.values.specs.Tokens.{tokensAt}
 use Rattle.line_breaks.proofs.Passing.{after-least, after-most}
 use Rattle.spelling_laws.proofs.Service.{serves, service-serves}
+use Rattle.release_marks.specs.Marks.{misread, Reached}
+use Rattle.release_marks.proofs.Reaching.{reached-next}
 use Rattle.scanner.specs.declared.Scanned.{Scanned}
 use Rattle.scanner.specs.declared.Scanned.the-variants.{Ended, Stray, Unended}
 use Rattle.scanner.specs.Scan.{scanned, ended, releasing, Others, Scans}
-use Rattle.scanner.proofs.Scanning.{releases, scan-other, scan-others, scan-ends, release-separator, release-release, passed-one, others-none, others-next}
+use Rattle.scanner.proofs.Scanning.{releases, scan-other, scan-others, scan-ends, release-separator, release-release, passed-one}
 use Rattle.segment_ends.specs.declared.Passed.{Passed}
 use Rattle.segment_ends.specs.declared.Passed.the-variants as passed
-use Rattle.segment_ends.specs.Sixteen.{mark, Marks, Moves}
-
--- ---- the marks
-
-pub mark-most : (found : Bool) (number : ℕ) → mark found number ≤ number + 33
-mark-most true number = omega arith
-mark-most false number = omega arith
-
-module _ (a b : ℕ) (s : List ℕ) (from : ℕ) where
-  pub marks-none : Marks a b s from 0 0
-  marks-none = inl (refl, λ k l m. absurd (omega arith))
-
-  -- one byte more
-  pub marks-next : {count sum : ℕ} {found : Bool} → Marks a b s from count sum → from + count < length s
-      → found ≡ (eqb (getD s (from + count) 0) a || eqb (getD s (from + count) 0) b) → Marks a b s from (count + 1) (sum + mark found count)
-  marks-next {count} {sum} {found = false} (inl (z, o)) h e =
-      inl (omega arith, λ k l m. others-next a b s from {at = from + count} {found = false} {now = false} (λ _. o) h e refl k l (omega arith))
-  marks-next {count} {sum} {found = true} (inl (z, o)) h e = inr (inl (count, omega arith, omega arith, o))
-  marks-next {count} {sum} {found = false} (inr (inl (n, z, l, o))) h e = inr (inl (n, omega arith, omega arith, o))
-  marks-next {count} {sum} {found = true} (inr (inl (n, z, l, o))) h e = inr (inr (omega arith))
-  marks-next {count} {sum} {found} (inr (inr l)) h e = inr (inr (omega arith))
-
-  pub marks-all : {count sum : ℕ} → Marks a b s from count sum → count ≤ 16 → 16 ≤ count → Marks a b s from 16 sum
-  marks-all {count} {sum} m h k = subst (λ (n : ℕ). Marks a b s from n sum) (omega arith) m
-
-  -- what the sum tells
-  pub marks-clear : {count sum : ℕ} → Marks a b s from count sum → sum ≡ 0 → Others a b s from (from + count)
-  marks-clear (inl (z, o)) e = o
-  marks-clear (inr (inl (n, z, l, o))) e = absurd (omega arith)
-  marks-clear (inr (inr l)) e = absurd (omega arith)
-
-  pub marks-least : {count sum : ℕ} → Marks a b s from count sum → (sum ≡ 0 → ⊥) → 33 ≤ sum
-  marks-least (inl (z, o)) e = absurd (e z)
-  marks-least (inr (inl (n, z, l, o))) e = omega arith
-  marks-least (inr (inr l)) e = omega arith
-
-  pub marks-one : {count sum : ℕ} → Marks a b s from count sum → (sum ≡ 0 → ⊥) → sum < 49 → Others a b s from (from + (sum - 33))
-  marks-one (inl (z, o)) e h = absurd (e z)
-  marks-one (inr (inl (n, z, l, o))) e h = λ k i j. o k i (omega arith)
-  marks-one (inr (inr l)) e h = absurd (omega arith)
+use Rattle.segment_ends.specs.Moving.{Moves}
+use Rattle.segment_ends.specs.Releases.{Told, stops}
 
 -- ---- one token
 
@@ -95,19 +58,6 @@ module _ (c : Characters) (s : List ℕ) (at : ℕ) where
         → Moves c s at (passed.On (at + 1 + 1))
     goes-over h t r v = (omega arith, omega arith, taken (releases c (getD s at 0) release e r t) h v)
 
-    -- either of them
-    pub goes-on : at + 1 < length s → (getD s at 0 ≡ c .terminator → ⊥)
-        → (eqb (getD s at 0) release && not (isService c (getD s (at + 1) 0))) ≡ false
-        → Moves c s at (passed.On (at + 1 + boolByte (eqb (getD s at 0) release)))
-    goes-on h t = by-byte (eqb (getD s at 0) release) refl
-      where
-        by-byte : (u : Bool) → eqb (getD s at 0) release ≡ u → (u && not (isService c (getD s (at + 1) 0))) ≡ false
-            → Moves c s at (passed.On (at + 1 + boolByte u))
-        by-byte true q o = goes-over h t (eqb-true (getD s at 0) release q) (not-false (isService c (getD s (at + 1) 0)) o)
-        by-byte false q o =
-            let m = goes-past (omega arith) t (eqb-false (getD s at 0) release q) in
-            (omega arith, omega arith, m .2 ∙ ap (λ (p : ℕ). scanned (tokensAt c s p)) (omega arith))
-
     -- bytes that are neither tell nothing, however many
     pub goes-far : {to : ℕ} → at ≤ to → Others (c .terminator) release s at to → scanned (tokensAt c s at) ≡ scanned (tokensAt c s to)
     goes-far h o = scan-others c s e (h, o)
@@ -128,3 +78,37 @@ module _ (c : Characters) (s : List ℕ) (at : ℕ) where
   -- what a match on the answer shows
   pub moves-as : {r answer : Passed} → Moves c s at answer → answer ≡ r → Moves c s at r
   moves-as m q = subst (λ (a : Passed). Moves c s at a) q m
+
+-- ---- between release characters
+
+-- the byte that takes the next one with it is the release character, unless it is the terminator
+pub release-role : (c : Characters) {release : ℕ} → release ≡ releasing c (roleIn c (c .release)) → (release ≡ c .terminator → ⊥)
+    → roleIn c (c .release) ≡ role.Release
+release-role c e t = step (roleIn c (c .release)) refl
+  where
+    step : (o : Role) → roleIn c (c .release) ≡ o → roleIn c (c .release) ≡ role.Release
+    step (role.Separator rank) q = absurd (t (e ∙ ap (releasing c) q))
+    step role.Release q = q
+    step role.Plain q = absurd (t (e ∙ ap (releasing c) q))
+
+module _ (c : Characters) (s : List ℕ) where
+  -- nothing is passed
+  pub told-here : {from to : ℕ} → from ≡ to → Told c s from to
+  told-here e = (omega arith, ap (λ (p : ℕ). scanned (tokensAt c s p)) e)
+
+  module _ (r : roleIn c (c .release) ≡ role.Release) where
+    -- one byte more, of which it is known whether it is released
+    pub told-next : (from : ℕ) (now next : Bool) (p : ℕ) → p < length s → stops c now next (getD s p 0) ≡ false
+        → Reached (Told c s from) c s now p → Reached (Told c s from) c s next (p + 1)
+    unfolding stops
+    told-next from now next p i f =
+        let b = getD s p 0 in
+        reached-next (Told c s from) c s now next p (or-none-left (misread c now next b) (not now && eqb b (c .terminator)) f)
+        (λ e. ap (roleIn c) (eqb-true b (c .release) e) ∙ r)
+        (λ t n g.
+        let end = sym (ap (λ (t : Bool). not t && eqb b (c .terminator)) t) ∙ or-none-right (misread c now next b) (not now && eqb b (c .terminator)) f in
+        (omega arith, g .1 ∙ scan-other c s p (sym (ap (releasing c) r)) i (eqb-false b (c .terminator) end) (eqb-false b (c .release) n)))
+        (λ at e o q g.
+        let there : at + 1 + 1 ≡ p + 1 = omega arith in
+        let over = taken c s at o (omega arith) (ap (λ (x : ℕ). isService c (getD s x 0)) (sym e) ∙ q) in
+        (omega arith, g .1 ∙ over ∙ ap (λ (x : ℕ). scanned (tokensAt c s x)) there))

@@ -1,73 +1,47 @@
-// Where a segment ends, sixteen bytes at a time: where at most one of them is the terminator or a
-// release character, all are asked at once, and between release characters that stand close together
-// nothing branches on what a byte is. It promises what `scanner::scan` promises, which it calls for
-// the last few bytes of an input and where a release character is stray.
+// Where a segment ends: the first terminator or release character is looked for among sixty-four bytes at
+// once, and from a release character on thirty-two bytes are. It promises what `scanner::scan` promises, which
+// it calls for the last few bytes of an input and where a release character is stray.
+ghost use mathlib.Core.Bool.{false};
 ghost use mathlib.Core.Path.{_≡_};
 ghost use Prim.Native.Nat.{_+_, _≤_, _<_};
 ghost use lib.ListN.{length};
+ghost use Rattle.characters.specs.declared.Role.the-variants.{Release};
 ghost use Rattle.characters.specs.Characters.{role};
+ghost use Rattle.release_marks.specs.Marks.{markedAt};
 ghost use Rattle.scanner.specs.Scan.{releasing, Others, Scans};
-ghost use Rattle.segment_ends.specs.Sixteen.{mark, Marks, Moves};
+ghost use Rattle.segment_ends.specs.Moving.{Moves};
+ghost use Rattle.segment_ends.specs.Releases.{Told, stops, Stopped};
 use characters::Characters;
-use characters::Role;
+use first_found::least;
+use first_found::place_found;
 use line_breaks::after_breaks;
+use release_marks::closed;
+use release_marks::is_marked;
+use release_marks::is_marked_at;
+use release_marks::misread;
 use scanner::Scanned;
-use scanner::role_of;
 use scanner::scan;
 use storing::is_service;
 
-// The byte that takes the next one with it, or the terminator where no byte does.
-pub fn releasing(c: Characters) -> u8
-    ensures { λ r. ⌜ r ≡ releasing c (role c (c .release)) ⌝ }
+// So many of sixty-four bytes are neither `a` nor `b`: all of them, or those before the first that is. The
+// loop never ends early, and counts in bytes, so that all are asked at once.
+fn before_either(s: &[u8], a: u8, b: u8, from: usize) -> usize
+    requires { ⌜ from + 64 ≤ length (now s) ⌝ }
+    ensures { λ count. ⌜ (count ≤ 64) × Others a b (now (s .entry)) from (from + count) ⌝ }
 {
-    match role_of(c, c.release) {
-        Role::Separator(_) => c.terminator,
-        Role::Release => c.release,
-        Role::Plain => c.terminator,
+    let mut first: u8 = 64;
+    let mut k: u8 = 0;
+    let mut at = from;
+    while k < 64 {
+        first = least(first, place_found((s[at] == a) | (s[at] == b), k));
+        at += 1;
+        k += 1;
     }
-}
-
-// What a byte adds to the marks, by its number: 33 to 48, of which none is a power of two, so that the
-// sum of sixteen is made at once.
-fn mark(found: bool, number: u16) -> u16
-    requires { ⌜ number < 16 ⌝ }
-    ensures { λ r. ⌜ r ≡ mark found number ⌝ }
-{
-    if found { number + 33 } else { 0 }
-}
-
-// The marks of sixteen bytes: 0 where none is `a` or `b`, below 49 where one is, and then its number and
-// 33.
-fn marks(s: &[u8], a: u8, b: u8, from: usize) -> u16
-    requires { ⌜ from + 16 ≤ length (now s) ⌝ }
-    ensures { λ r. ⌜ Marks a b (now (s .entry)) from 16 r ⌝ }
-{
-    let mut sum: u16 = 0;
-    let mut number: u16 = 0;
-    while number < 16 {
-        let at = from + number as usize;
-        let found = (s[at] == a) | (s[at] == b);
-        sum += mark(found, number);
-        number += 1;
-    }
-    sum
-}
-
-// Whether one of sixteen bytes is `b`. It is asked only for which way is quicker.
-fn holds(s: &[u8], b: u8, from: usize) -> bool
-    requires { ⌜ from + 16 ≤ length (now s) ⌝ }
-{
-    let mut found = false;
-    let mut number: usize = 0;
-    while number < 16 {
-        found = found | (s[from + number] == b);
-        number += 1;
-    }
-    found
+    first as usize
 }
 
 // The place of the next byte that is `a` or `b`, byte by byte, or the end.
-fn past_others(s: &[u8], a: u8, b: u8, from: usize) -> usize
+fn up_to_either(s: &[u8], a: u8, b: u8, from: usize) -> usize
     ensures { λ r. ⌜ (from ≤ r) × Others a b (now (s .entry)) from r ⌝ }
 {
     let mut at = from;
@@ -112,59 +86,109 @@ fn pass_token(s: &[u8], c: Characters, release: u8, at: usize) -> Passed
     Passed::Other
 }
 
-// The same up to the terminator, or some fifteen bytes. Neither that a byte takes the next one with it
-// nor that this is stray is a branch, which would often be mispredicted.
-fn pass_tokens(s: &[u8], c: Characters, release: u8, from: usize) -> Passed
-    requires { ⌜ (from + 16 ≤ length (now s)) × (release ≡ releasing c (role c (c .release))) ⌝ }
+// The way on stops at the byte `a`: it is misread, or it is a terminator that is not released. `this` and
+// `next` say whether it and the byte after it are taken for released.
+fn stops(c: Characters, this: bool, next: bool, a: u8) -> bool
+    ensures { λ found. ⌜ found ≡ stops c this next a ⌝ }
+{
+    misread(c, this, next, a) | (!this & (a == c.terminator))
+}
+
+// The first of thirty-two bytes at which the way on stops, or 32. They begin four places on, and the first is
+// not released. Which of the others are is only guessed: where a guess is wrong the way on stops. The loop
+// never ends early, and each of five bytes has a place of its own, so that thirty-two are asked at once.
+fn first_stop(s: &[u8], c: Characters, from: usize) -> usize
+    requires { ⌜ (from + 36 ≤ length (now s)) × (role c (c .release) ≡ Release) × (markedAt c (now s) from ≡ false) ⌝ }
+    ensures { λ k. ⌜ Stopped c (now (s .entry)) from k ⌝ }
+{
+    let mut first: u8 = 32;
+    let mut k: u8 = 0;
+    let mut w = from;
+    let mut x = w + 1;
+    let mut y = x + 1;
+    let mut z = y + 1;
+    let mut a = z + 1;
+    while k < 32 {
+        let this = is_marked(c, s[z], s[y], s[x], s[w]);
+        let next = is_marked(c, s[a], s[z], s[y], s[x]);
+        first = least(first, place_found(stops(c, this, next, s[a]), k));
+        w += 1;
+        x += 1;
+        y += 1;
+        z += 1;
+        a += 1;
+        k += 1;
+    }
+    first as usize
+}
+
+// So many of thirty-two bytes tell nothing of how the segment ends. The last two calls are the same: where all
+// bytes are passed the count is a constant, and the processor need not wait for what the loop finds.
+fn before_stop(s: &[u8], c: Characters, from: usize) -> usize
+    requires { ⌜ (4 ≤ from) × (from + 32 ≤ length (now s)) × (role c (c .release) ≡ Release) ⌝ }
+    ensures { λ count. ⌜ (count ≤ 32) × Told c (now (s .entry)) from (from + count) ⌝ }
+{
+    let base = from - 4;
+    if is_marked_at(s, c, base) {
+        return 0;
+    }
+    let count = first_stop(s, c, base);
+    if count == 32 {
+        return closed(s, c, base, 32);
+    }
+    closed(s, c, base, count)
+}
+
+// Between release characters that stand close together, thirty-two bytes at once, or thirty-one where the last
+// takes the next one with it; and one byte, with the byte that it takes, where the way on stops. Where few bytes
+// stand before or after they are passed one by one.
+fn pass_marked(s: &[u8], c: Characters, from: usize) -> Passed
+    requires { ⌜ role c (c .release) ≡ Release ⌝ }
     ensures { λ r. ⌜ Moves c (now (s .entry)) from r ⌝ }
 {
-    let end = from + 15;
     let mut at = from;
-    let mut stray = false;
-    while at < end {
-        let next = at + 1;
-        if s[at] == c.terminator {
-            if stray {
-                return Passed::Other;
-            }
-            return Passed::Ended(after_breaks(s, next));
+    while at < s.len() {
+        if (at < 4) | (s.len() - at < 32) {
+            return pass_token(
+                s,
+                c,
+                c.release,
+                up_to_either(s, c.terminator, c.release, at),
+            );
         }
-        let taking = s[at] == release;
-        stray = stray | (taking & !is_service(c, s[next]));
-        at = next + taking as usize;
+        let count = before_stop(s, c, at);
+        if count < 31 {
+            return pass_token(s, c, c.release, at + count);
+        }
+        at += count;
     }
-    if stray {
-        return Passed::Other;
-    }
-    Passed::On(at)
+    Passed::Other
 }
 
+// Up to the first terminator or release character of sixty-four bytes, and on from there.
 fn pass(s: &[u8], c: Characters, release: u8, at: usize) -> Passed
-    requires { ⌜ (at + 16 ≤ length (now s)) × (release ≡ releasing c (role c (c .release))) ⌝ }
+    requires { ⌜ (at + 64 ≤ length (now s)) × (release ≡ releasing c (role c (c .release))) ⌝ }
     ensures { λ r. ⌜ Moves c (now (s .entry)) at r ⌝ }
 {
-    let sum = marks(s, c.terminator, release, at);
-    if sum == 0 {
-        return Passed::On(at + 16);
+    let count = before_either(s, c.terminator, release, at);
+    if count == 64 {
+        return Passed::On(at + 64);
     }
-    if sum < 49 {
-        let number = sum - 33;
-        return pass_token(s, c, release, at + number as usize);
+    let place = at + count;
+    if (release == c.terminator) | (s[place] == c.terminator) {
+        return pass_token(s, c, release, place);
     }
-    if (release != c.terminator) & holds(s, release, at) {
-        return pass_tokens(s, c, release, at);
-    }
-    pass_token(s, c, release, past_others(s, c.terminator, release, at))
+    pass_marked(s, c, place)
 }
 
-// How the segment that begins at a place ends. `release` is what `releasing` says.
+// How the segment that begins at a place ends. `release` is what `scanner::releasing` says.
 pub fn segment_ended(s: &[u8], c: Characters, release: u8, from: usize) -> Scanned
     requires { ⌜ release ≡ releasing c (role c (c .release)) ⌝ }
     ensures { λ r. ⌜ Scans c (now (s .entry)) from r ⌝ }
 {
     let mut at = from;
     while at < s.len() {
-        if s.len() - at < 16 {
+        if s.len() - at < 64 {
             return scan(s, c, at);
         }
         match pass(s, c, release, at) {

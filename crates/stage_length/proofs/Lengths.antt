@@ -64,5 +64,5 @@ module _ (n : Characters) where
 
     -- and so does a stretch
     pub stretch-length : {from to : ℕ} → Stretch c n s from to → length (emittedAt c n s from) ≡ (to - from) + length (emittedAt c n s to)
-    stretch-length {from} {to} (l, i, e) =
+    stretch-length {from} {to} (l, i, e, o) =
         omega (arith, ap length e, length-append (respelling c n s from (to - from)) (emittedAt c n s to), respelling-length c n s from (to - from))

@@ -26,21 +26,11 @@ respelled-other c n b t e r k = simp (t, e, r, k) (either (hasRelease c && eqb b
     either true = refl
     either false = refl
 
--- what is not found is not there
-pub not-found : (t : Bool) → (t ≡ true → ⊥) → t ≡ false
-not-found true h = absurd (h refl)
-not-found false h = refl
-
 module _ (c n : Characters) (s : List ℕ) where
   -- ---- how far it goes on
 
   pub goes-none : (from : ℕ) → Goes c n s from from
   goes-none from k l m = absurd (omega arith)
-
-  -- it halts at none of the bytes up to a place, unless so many were passed before that
-  abbrev pub Clear : ℕ → ℕ → ℕ → Type 0
-  Clear from at first =
-      (k : ℕ) → from ≤ k → k < at → k < from + first → (k + 1 < length s) × (halts c n (getD s k 0) (getD s (k + 1) 0) ≡ false)
 
   module _ {from at : ℕ} where
     -- one byte more
@@ -54,17 +44,6 @@ module _ (c n : Characters) (s : List ℕ) where
               (omega arith, ap (λ (p : ℕ). halts c n (getD s p 0) (getD s (p + 1) 0)) w ∙ sym e ∙ none)
         ]
 
-    -- one byte more, where at most as many are passed, and no more than those before it if it halts there
-    pub clear-next : (found : Bool) {first least : ℕ} → Clear from at first → at + 1 < length s
-        → found ≡ halts c n (getD s at 0) (getD s (at + 1) 0) → least ≤ first → (found ≡ true → from + least ≤ at) → Clear from (at + 1) least
-    clear-next found g i e less h k l m j =
-        elim (decLe (k + 1) at) [
-          | yes q ↦ g k l (omega arith) (omega arith)
-          | no q ↦
-              let w : k ≡ at = omega (arith, lt-of-not-le q) in
-              (omega arith, ap (λ (p : ℕ). halts c n (getD s p 0) (getD s (p + 1) 0)) w ∙ sym e ∙ not-found found (λ t. omega (arith, h t)))
-        ]
-
     -- more of them
     pub goes-more : {to : ℕ} → Goes c n s from at → Goes c n s at to → Goes c n s from to
     goes-more g h k l m = elim (decLe (k + 1) at) [ yes q ↦ g k l (omega arith) | no q ↦ h k (omega (arith, lt-of-not-le q)) m ]
@@ -72,10 +51,6 @@ module _ (c n : Characters) (s : List ℕ) where
     -- all of thirty-two
     pub goes-block : {count : ℕ} → Goes c n s from at → Goes c n s at (at + count) → 32 ≤ count → Goes c n s from (at + 32)
     goes-block g h l = goes-more g (λ k i j. h k i (omega arith))
-
-  -- it ends in the input
-  pub goes-inside : {from to : ℕ} → Goes c n s from to → from < to → to ≤ length s
-  goes-inside {from} {to} g m = let (j, e) = g (to - 1) (omega arith) (omega arith) in omega arith
 
   -- ---- how it is stored
 

@@ -23,8 +23,9 @@ use Rattle.line_breaks.proofs.Passing.{after-none}
 use Rattle.emission_laws.specs.declared.Held.{Held}
 use Rattle.emission_laws.specs.Emission.{nothing, separated, letOut, emitted}
 use Rattle.emission_laws.proofs.Steps.{byte-first}
-use Rattle.verbatim.specs.Verbatim.{idle}
+use Rattle.verbatim.specs.Verbatim.{idle, Sound}
 use Rattle.verbatim.proofs.Held.{Kept, nothing-kept, Follows, none-held, follows-separator, kept, separator-stands}
+use Rattle.verbatim.proofs.Sound.{sound-next}
 use Rattle.stretches.specs.Stretches.{standIn, respelled, halts, Goes, respelling, emittedAt, Stretch, EndsInValue}
 use Rattle.stretches.specs.Releases.{alike, Passes, stays, alone, together}
 use Rattle.stretches.proofs.Alike.{alike-spelled, alike-respelled}
@@ -80,6 +81,34 @@ module _ (c n : Characters) (a b : ℕ) (f : halts c n a b ≡ false) where
   not-idle : not (idle c a b) ≡ true
   not-idle = ap not (or-none-right line (idle c a b) rest)
 
+-- ---- the tokens that are passed
+
+module _ (c n : Characters) (s : List ℕ) (at : ℕ) (i : at + 1 < length s) where
+  -- a terminator, after which no line break stands
+  terminator-next : halts c n (getD s at 0) (getD s (at + 1) 0) ≡ false → role c (getD s at 0) ≡ Separator 0 → getD s at 0 ≡ c .terminator
+      → tokensAt c s at ≡ separator 0 at ∷ tokensAt c s (at + 1)
+  terminator-next f p e =
+      at-terminator c s at (omega arith) p
+      ∙ ap (λ (j : ℕ). separator 0 at ∷ tokensAt c s j) (sym (after-none s (at + 1) i (no-line c n (getD s at 0) (getD s (at + 1) 0) f e)))
+
+  -- a release character and the service character that it takes
+  taken-next : role c (getD s at 0) ≡ Release → isService c (getD s (at + 1) 0) ≡ true
+      → tokensAt c s at ≡ byte (getD s (at + 1) 0) at (at + 1) ∷ tokensAt c s (at + 1 + 1)
+  taken-next p q = step (role c (getD s (at + 1) 0)) refl (sym (service-serves c (getD s (at + 1) 0)) ∙ q)
+    where
+      step : (o : Role) → role c (getD s (at + 1) 0) ≡ o → serves o ≡ true → tokensAt c s at ≡ byte (getD s (at + 1) 0) at (at + 1) ∷ tokensAt c s (at + 1 + 1)
+      step (Separator rank) e u = at-released-separator c s at rank i p e
+      step Release e u = at-released-release c s at i p e
+      step Plain e u = absurd (false≢true u)
+
+  -- no fault lies after a byte at which no stretch halts that does not lie in the whole
+  alone-sound : halts c n (getD s at 0) (getD s (at + 1) 0) ≡ false → {o : Role} → role c (getD s at 0) ≡ o → Part c (getD s at 0) o
+      → Sound c s at → Sound c s (at + 1)
+  alone-sound f p (separates zero q e) = sound-next c s at (at + 1) (terminator-next f p e)
+  alone-sound f p (separates (suc rank) q e) = sound-next c s at (at + 1) (at-separator c s at rank (omega arith) p)
+  alone-sound f p (releases e q) = absurd (no-release c n (getD s at 0) (getD s (at + 1) 0) f e q)
+  alone-sound f p plain = sound-next c s at (at + 1) (at-plain c s at (omega arith) p)
+
 -- ---- what is passed stands
 
 module _ (c n : Characters) (s : List ℕ) where
@@ -125,9 +154,7 @@ module _ (c n : Characters) (s : List ℕ) where
     unfolding letOut
     by-part p (separates zero q e) h k =
         separator-next zero p q e
-        (at-terminator c s at (omega arith) p
-        ∙ ap (λ (j : ℕ). separator 0 at ∷ tokensAt c s j) (sym (after-none s (at + 1) i (no-line c n (getD s at 0) (getD s (at + 1) 0) f e))))
-        h (k zero q e)
+        (terminator-next c n s at i f p e) h (k zero q e)
     by-part p (separates (suc rank) q e) h k = separator-next (suc rank) p q e (at-separator c s at rank (omega arith) p) h (k (suc rank) q e)
     by-part p (releases e q) h k = absurd (no-release c n (getD s at 0) (getD s (at + 1) 0) f e q)
     by-part p plain h k =
@@ -141,16 +168,11 @@ module _ (c n : Characters) (s : List ℕ) where
   unfolding letOut
   taken-stands at text i v p q go h k =
       let b = getD s (at + 1) 0 in
-      ap (emitted n h) (both (role c b) refl (sym (service-serves c b) ∙ q))
+      ap (emitted n h) (taken-next c n s at i p q)
       ∙ byte-first n h b at (at + 1) (tokensAt c s (at + 1 + 1))
       ∙ ap₂ (λ (l m : List ℕ). letOut n h ++ (l ++ m)) (alike-spelled c n v b q) (go nothing (λ rank r e. nothing-kept rank))
       ∙ ap₂ (λ (x y : ℕ). letOut n h ++ (x ∷ y ∷ text)) (sym (released (subst (Part c (getD s at 0)) p (part c (getD s at 0))))) (sym (alike-respelled c n v b))
     where
-      both : (o : Role) → role c (getD s (at + 1) 0) ≡ o → serves o ≡ true → tokensAt c s at ≡ byte (getD s (at + 1) 0) at (at + 1) ∷ tokensAt c s (at + 1 + 1)
-      both (Separator rank) e u = at-released-separator c s at rank i p e
-      both Release e u = at-released-release c s at i p e
-      both Plain e u = absurd (false≢true u)
-
       -- it stands for itself
       released : Part c (getD s at 0) Release → respelled c n (getD s at 0) ≡ c .release
       released (releases e x) = alike-respelled c n v (getD s at 0) ∙ e
@@ -226,6 +248,13 @@ module _ (c n : Characters) (s : List ℕ) where
         let there : at + 1 ≡ to - 1 = omega arith in
         absurd (false≢true (sym (ap (λ (p : ℕ). isService c (getD s p 0)) there ∙ last) ∙ q))
 
+    -- no fault lies after it that does not lie in the whole
+    passes-sound : {to : ℕ} → Passes c n s from to → Sound c s from → Sound c s to
+    passes-sound (stays e) o = subst (Sound c s) (sym e) o
+    passes-sound (alone {at} g e i f) o = subst (Sound c s) (sym e) (alone-sound c n s at i f refl (part c (getD s at 0)) (passes-sound g o))
+    passes-sound (together {at} g e i v p q) o =
+        subst (Sound c s) (sym e) (sound-next c s at (at + 1 + 1) (taken-next c n s at i p q) (passes-sound g o))
+
     -- it goes up to an earlier place before which a byte of a value stands
     passes-back : {end : ℕ} (to : ℕ) → Passes c n s from end → from ≤ to → to ≤ end → EndsInValue c s from to → Passes c n s from to
     passes-back to (stays e) l m last = stays {to = to} (omega arith)
@@ -259,6 +288,7 @@ stretched c n s {from} {to} {end} g l m last = (
         ap₂ (λ (count p : ℕ). respelling c n s from count ++ emittedAt c n s p) (sym none) there
     | no k ↦ passes-emitted c n s (passes-back c n s to g l m last) (lt-of-not-le k) (last (lt-of-not-le k))
   ],
+  passes-sound c n s (passes-back c n s to g l m last),
 )
 
 -- after the last byte nothing is emitted

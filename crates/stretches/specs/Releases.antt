@@ -9,6 +9,7 @@ use lib.ListN.{length, getD}
 use Rattle.characters.specs.declared.Characters.{Characters}
 use Rattle.characters.specs.declared.Role.the-variants.{Release}
 use Rattle.characters.specs.Characters.{role, isService, hasRelease, isBreak}
+use Rattle.release_marks.specs.Marks.{markedAt, misread, Reached}
 use Rattle.verbatim.specs.Verbatim.{idle}
 use Rattle.stretches.specs.Stretches.{halts}
 
@@ -33,40 +34,20 @@ pub data Passes (c n : Characters) (s : List ℕ) (from : ℕ) : ℕ → Type 0 
 abbrev pub PassesAlike : Characters → List ℕ → ℕ → ℕ → Type 0
 PassesAlike c s from to = (n : Characters) → alike c n ≡ true → Passes c n s from to
 
--- A stretch reaches a place: the byte there is not released, or the stretch passes up to the release character before it.
-pub data Reached (c n : Characters) (s : List ℕ) (from : ℕ) : Bool → ℕ → Type 0 where
-  closed : {to : ℕ} → Passes c n s from to → Reached c n s from false to
-  opened : {at to : ℕ} → Passes c n s from at → to ≡ at + 1 → role c (getD s at 0) ≡ Release → Reached c n s from true to
-
 -- ---- thirty-two bytes at once
 
 module _ (c : Characters) where
-  -- the byte is the release character
-  abbrev pub releases : ℕ → Bool
-  releases b = eqb b (c .release)
-
-  -- A byte is taken for released where one release character stands before it, or three. The four bytes before it are named from the nearest
-  -- on. (Where more than four stand there this may be wrong.)
-  unfoldable pub marked : ℕ → ℕ → ℕ → ℕ → Bool
-  marked b d e f = releases b && (not (releases d) || (releases e && not (releases f)))
-
-  -- the same of the byte four places on
-  abbrev pub markedAt : List ℕ → ℕ → Bool
-  markedAt s at = marked (getD s (at + 1 + 1 + 1) 0) (getD s (at + 1 + 1) 0) (getD s (at + 1) 0) (getD s at 0)
-
-  -- A stretch stops at a byte, before the next one, which are taken for released or not: where the next is wrongly taken; at a released byte
-  -- that is no service character; and at another byte as it halts.
+  -- A stretch stops at a byte, before the next one, which are taken for released or not: where it is misread; and where it is not released, as a
+  -- stretch halts.
   unfoldable pub stops : Bool → Bool → ℕ → ℕ → Bool
-  stops this next a b =
-      ((next && not (not this && releases a)) || ((not this && releases a) && not next))
-      || ((this && not (isService c a)) || (not this && ((eqb a (c .terminator) && isBreak b) || idle c a b)))
+  stops this next a b = misread c this next a || (not this && ((eqb a (c .terminator) && isBreak b) || idle c a b))
 
   -- the same of the byte four places on
   abbrev pub stopsAt : List ℕ → ℕ → Bool
-  stopsAt s at = stops (markedAt s at) (markedAt s (at + 1)) (getD s (at + 1 + 1 + 1 + 1) 0) (getD s (at + 1 + 1 + 1 + 1 + 1) 0)
+  stopsAt s at = stops (markedAt c s at) (markedAt c s (at + 1)) (getD s (at + 1 + 1 + 1 + 1) 0) (getD s (at + 1 + 1 + 1 + 1 + 1) 0)
 
 -- so many of the thirty-two bytes that begin four places on are reached
 abbrev pub Stopped : Characters → List ℕ → ℕ → ℕ → Type 0
 Stopped c s from k =
     (k ≤ 32)
-    × ((n : Characters) → alike c n ≡ true → Reached c n s (from + 4) (markedAt c s (from + k)) (from + k + 1 + 1 + 1 + 1))
+    × ((n : Characters) → alike c n ≡ true → Reached (Passes c n s (from + 4)) c s (markedAt c s (from + k)) (from + k + 1 + 1 + 1 + 1))

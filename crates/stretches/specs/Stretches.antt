@@ -14,7 +14,7 @@ use Rattle.characters.specs.Characters.{role, isService, hasRelease, isBreak}
 use Rattle.values.specs.Tokens.{tokensAt}
 use Rattle.values.specs.Spelling.{separatorOf}
 use Rattle.emission_laws.specs.Emission.{nothing, emitted}
-use Rattle.verbatim.specs.Verbatim.{idle}
+use Rattle.verbatim.specs.Verbatim.{idle, Sound}
 
 -- what stands with the characters `n` for a byte that plays this part: the separator of its rank, or the byte
 abbrev pub standIn : Characters → Role → ℕ → ℕ
@@ -46,10 +46,14 @@ module _ (c n : Characters) where
   abbrev pub emittedAt : List ℕ → ℕ → List ℕ
   emittedAt s at = emitted n nothing (tokensAt c s at)
 
-  -- the bytes from a place up to another are emitted byte for byte, respelled, and what follows them after that
+  -- The bytes from a place up to another are emitted byte for byte, respelled, and what follows them after that, in which no fault lies that did
+  -- not lie in the whole.
   abbrev pub Stretch : List ℕ → ℕ → ℕ → Type 0
   Stretch s from to =
-      (from ≤ to) × (from ≤ length s → to ≤ length s) × (emittedAt s from ≡ respelling s from (to - from) ++ emittedAt s to)
+      (from ≤ to)
+      × (from ≤ length s → to ≤ length s)
+      × (emittedAt s from ≡ respelling s from (to - from) ++ emittedAt s to)
+      × (Sound c s from → Sound c s to)
 
 -- the byte before a place is one of a value, unless nothing is passed
 abbrev pub EndsInValue : Characters → List ℕ → ℕ → ℕ → Type 0

@@ -9,10 +9,17 @@ ghost use Prim.Native.Nat.{_+_, _-_, _≤_, _<_};
 ghost use lib.ListN.{length};
 ghost use lib.Seq.{sets};
 ghost use Rattle.verbatim.specs.Verbatim.{endsRepeat};
-ghost use Rattle.stretches.specs.Releases.{alike, Passes, PassesAlike, marked, markedAt, stops, Stopped};
+ghost use Rattle.release_marks.specs.Marks.{markedAt};
+ghost use Rattle.stretches.specs.Releases.{alike, Passes, PassesAlike, stops, Stopped};
 ghost use Rattle.stretches.specs.Stretches.{respelled, halts, Goes, respelling, Stretch, EndsInValue};
 use characters::Characters;
+use first_found::least;
+use first_found::place_found;
 use line_breaks::is_break;
+use release_marks::closed;
+use release_marks::is_marked;
+use release_marks::is_marked_at;
+use release_marks::misread;
 use storing::is_service;
 use verbatim::ends_repeat;
 use verbatim::is_idle;
@@ -46,25 +53,6 @@ fn halts(c: Characters, n: Characters, r: u8, a: u8, b: u8) -> bool
     let released = is_service(n, a) & !is_service(c, a);
     let line = (a == c.terminator) & is_break(b);
     release | (released | (line | is_idle(c, r, a, b)))
-}
-
-// Where something was found at the `k`th of thirty-two bytes, `k`; else 32.
-fn place_found(found: bool, k: u8) -> u8
-    ensures { λ r. ⌜ (found ≡ true → r ≤ k) ⌝ }
-{
-    if found {
-        return k;
-    }
-    32
-}
-
-fn least(a: u8, b: u8) -> u8
-    ensures { λ r. ⌜ (r ≤ a) × (r ≤ b) ⌝ }
-{
-    if a < b {
-        return a;
-    }
-    b
 }
 
 // Over so many of thirty-two bytes a stretch goes on: over all of them, or up to the first at which it halts.
@@ -139,38 +127,13 @@ fn are_alike(c: Characters, n: Characters) -> bool
     ((c.component == n.component) & inner) & ((c.release != 32) & !separates)
 }
 
-// A byte is taken for released: one release character stands before it, or three. The four bytes before it
-// are named from the nearest on.
-fn is_marked(c: Characters, b: u8, d: u8, e: u8, f: u8) -> bool
-    ensures { λ r. ⌜ r ≡ marked c b d e f ⌝ }
-{
-    (b == c.release) & ((d != c.release) | ((e == c.release) & (f != c.release)))
-}
-
-// The same of the byte four places on.
-fn is_marked_at(s: &[u8], c: Characters, at: usize) -> bool
-    requires { ⌜ at + 4 ≤ length (now s) ⌝ }
-    ensures { λ r. ⌜ r ≡ markedAt c (now (s .entry)) at ⌝ }
-{
-    let second = at + 1;
-    let third = second + 1;
-    let fourth = third + 1;
-    if s[fourth] != c.release {
-        return false;
-    }
-    is_marked(c, s[fourth], s[third], s[second], s[at])
-}
-
 // A stretch stops at the byte `a`, before `b`; `this` and `next` say whether they are taken for released.
 fn stops(c: Characters, r: u8, this: bool, next: bool, a: u8, b: u8) -> bool
     requires { ⌜ r ≡ endsRepeat c ⌝ }
     ensures { λ found. ⌜ found ≡ stops c this next a b ⌝ }
 {
-    let opens = !this & (a == c.release);
-    let mistaken = (next & !opens) | (opens & !next);
-    let stray = this & !is_service(c, a);
     let line = (a == c.terminator) & is_break(b);
-    mistaken | (stray | (!this & (line | is_idle(c, r, a, b))))
+    misread(c, this, next, a) | (!this & (line | is_idle(c, r, a, b)))
 }
 
 // The first of thirty-two bytes at which a stretch stops, or 32. They begin four places on, and the first is not
@@ -203,20 +166,8 @@ fn first_stop(s: &[u8], c: Characters, r: u8, from: usize) -> usize
     first as usize
 }
 
-// Of so many bytes that are reached, which begin four places on, a stretch passes all or all but one: it does not
-// end between a release character and the byte that it takes.
-fn closed(s: &[u8], c: Characters, base: usize, count: usize) -> usize
-    requires { ⌜ (base + count + 4 ≤ length (now s)) × (markedAt c (now s) base ≡ false) × Stopped c (now s) base count ⌝ }
-    ensures { λ r. ⌜ (r ≤ count) × PassesAlike c (now (s .entry)) (base + 4) (base + 4 + r) ⌝ }
-{
-    if is_marked_at(s, c, base + count) {
-        return count - 1;
-    }
-    count
-}
-
-// Over so many of thirty-two bytes a stretch passes. Where it passes all of them, what follows does not wait
-// for the count.
+// Over so many of thirty-two bytes a stretch passes. The last two calls are the same: where it passes all of them
+// the count is a constant, and the processor need not wait for what the loop finds.
 fn before_stop(s: &[u8], c: Characters, r: u8, from: usize) -> usize
     requires { ⌜ (4 ≤ from) × (from + 33 ≤ length (now s)) × (r ≡ endsRepeat c) ⌝ }
     ensures { λ count. ⌜ (count ≤ 32) × PassesAlike c (now (s .entry)) from (from + count) ⌝ }
@@ -284,9 +235,9 @@ fn past_block(s: &[u8], c: Characters, r: u8, from: usize) -> Passed
     }
 }
 
-// A place up to which a stretch passes where the characters are alike: where it stops, or the last few
-// bytes.
-fn past_alike(s: &[u8], c: Characters, r: u8, from: usize) -> usize
+// A place up to which a stretch passes where the characters are alike: where it stops, the last few bytes,
+// or the first block that begins at `until` or later.
+fn past_alike(s: &[u8], c: Characters, r: u8, from: usize, until: usize) -> usize
     requires { ⌜ r ≡ endsRepeat c ⌝ }
     ensures { λ to. ⌜ PassesAlike c (now (s .entry)) from to ⌝ }
 {
@@ -298,6 +249,9 @@ fn past_alike(s: &[u8], c: Characters, r: u8, from: usize) -> usize
         if at < 4 {
             return at;
         }
+        if until <= at {
+            return at;
+        }
         let p = past_block(s, c, r, at);
         at = p.to;
         if !p.on {
@@ -307,13 +261,13 @@ fn past_alike(s: &[u8], c: Characters, r: u8, from: usize) -> usize
     at
 }
 
-// The same where they may differ.
-fn past_most(s: &[u8], c: Characters, n: Characters, r: u8, from: usize) -> usize
+// The same where they may differ, and then up to any place.
+fn past_most(s: &[u8], c: Characters, n: Characters, r: u8, from: usize, until: usize) -> usize
     requires { ⌜ r ≡ endsRepeat c ⌝ }
     ensures { λ to. ⌜ Passes c n (now (s .entry)) from to ⌝ }
 {
     if are_alike(c, n) {
-        return past_alike(s, c, r, from);
+        return past_alike(s, c, r, from, until);
     }
     past_blocks(s, c, n, r, from)
 }
@@ -334,12 +288,13 @@ fn back_to_value(s: &[u8], c: Characters, from: usize, to: usize) -> usize
     at
 }
 
-// A place up to which a stretch goes that begins at a place where nothing is held back.
-pub fn stretch_end(s: &[u8], c: Characters, n: Characters, from: usize) -> usize
+// A place up to which a stretch goes that begins at a place where nothing is held back. Where the
+// characters are alike it goes little further than `until`.
+pub fn stretch_end(s: &[u8], c: Characters, n: Characters, from: usize, until: usize) -> usize
     ensures { λ to. ⌜ Stretch c n (now (s .entry)) from to ⌝ }
 {
     let r = ends_repeat(c);
-    let most = past_most(s, c, n, r, from);
+    let most = past_most(s, c, n, r, from, until);
     let to = past_last(s, c, n, r, most);
     back_to_value(s, c, from, to)
 }

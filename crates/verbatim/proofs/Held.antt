@@ -139,7 +139,7 @@ module _ (c : Characters) where
   follows-separator b h (suc (suc (suc (suc rank)))) q e = absurd (omega (arith, separable-low c (suc (suc (suc (suc rank)))) q))
 
   -- after a byte that separates no part of a segment nothing is held back
-  pub none-kept : (a : ℕ) {h : Held} → Follows a h → partsSegment c a ≡ false → Kept h 0
+  none-kept : (a : ℕ) {h : Held} → Follows a h → partsSegment c a ≡ false → Kept h 0
   none-kept a f p = let q = parts-segment a p in (f .no-elements p, f .no-repeats q, f .no-components (parts-element a q))
 
   -- where nothing is idle before a separator, it drops nothing
@@ -160,7 +160,7 @@ more k x text =
     ap (λ (l : List ℕ). l ++ text) (sym (replicate-append-replicate k 1 x)) ∙ append-assoc (replicate k x) (x ∷ []) text
 
 module _ (n : Characters) (h : Held) where
-  pub none-out : Kept h 0 → [] ≡ letOut n h
+  none-out : Kept h 0 → [] ≡ letOut n h
   unfolding letOut
   none-out (z, y, x) =
       sym (ap₂ (λ (j k : ℕ). replicate j (n .element) ++ (replicate k (n .repetition) ++ replicate (h .components) (n .component))) z y

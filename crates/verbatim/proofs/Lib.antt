@@ -1,4 +1,3 @@
-pub mod Clean
 pub mod Held
 pub mod Emitted
-pub mod Unrepeated
+pub mod Sound

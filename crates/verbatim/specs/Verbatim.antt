@@ -1,24 +1,20 @@
--- A body that is spelled as in its normal form (paper 01, "Normal form"), but for line breaks between segments, by a test of its service
--- characters and of each two bytes that stand side by side. It says so of no other body, and misses some: a released separator is taken
--- for one that separates. Assumes nothing.
+-- What tells that bytes stand as their normal form spells them (paper 01, "Normal form"): a test of the service characters, and one of each two
+-- bytes that stand side by side. The second misses some: a released separator is taken for one that separates. Assumes nothing.
 use Prim.Native.Nat.{ℕ}
+use mathlib.Core.Path.{_≡_}
 use mathlib.Core.Bool.{Bool, true, not, _&&_, _||_}
-use mathlib.Core.List.{List, [], _∷_}
+use mathlib.Core.List.{List}
 use lib.Dec.{eqb, leb}
-use Rattle.lists.specs.Lists.{if_then_else_, same, member, all}
+use Rattle.lists.specs.Lists.{if_then_else_, same, all}
 use Rattle.characters.specs.declared.Characters.{Characters}
 use Rattle.characters.specs.Characters.{hasRepetition, spelledOut}
-use Rattle.values.specs.Tokens.{Token, byte, separator, fault}
+use Rattle.values.specs.Tokens.{Token, byte, separator, fault, tokensAt}
 use Rattle.values.specs.Values.{isFault}
 use Rattle.stages.specs.Contents.{normalCharacters}
 
 -- "the contents spelled with those characters": the six bytes are those of a normal form with this fifth byte
 unfoldable pub isNormal : Characters → ℕ → Bool
 isNormal c repetition = same (spelledOut c) (spelledOut (normalCharacters (c .mark) repetition))
-
--- there is nothing to respell: they are, or there is no repetition separator and no byte that separates repeats in the normal form
-unfoldable pub spelledNormally : Characters → ℕ → List ℕ → Bool
-spelledNormally c repetition bytes = isNormal c repetition || (isNormal c 32 && not (member repetition bytes))
 
 module _ (c : Characters) where
   -- The repetition separator. Where there is none a terminator takes its place: no separator follows one, but where refusal 6 is met.
@@ -52,15 +48,6 @@ module _ (c : Characters) where
   abbrev pub partsSegment : ℕ → Bool
   partsSegment a = partsElement a || eqb a (c .element)
 
-  -- after a byte, nothing is idle from here to the end, before which no separator stands but a terminator
-  unfoldable pub clean : ℕ → List ℕ → Bool
-  clean a [] = not (partsSegment a)
-  clean a (b ∷ bs) = not (idle a b) && clean b bs
-
-  -- nothing to respell and nothing to trim; 0 is no separator of a normal form
-  unfoldable pub verbatim : ℕ → List ℕ → Bool
-  verbatim repetition bytes = spelledNormally c repetition bytes && clean 0 bytes
-
 -- no fault 4 lies in the tokens
 unfoldable pub faultless : List Token → Bool
 faultless ts = all (λ t. not (isFault t)) ts
@@ -73,3 +60,7 @@ isVisible (fault place) = true
 
 unfoldable pub visible : List Token → Bool
 visible ts = all isVisible ts
+
+-- no fault 4 lies in what is read from a place on, and no byte of a value below the space
+abbrev pub Sound : Characters → List ℕ → ℕ → Type 0
+Sound c s at = (faultless (tokensAt c s at) ≡ true) × (visible (tokensAt c s at) ≡ true)

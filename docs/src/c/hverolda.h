@@ -30,12 +30,12 @@
  * Threads. The functions have no state: no globals, no heap, no errno, no input or output. Calls may
  * run at the same time as long as each keeps to what is owed above.
  *
- * Stack. Compare and Keep hold two arrays of 32,000 bytes each, or of 2,048 where neither input has
- * more than 1,019 bytes, and take some 65,300 bytes at most. A shelf's Put holds one of 32,000, and
- * takes some 33,300. Write and Acknowledge have room for one of 8,192, which is used while 16 is asked
- * without a release character, and take less than 11,000. Judge by a table calls itself for groups
- * within groups, which are at most eight deep, and takes some 3,000 at most, whatever the table and
- * the input are. All others but these take less than 2,000. There is no other recursion.
+ * Stack. Compare and Keep hold two arrays of 32,000 bytes each, or use shorter ones where neither
+ * input has more than 4,091 bytes, and take some 66,100 bytes at most. A shelf's Put holds one of
+ * 32,000, and takes some 33,300. Write and Acknowledge have room for one of 8,192, which is used while
+ * 16 is asked without a release character, and take less than 11,000. Judge by a table calls itself
+ * for groups within groups, which are at most eight deep, and takes some 3,000 at most, whatever the
+ * table and the input are. All others but these take less than 2,000. There is no other recursion.
  *
  * Cost. What a function does with an input is a few steps a byte, and of an input over 32,000 bytes
  * none. Write costs a few steps for each record of its table and for each byte of the text, and stops

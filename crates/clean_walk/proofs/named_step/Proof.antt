@@ -18,23 +18,20 @@ returns c = search needs
 positions-of-requires : tie.Need-positions-of-requires
 positions-of-requires c κs = search needs
 
-element-at-requires : tie.Need-element-at-requires
-element-at-requires c κs = search needs
-
 header-of-requires : tie.Need-header-of-requires
 header-of-requires c κs = search needs
 
 true-count-requires : tie.Need-true-count-requires
 true-count-requires c κs = search needs
 
-segment-control-requires : tie.Need-segment-control-requires
-segment-control-requires c κs = search needs
+control-at-requires : tie.Need-control-at-requires
+control-at-requires c κs = search needs
 
 enum-told : tie.Need-enum-told
 enum-told c = search needs
 
-enum-told-2 : tie.Need-enum-told-2
-enum-told-2 c = search needs
+enum-known-reference : tie.Need-enum-known-reference
+enum-known-reference c = search needs
 
 stepped-requires : tie.Need-stepped-requires
 stepped-requires c κs = search needs
@@ -50,15 +47,15 @@ returns-2 c = search needs
 
 returns-3 : tie.Need-returns-3
 returns-3 c =
-    let found = c .before .before .before .before .before in
-    let read = found .before .before .before .before in
+    let told = c .before .before .before .before in
+    let found = told .before .before in
+    let read = found .before .before .before in
     let placed = read .before .before .before in
     let begun = placed .before .before in
     segment-passes (begun .args .c) (begun .args .s .now) (begun .pre .1) (placed .section-at .ensures)
     (sym (read .before .before .fits2 .ensures) ∙ not-false _ (read .before .if1 .left)) (read .positions-of .ensures)
-    (found .before .before .before .element-at .ensures) (found .before .before .header-of .ensures) (found .before .true-count .ensures)
-    (found .segment-control .ensures) (c .before .before .before .enum-told2 .given .1) (c .before .before .stepped .ensures) (c .before .begun .ensures)
-    (c .passed-header .ensures)
+    (found .before .before .header-of .ensures) (found .before .true-count .ensures) (found .control-at .ensures) (told .reference .given .1)
+    (c .before .before .stepped .ensures) (c .before .begun .ensures) (c .passed-header .ensures)
 
 pub named-step-spec : {M : Type 1} → statement M
 named-step-spec =
@@ -68,12 +65,11 @@ named-step-spec =
     fits-requires
     returns
     positions-of-requires
-    element-at-requires
     header-of-requires
     true-count-requires
-    segment-control-requires
+    control-at-requires
     enum-told
-    enum-told-2
+    enum-known-reference
     stepped-requires
     begun-requires
     passed-header-requires

@@ -11,7 +11,8 @@ enum-known-tag c = search needs
 named-step-requires : tie.Need-named-step-requires
 named-step-requires c κs =
     let begun = c .before .before .before .before in
-    (begun .pre .0, subst (Tells (begun .args .c) (begun .args .s .now) (begun .args .at)) (c .before .tag .given .1) (begun .pre .1))
+    let (named, spelled) = subst (Tells (begun .args .c) (begun .args .s .now) (begun .args .at)) (c .before .tag .given .1) (begun .pre .1) in
+    (begun .pre .0, named, spelled)
 
 enum-told : tie.Need-enum-told
 enum-told c = search needs

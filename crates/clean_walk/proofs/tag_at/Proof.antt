@@ -52,7 +52,7 @@ returns-3 c =
     let named = c .before .before .before in
     let asked = named .before .before .before .before in
     let t = asked .before .spells-tag .ensures (not-false _ (asked .if1 .left)) in
-    tag-service _ _ _ t (named .kind-named .ensures) (λ e. c .if2 .left (ap (λ p. p .reference) (c .before .before .positions-of .ensures) ∙ e))
+    (tag-service _ _ _ t (named .kind-named .ensures) (λ e. c .if2 .left (ap (λ p. p .reference) (c .before .before .positions-of .ensures) ∙ e)), λ e. t)
 
 pub tag-at-spec : {M : Type 1} → statement M
 tag-at-spec =

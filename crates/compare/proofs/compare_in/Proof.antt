@@ -1,6 +1,6 @@
 -- `compare::compare_in` meets its contract: the first's refusal answers, or the second is held against its normal form. Assumes nothing.
 use borrow.Author.Needs.{needs}
-use Rattle.compare.proofs.Compared.{form-stored, form-refused, first-refused, text-compared}
+use Rattle.compare.proofs.Compared.{form-is, form-stored, form-refused, first-refused, text-compared}
 use Rattle.compare.proofs.compare_in.Statement.{statement}
 use Rattle.compare.proofs.compare_in.Tie as tie
 
@@ -24,7 +24,11 @@ slice-aggregate-compare-with c =
     form-stored (x .a .now) (x .first .now) (c .before .before .before .before .before .before .store-found .ensures) (c .before .before .n .given .1) .2
 
 compare-with-requires : tie.Need-compare-with-requires
-compare-with-requires c κs = search needs
+compare-with-requires c κs =
+    let x = c .before .before .before .before .before .before .before .before .before .before .before .before .before in
+    let first = x .args .first .now in
+    let (accepted, fits, long, form) = form-stored (x .args .a .now) first (c .before .before .before .before .before .before .before .store-found .ensures) (c .before .before .before .n .given .1) in
+    (form-is first accepted form, x .pre .2)
 
 same-length : tie.Need-same-length
 same-length c = search needs

@@ -16,14 +16,17 @@ returns c =
     let x = c .before .before .before .before .before .args in
     bytes-same (x .first .now) (x .second .now) (sym (c .before .before .equal .ensures) ∙ c .before .if1 .taken) (c .compare-itself .result) (c .compare-itself .ensures)
 
+longer-requires : tie.Need-longer-requires
+longer-requires c κs = search needs
+
 compare-long-requires : tie.Need-compare-long-requires
 compare-long-requires c κs = search needs
 
 returns-2 : tie.Need-returns-2
 returns-2 c = search needs
 
-compare-long-requires-2 : tie.Need-compare-long-requires-2
-compare-long-requires-2 c κs = search needs
+compare-middle-requires : tie.Need-compare-middle-requires
+compare-middle-requires c κs = search needs
 
 returns-3 : tie.Need-returns-3
 returns-3 c = search needs
@@ -41,9 +44,10 @@ compare-passed-spec =
     equal-requires
     compare-itself-requires
     returns
+    longer-requires
     compare-long-requires
     returns-2
-    compare-long-requires-2
+    compare-middle-requires
     returns-3
     compare-short-requires
     returns-4)

@@ -6,8 +6,10 @@ use lib.ListN.{length}
 use borrow.Author.Needs.{needs}
 use Rattle.values.specs.Tokens.{tokensAt}
 use Rattle.scanner.proofs.Lexing.{lexes-as}
+use Rattle.plain_runs.proofs.Runs.{run-inside}
 use Rattle.export_columns.proofs.Lines.{room-less}
-use Rattle.export_columns.proofs.Steps.{Put, put-start, byte-fits, byte-put, separator-fits, separator-put, fault-put, all-put}
+use Rattle.export_columns.proofs.Steps.{Put, put-start, byte-fits, separator-fits, separator-put, fault-put, all-put}
+use Rattle.export_columns.proofs.Runs.{put-run, run-fits, run-told}
 use Rattle.export_columns.proofs.put_lines.Statement.{statement}
 use Rattle.export_columns.proofs.put_lines.Tie as tie
 
@@ -38,15 +40,40 @@ put-byte-requires c κs =
     let loop = c .before .before .before .before .before .loop in
     (byte-fits (loop .l) (loop .inv) (lexed .0), room-less (loop .l) (omega arith) (loop .inv .enough))
 
+past-plain-requires : tie.Need-past-plain-requires Inv-loop μ-loop
+past-plain-requires c κs = search needs
+
+put-plain-requires : tie.Need-put-plain-requires Inv-loop μ-loop
+put-plain-requires c κs =
+    let args = c .before .before .before .before .before .before .before .before .before .before .before .before .before .before .args in
+    let s = args .s .now in
+    let loop = c .before .before .before .before .before .before .before .before .before .before .loop in
+    let put = c .before .before .before .before .put-byte .ensures in
+    let run = c .before .past-plain .ensures in
+    let lexed = lexes-as _ _ _ (c .before .before .before .before .before .before .before .before .before .lex .ensures) (c .before .before .before .before .before .before .before .byte .given .1) in
+    (run .0, run-inside (args .c) s run (lexed .2), run-fits (args .c) s (loop .l) (loop .inv) (lexed .0) (omega arith) (put .0) (put .1) run)
+
+sub-with-more : tie.Need-sub-with-more Inv-loop μ-loop
+sub-with-more c = c .before .before .before .before .past-plain .ensures .0
+
+with-more-requires : tie.Need-with-more-requires Inv-loop μ-loop
+with-more-requires c κs =
+    let args = c .before .before .before .before .before .before .before .before .before .before .before .before .before .before .before .before .before .args in
+    let loop = c .before .before .before .before .before .before .before .before .before .before .before .before .before .loop in
+    let put = c .before .before .before .before .before .before .before .put-byte .ensures in
+    let lexed = lexes-as _ _ _ (c .before .before .before .before .before .before .before .before .before .before .before .before .lex .ensures) (c .before .before .before .before .before .before .before .before .before .before .byte .given .1) in
+    omega (arith, put-run (args .c) (args .s .now) (loop .l) (loop .inv) (lexed .0) (omega arith) (put .0) (put .1) (c .before .before .before .before .past-plain .ensures) .enough .most)
+
 loop-less : tie.Need-loop-less Inv-loop μ-loop
-loop-less c = let lexed = lexes-as _ _ _ (c .before .before .before .before .before .before .before .lex .ensures) (c .before .before .before .before .before .byte .given .1) in omega arith
+loop-less c = let lexed = lexes-as _ _ _ (c .before .before .before .before .before .before .before .before .before .before .before .before .before .lex .ensures) (c .before .before .before .before .before .before .before .before .before .before .before .byte .given .1) in omega (arith, c .before .before .before .before .before .past-plain .ensures .0)
 
 loop-again : tie.Need-loop-again Inv-loop μ-loop
 loop-again c =
-    let lexed = lexes-as _ _ _ (c .before .before .before .before .before .before .before .lex .ensures) (c .before .before .before .before .before .byte .given .1) in
-    let loop = c .before .before .before .before .before .before .before .before .loop in
-    let put = c .before .before .put-byte .ensures in
-    byte-put (loop .l) (loop .inv) (lexed .0) (put .0) (put .1) (omega arith)
+    let args = c .before .before .before .before .before .before .before .before .before .before .before .before .before .before .before .before .before .before .args in
+    let loop = c .before .before .before .before .before .before .before .before .before .before .before .before .before .before .loop in
+    let put = c .before .before .before .before .before .before .before .before .put-byte .ensures in
+    let lexed = lexes-as _ _ _ (c .before .before .before .before .before .before .before .before .before .before .before .before .before .lex .ensures) (c .before .before .before .before .before .before .before .before .before .before .before .byte .given .1) in
+    run-told (args .c) (args .s .now) (loop .l) (loop .inv) (lexed .0) (omega arith) (put .0) (put .1) (c .before .before .before .before .before .past-plain .ensures) (c .before .before .before .put-plain .ensures) (c .with-more .ensures)
 
 enum-known-rank : tie.Need-enum-known-rank Inv-loop μ-loop
 enum-known-rank c = search needs
@@ -100,6 +127,10 @@ put-lines-spec =
     lex-requires
     enum-known-byte
     put-byte-requires
+    past-plain-requires
+    put-plain-requires
+    sub-with-more
+    with-more-requires
     loop-less
     loop-again
     enum-known-rank

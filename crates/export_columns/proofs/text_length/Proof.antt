@@ -1,13 +1,16 @@
 -- `export_columns::text_length` meets its contract. The loop's invariant: what is counted and the lines of the tokens from `at` on are the whole,
 -- and each byte of the input that is left has room for a line. What is left of the input falls. Assumes nothing.
 use Prim.Native.Nat.{_-_}
+use mathlib.Core.Path.{sym, subst}
 use native.Mathlib.Omega.{arith}
 use lib.ListN.{length}
 use borrow.Author.Needs.{needs}
 use Rattle.values.specs.Tokens.{tokensAt}
 use Rattle.scanner.proofs.Lexing.{lexes-as}
+use Rattle.export_columns.specs.declared.Line.{Line}
 use Rattle.export_columns.proofs.Lines.{room-less}
-use Rattle.export_columns.proofs.Steps.{Measured, measured-start, measured-byte, measured-separator, measured-fault, measured-end}
+use Rattle.export_columns.proofs.Steps.{Measured, measured-start, measured-separator, measured-fault, measured-end}
+use Rattle.export_columns.proofs.Runs.{measured-run}
 use Rattle.export_columns.proofs.text_length.Statement.{statement}
 use Rattle.export_columns.proofs.text_length.Tie as tie
 
@@ -32,18 +35,36 @@ lex-requires c κs = search needs
 enum-known-next : tie.Need-enum-known-next Inv-loop μ-loop
 enum-known-next c = search needs
 
+past-plain-requires : tie.Need-past-plain-requires Inv-loop μ-loop
+past-plain-requires c κs = search needs
+
 with-byte-requires : tie.Need-with-byte-requires Inv-loop μ-loop
 with-byte-requires c κs =
-    let lexed = lexes-as _ _ _ (c .before .before .before .lex .ensures) (c .before .next .given .1) in
-    room-less (c .before .before .before .before .loop .l) (omega arith) (c .before .before .before .before .loop .inv .enough)
+    let lexed = lexes-as _ _ _ (c .before .before .before .before .lex .ensures) (c .before .before .next .given .1) in
+    room-less (c .before .before .before .before .before .loop .l) (omega arith) (c .before .before .before .before .before .loop .inv .enough)
+
+sub-with-more : tie.Need-sub-with-more Inv-loop μ-loop
+sub-with-more c = c .before .past-plain .ensures .0
+
+with-more-requires : tie.Need-with-more-requires Inv-loop μ-loop
+with-more-requires c κs =
+    let args = c .before .before .before .before .before .before .before .before .before .args in
+    let loop = c .before .before .before .before .before .before .loop in
+    let lexed = lexes-as _ _ _ (c .before .before .before .before .before .lex .ensures) (c .before .before .before .next .given .1) in
+    omega (arith, measured-run (args .c) (args .s .now) (loop .l) (loop .inv) (lexed .0) (omega arith) (c .with-byte .ensures) (c .before .past-plain .ensures) .enough .most)
 
 loop-less : tie.Need-loop-less Inv-loop μ-loop
-loop-less c = let lexed = lexes-as _ _ _ (c .before .before .before .before .lex .ensures) (c .before .before .next .given .1) in omega arith
+loop-less c = let lexed = lexes-as _ _ _ (c .before .before .before .before .before .before .lex .ensures) (c .before .before .before .before .next .given .1) in omega (arith, c .before .before .past-plain .ensures .0)
 
 loop-again : tie.Need-loop-again Inv-loop μ-loop
 loop-again c =
-    let lexed = lexes-as _ _ _ (c .before .before .before .before .lex .ensures) (c .before .before .next .given .1) in
-    measured-byte (c .before .before .before .before .before .loop .l) (c .before .before .before .before .before .loop .inv) (omega arith) (lexed .0) (c .with-byte .ensures)
+    let args = c .before .before .before .before .before .before .before .before .before .before .args in
+    let s = args .s .now in
+    let loop = c .before .before .before .before .before .before .before .loop in
+    let to = c .before .before .past-plain .result in
+    let lexed = lexes-as _ _ _ (c .before .before .before .before .before .before .lex .ensures) (c .before .before .before .before .next .given .1) in
+    subst (λ (l : Line). Measured (tokensAt (args .c) s (args .start)) l (tokensAt (args .c) s to) (length s - to)) (sym (c .with-more .ensures))
+    (measured-run (args .c) s (loop .l) (loop .inv) (lexed .0) (omega arith) (c .before .with-byte .ensures) (c .before .before .past-plain .ensures))
 
 enum-known-rank : tie.Need-enum-known-rank Inv-loop μ-loop
 enum-known-rank c = search needs
@@ -90,7 +111,10 @@ text-length-spec =
     loop-holds
     lex-requires
     enum-known-next
+    past-plain-requires
     with-byte-requires
+    sub-with-more
+    with-more-requires
     loop-less
     loop-again
     enum-known-rank

@@ -1,89 +1,88 @@
--- `normal_form_text::put_contents` meets its contract: what is emitted of a body that is spelled as in its normal form is that body without
--- its line breaks, and another one is stored segment by segment. Assumes nothing.
-use Prim.Native.Nat.{_+_, _≤_}
-use mathlib.Core.Path.{sym, ap, _∙_}
+-- `normal_form_text::put_contents` meets its contract. The loop's invariant: the body is stored up to `at`. What is left of the input falls.
+-- Assumes nothing.
+use Prim.Native.Nat.{_-_}
+use mathlib.Core.Path.{ap, ap₂, _∙_}
+use mathlib.Core.Bool.{_&&_}
 use native.Mathlib.Omega.{arith}
 use lib.ListN.{length}
-use lib.Seq.{sets}
 use borrow.Author.Needs.{needs}
-use borrow.Author.Tests.{le-leb}
-use Rattle.characters.specs.declared.Characters.{Characters}
-use Rattle.values.specs.Tokens.{tokensAt}
-use Rattle.emission_laws.specs.Emission.{nothing, emitted}
-use Rattle.verbatim.proofs.Emitted.{emitted-verbatim}
+use Rattle.stages.specs.Contents.{normalCharacters}
+use Rattle.ordinary_runs.specs.Runs.{quiet}
+use Rattle.unbroken_parts.proofs.Parts.{unbroken-later}
+use Rattle.normal_form_text.specs.Stored.{Stored}
+use Rattle.normal_form_text.proofs.Parts.{stored-none, as-long, rest-fits, stored-more, stored-all}
 use Rattle.normal_form_text.proofs.put_contents.Statement.{statement}
 use Rattle.normal_form_text.proofs.put_contents.Tie as tie
 
-is-verbatim-requires : tie.Need-is-verbatim-requires
-is-verbatim-requires c κs = search needs
+abbrev Inv-loop : tie.InvT-loop
+Inv-loop buffer₀ from s c start repetition calm whole total₀ at₀ buffer total at =
+    Stored c (normalCharacters (c .mark) repetition) s buffer₀ buffer (record { total = from; at = start }) (record { total = total; at = at })
 
-unbroken-length-requires : tie.Need-unbroken-length-requires
-unbroken-length-requires c κs = search needs
+abbrev μ-loop : tie.MeasureT-loop
+μ-loop buffer₀ from s c start repetition calm whole total₀ at₀ buffer total at = length s - at
 
-add-end : tie.Need-add-end
-add-end c =
-    let args = c .before .before .before .before .before .args in
-    let (room, near, short, good, seen, printed) = c .before .before .before .before .before .pre in
-    let kept = sym (c .before .before .is-verbatim .ensures) ∙ c .before .if1 .taken in
-    let same = emitted-verbatim (args .c) (args .s .now) (args .start) (args .repetition) (le-leb 32 (args .repetition) printed) kept good seen in
-    omega (arith, ap length same, room, c .unbroken-length .ensures)
+is-quiet-requires : tie.Need-is-quiet-requires Inv-loop μ-loop
+is-quiet-requires c κs = search needs
 
-put-unbroken-requires : tie.Need-put-unbroken-requires
-put-unbroken-requires c κs =
-    let args = c .before .before .before .before .before .before .args in
-    let (room, near, short, good, seen, printed) = c .before .before .before .before .before .before .pre in
-    let kept = sym (c .before .before .before .is-verbatim .ensures) ∙ c .before .before .if1 .taken in
-    let same = emitted-verbatim (args .c) (args .s .now) (args .start) (args .repetition) (le-leb 32 (args .repetition) printed) kept good seen in
-    omega (arith, ap length same, room)
-
-same-length : tie.Need-same-length
-same-length c = search needs
-
-returns : tie.Need-returns
-returns c =
-    let args = c .before .before .before .before .before .before .before .before .before .args in
-    let (room, near, short, good, seen, printed) = c .before .before .before .before .before .before .before .before .before .pre in
-    let kept = sym (c .before .before .before .before .before .before .is-verbatim .ensures) ∙ c .before .before .before .before .before .if1 .taken in
-    let same = emitted-verbatim (args .c) (args .s .now) (args .start) (args .repetition) (le-leb 32 (args .repetition) printed) kept good seen in (
-      c .before .before .put-unbroken .ensures ∙ ap (sets (args .buffer .now) (args .from)) (sym same),
-      omega (arith, ap length same, c .before .before .before .before .unbroken-length .ensures),
-    )
-
-normal-characters-requires : tie.Need-normal-characters-requires
+normal-characters-requires : tie.Need-normal-characters-requires Inv-loop μ-loop
 normal-characters-requires c κs = search needs
 
-put-by-segment-requires : tie.Need-put-by-segment-requires
-put-by-segment-requires c κs =
-    let args = c .before .before .before .before .before .before .args in
-    let (room, near, short, good, seen, printed) = c .before .before .before .before .before .before .pre in
-    let ts = tokensAt (args .c) (args .s .now) (args .start) in
-    let normal = ap (λ (n : Characters). length (emitted n nothing ts)) (c .normal-characters .ensures) in
-    (near, short, omega (arith, normal, room))
+is-quiet-requires-2 : tie.Need-is-quiet-requires-2 Inv-loop μ-loop
+is-quiet-requires-2 c κs = search needs
 
-same-length-2 : tie.Need-same-length-2
-same-length-2 c = search needs
+is-whole-requires : tie.Need-is-whole-requires Inv-loop μ-loop
+is-whole-requires c κs = search needs
 
-returns-2 : tie.Need-returns-2
-returns-2 c =
-    let args = c .before .before .before .before .before .before .before .before .before .args in
-    let ts = tokensAt (args .c) (args .s .now) (args .start) in
-    let normal = c .before .before .before .normal-characters .ensures in
-    let (stored, end) = c .before .before .put-by-segment .ensures in (
-      stored ∙ ap (λ (n : Characters). sets (args .buffer .now) (args .from) (emitted n nothing ts)) normal,
-      end ∙ ap (λ (n : Characters). args .from + length (emitted n nothing ts)) normal,
+loop-holds : tie.Need-loop-holds Inv-loop μ-loop
+loop-holds c =
+    let x = c .before .before .before .before .before .before .args in
+    stored-none (x .c) (normalCharacters (x .c .mark) (x .repetition)) (x .s .now) (x .buffer .now) (record { total = x .from; at = x .start })
+
+put-part-requires : tie.Need-put-part-requires Inv-loop μ-loop
+put-part-requires c κs =
+    let x = c .before .before .before .before .before .before .before .before .before .args in
+    let (room, near, short, good, seen, printed) = c .before .before .before .before .before .before .before .before .before .pre in
+    let so-far = c .before .before .loop .inv in
+    let calm = ap₂ _&&_ (c .before .before .before .before .before .before .is-quiet .ensures) (c .before .before .before .before .is-quiet2 .ensures ∙ ap quiet (c .before .before .before .before .before .normal-characters .ensures)) in (
+      short,
+      omega arith,
+      omega (arith, so-far .measured .low, so-far .measured .on),
+      calm,
+      rest-fits (x .c) (normalCharacters (x .c .mark) (x .repetition)) (x .s .now) so-far room,
+      so-far .measured .sound (good, seen),
+      printed,
+      λ e. unbroken-later (x .s .now) (c .before .before .before .is-whole .ensures e) (so-far .measured .on),
     )
+
+loop-less : tie.Need-loop-less Inv-loop μ-loop
+loop-less c = let on = c .before .before .put-part .ensures .1 (c .before .before .before .before .loop-test .taken) in omega arith
+
+loop-again : tie.Need-loop-again Inv-loop μ-loop
+loop-again c =
+    let x = c .before .before .before .before .before .before .before .before .before .before .before .before .args in
+    stored-more (x .c) (normalCharacters (x .c .mark) (x .repetition)) (x .s .now) (c .before .before .before .before .before .loop .inv) (c .before .before .put-part .ensures .0)
+
+same-length : tie.Need-same-length Inv-loop μ-loop
+same-length c = let x = c .before .before .before .before .before .before .before .before .args in as-long (x .c) (normalCharacters (x .c .mark) (x .repetition)) (x .s .now) (c .before .loop .inv)
+
+returns : tie.Need-returns Inv-loop μ-loop
+returns c =
+    let x = c .before .before .before .before .before .before .before .before .args in
+    stored-all (x .c) (normalCharacters (x .c .mark) (x .repetition)) (x .s .now) (c .before .loop .inv) (c .loop-test .left)
 
 pub put-contents-spec : {M : Type 1} → statement M
 put-contents-spec =
     tie.close
     (tie.spec
-    is-verbatim-requires
-    unbroken-length-requires
-    add-end
-    put-unbroken-requires
-    same-length
-    returns
+    Inv-loop
+    μ-loop
+    is-quiet-requires
     normal-characters-requires
-    put-by-segment-requires
-    same-length-2
-    returns-2)
+    is-quiet-requires-2
+    is-whole-requires
+    loop-holds
+    put-part-requires
+    loop-less
+    loop-again
+    same-length
+    returns)

@@ -8,7 +8,8 @@ use borrow.Author.Needs.{needs}
 use Rattle.values.specs.Tokens.{tokensAt}
 use Rattle.scanner.proofs.Lexing.{lexes-as}
 use Rattle.read_counts.specs.declared.Listing.{Listing}
-use Rattle.read_counts.proofs.Steps.{Tallied, tallied-start, tallied-byte, tallied-separator, tallied-fault, tallied-end}
+use Rattle.read_counts.proofs.Steps.{Tallied, tallied-start, tallied-separator, tallied-fault, tallied-end}
+use Rattle.read_counts.proofs.Runs.{tallied-run}
 use Rattle.read_counts.proofs.tally_of.Statement.{statement}
 use Rattle.read_counts.proofs.tally_of.Tie as tie
 
@@ -34,16 +35,34 @@ lex-requires c κs = search needs
 enum-known-next : tie.Need-enum-known-next Inv-loop μ-loop
 enum-known-next c = search needs
 
+past-plain-requires : tie.Need-past-plain-requires Inv-loop μ-loop
+past-plain-requires c κs = search needs
+
 with-byte-requires : tie.Need-with-byte-requires Inv-loop μ-loop
-with-byte-requires c κs = let t = c .before .before .before .before .loop .inv in let short = c .before .before .before .before .before .before .before .pre in omega arith
+with-byte-requires c κs = let t = c .before .before .before .before .before .loop .inv in let short = c .before .before .before .before .before .before .before .before .pre in omega arith
+
+sub-with-more : tie.Need-sub-with-more Inv-loop μ-loop
+sub-with-more c = c .before .past-plain .ensures .0
+
+with-more-requires : tie.Need-with-more-requires Inv-loop μ-loop
+with-more-requires c κs =
+    let args = c .before .before .before .before .before .before .before .before .before .args in
+    let loop = c .before .before .before .before .before .before .loop in
+    let lexed = lexes-as _ _ _ (c .before .before .before .before .before .lex .ensures) (c .before .before .before .next .given .1) in
+    omega (arith, tallied-run (args .c) (args .s .now) (loop .l) (lexed .0) (omega arith) (c .with-byte .ensures) (c .before .past-plain .ensures) (loop .inv) .enough .long, c .before .before .before .before .before .before .before .before .before .pre)
 
 loop-less : tie.Need-loop-less Inv-loop μ-loop
-loop-less c = let l = lexes-as _ _ _ (c .before .before .before .before .lex .ensures) (c .before .before .next .given .1) in omega arith
+loop-less c = let lexed = lexes-as _ _ _ (c .before .before .before .before .before .before .lex .ensures) (c .before .before .before .before .next .given .1) in omega (arith, c .before .before .past-plain .ensures .0)
 
 loop-again : tie.Need-loop-again Inv-loop μ-loop
 loop-again c =
-    let l = lexes-as _ _ _ (c .before .before .before .before .lex .ensures) (c .before .before .next .given .1) in
-    tallied-byte (c .before .before .before .before .before .loop .l) (c .before .before .before .before .before .loop .inv) (omega arith) (l .0) (c .with-byte .ensures)
+    let args = c .before .before .before .before .before .before .before .before .before .before .args in
+    let s = args .s .now in
+    let loop = c .before .before .before .before .before .before .before .loop in
+    let to = c .before .before .past-plain .result in
+    let lexed = lexes-as _ _ _ (c .before .before .before .before .before .before .lex .ensures) (c .before .before .before .before .next .given .1) in
+    subst (λ (l : Listing). Tallied (tokensAt (args .c) s (args .start)) l (tokensAt (args .c) s to) (length s - to) (length s)) (sym (c .with-more .ensures))
+    (tallied-run (args .c) s (loop .l) (lexed .0) (omega arith) (c .before .with-byte .ensures) (c .before .before .past-plain .ensures) (loop .inv))
 
 enum-known-rank : tie.Need-enum-known-rank Inv-loop μ-loop
 enum-known-rank c = search needs
@@ -73,11 +92,11 @@ loop-again-3 c =
 enum-told : tie.Need-enum-told Inv-loop μ-loop
 enum-told c = search needs
 
-add-t11 : tie.Need-add-t11 Inv-loop μ-loop
-add-t11 c = let t = c .before .before .before .before .loop .inv in let short = c .before .before .before .before .before .before .before .pre in record { fits = omega arith }
+add-t13 : tie.Need-add-t13 Inv-loop μ-loop
+add-t13 c = let t = c .before .before .before .before .loop .inv in let short = c .before .before .before .before .before .before .before .pre in record { fits = omega arith }
 
-mul-t12 : tie.Need-mul-t12 Inv-loop μ-loop
-mul-t12 c = let t = c .before .before .before .before .before .loop .inv in let short = c .before .before .before .before .before .before .before .before .pre in record { fits = omega arith }
+mul-t14 : tie.Need-mul-t14 Inv-loop μ-loop
+mul-t14 c = let t = c .before .before .before .before .before .loop .inv in let short = c .before .before .before .before .before .before .before .before .pre in record { fits = omega arith }
 
 returns : tie.Need-returns Inv-loop μ-loop
 returns c =
@@ -94,7 +113,10 @@ tally-of-spec =
     loop-holds
     lex-requires
     enum-known-next
+    past-plain-requires
     with-byte-requires
+    sub-with-more
+    with-more-requires
     loop-less
     loop-again
     enum-known-rank
@@ -105,6 +127,6 @@ tally-of-spec =
     loop-less-3
     loop-again-3
     enum-told
-    add-t11
-    mul-t12
+    add-t13
+    mul-t14
     returns)

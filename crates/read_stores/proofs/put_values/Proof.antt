@@ -6,8 +6,10 @@ use lib.ListN.{length}
 use borrow.Author.Needs.{needs}
 use Rattle.values.specs.Tokens.{tokensAt}
 use Rattle.scanner.proofs.Lexing.{lexes-as}
+use Rattle.plain_runs.proofs.Runs.{run-inside}
 use Rattle.read_counts.specs.Tally.{values, end}
-use Rattle.read_stores.proofs.Storing.{Stored, stored-start, byte-fits, records-fit, stored-byte, separator-fits, stored-separator, stored-fault, stored-end}
+use Rattle.read_stores.proofs.Storing.{Stored, stored-start, byte-fits, records-fit, separator-fits, stored-separator, stored-fault, stored-end}
+use Rattle.read_stores.proofs.Runs.{stored-run, run-fits, run-told}
 use Rattle.read_stores.proofs.put_values.Statement.{statement}
 use Rattle.read_stores.proofs.put_values.Tie as tie
 use Rattle.refusals.specs.Limits.{mostBytes}
@@ -44,14 +46,52 @@ put-value-byte-requires c κs =
     let long : end (c .before .before .before .before .before .before .loop .l) ≤ mostBytes = omega (arith, g .enough .long) in
     (byte-fits (c .before .before .before .before .before .before .loop .l) g (l .0), records-fit (c .before .before .before .before .before .before .loop .l) g (l .0), many, long)
 
+past-plain-requires : tie.Need-past-plain-requires Inv-loop μ-loop
+past-plain-requires c κs = search needs
+
+add-put-plain : tie.Need-add-put-plain Inv-loop μ-loop
+add-put-plain c =
+    let args = c .before .before .before .before .before .before .before .before .before .before .before .before .before .before .before .before .before .before .before .args in
+    let loop = c .before .before .before .before .before .before .before .before .before .before .before .before .before .before .loop in
+    let put = c .before .before .before .before .before .before .before .put-value-byte .ensures in
+    let run = c .before .before .past-plain .ensures in
+    let lexed = lexes-as (args .c) (args .s .now) (loop .at) (c .before .before .before .before .before .before .before .before .before .before .before .before .before .lex .ensures) (c .before .before .before .before .before .before .before .before .before .before .before .byte .given .1) in
+    record { fits = omega (arith, stored-run (args .c) (args .s .now) (loop .l) (loop .inv) (lexed .0) (omega arith) (put .0) (put .1) (put .2) run .enough .long, c .before .before .before .before .before .before .before .before .before .before .before .before .before .before .before .before .before .before .before .pre .0) }
+
+put-plain-requires : tie.Need-put-plain-requires Inv-loop μ-loop
+put-plain-requires c κs =
+    let args = c .before .before .before .before .before .before .before .before .before .before .before .before .before .before .before .before .before .before .before .args in
+    let loop = c .before .before .before .before .before .before .before .before .before .before .before .before .before .before .loop in
+    let put = c .before .before .before .before .before .before .before .put-value-byte .ensures in
+    let run = c .before .before .past-plain .ensures in
+    let lexed = lexes-as (args .c) (args .s .now) (loop .at) (c .before .before .before .before .before .before .before .before .before .before .before .before .before .lex .ensures) (c .before .before .before .before .before .before .before .before .before .before .before .byte .given .1) in
+    (run .0, run-inside (args .c) (args .s .now) run (lexed .2), run-fits (args .c) (args .s .now) (loop .l) (loop .inv) (lexed .0) (omega arith) (put .0) (put .1) (put .2) run)
+
+sub-with-more : tie.Need-sub-with-more Inv-loop μ-loop
+sub-with-more c = c .before .before .before .before .before .past-plain .ensures .0
+
+with-more-requires : tie.Need-with-more-requires Inv-loop μ-loop
+with-more-requires c κs =
+    let args = c .before .before .before .before .before .before .before .before .before .before .before .before .before .before .before .before .before .before .before .before .before .before .args in
+    let loop = c .before .before .before .before .before .before .before .before .before .before .before .before .before .before .before .before .before .loop in
+    let put = c .before .before .before .before .before .before .before .before .before .before .put-value-byte .ensures in
+    let run = c .before .before .before .before .before .past-plain .ensures in
+    let lexed = lexes-as (args .c) (args .s .now) (loop .at) (c .before .before .before .before .before .before .before .before .before .before .before .before .before .before .before .before .lex .ensures) (c .before .before .before .before .before .before .before .before .before .before .before .before .before .before .byte .given .1) in
+    omega (arith, stored-run (args .c) (args .s .now) (loop .l) (loop .inv) (lexed .0) (omega arith) (put .0) (put .1) (put .2) run .enough .long, c .before .before .before .before .before .before .before .before .before .before .before .before .before .before .before .before .before .before .before .before .before .before .pre .0)
+
 loop-less : tie.Need-loop-less Inv-loop μ-loop
-loop-less c = let l = lexes-as (c .before .before .before .before .before .before .before .before .before .before .before .before .before .before .before .before .args .c) (c .before .before .before .before .before .before .before .before .before .before .before .before .before .before .before .before .args .s .now) (c .before .before .before .before .before .before .before .before .before .before .before .loop .at) (c .before .before .before .before .before .before .before .before .before .before .lex .ensures) (c .before .before .before .before .before .before .before .before .byte .given .1) in omega arith
+loop-less c =
+    let lexed = lexes-as (c .before .before .before .before .before .before .before .before .before .before .before .before .before .before .before .before .before .before .before .before .before .before .before .args .c) (c .before .before .before .before .before .before .before .before .before .before .before .before .before .before .before .before .before .before .before .before .before .before .before .args .s .now) (c .before .before .before .before .before .before .before .before .before .before .before .before .before .before .before .before .before .before .loop .at) (c .before .before .before .before .before .before .before .before .before .before .before .before .before .before .before .before .before .lex .ensures) (c .before .before .before .before .before .before .before .before .before .before .before .before .before .before .before .byte .given .1) in
+    omega (arith, c .before .before .before .before .before .before .past-plain .ensures .0)
 
 loop-again : tie.Need-loop-again Inv-loop μ-loop
 loop-again c =
-    let l = lexes-as (c .before .before .before .before .before .before .before .before .before .before .before .before .before .before .before .before .args .c) (c .before .before .before .before .before .before .before .before .before .before .before .before .before .before .before .before .args .s .now) (c .before .before .before .before .before .before .before .before .before .before .before .loop .at) (c .before .before .before .before .before .before .before .before .before .before .lex .ensures) (c .before .before .before .before .before .before .before .before .byte .given .1) in
-    let e = c .before .before .before .before .put-value-byte .ensures in
-    stored-byte (c .before .before .before .before .before .before .before .before .before .before .before .loop .l) (c .before .before .before .before .before .before .before .before .before .before .before .loop .inv) (l .0) (e .0) (e .1) (e .2) (omega arith)
+    let args = c .before .before .before .before .before .before .before .before .before .before .before .before .before .before .before .before .before .before .before .before .before .before .before .args in
+    let loop = c .before .before .before .before .before .before .before .before .before .before .before .before .before .before .before .before .before .before .loop in
+    let put = c .before .before .before .before .before .before .before .before .before .before .before .put-value-byte .ensures in
+    let run = c .before .before .before .before .before .before .past-plain .ensures in
+    let lexed = lexes-as (args .c) (args .s .now) (loop .at) (c .before .before .before .before .before .before .before .before .before .before .before .before .before .before .before .before .before .lex .ensures) (c .before .before .before .before .before .before .before .before .before .before .before .before .before .before .before .byte .given .1) in
+    run-told (args .c) (args .s .now) (loop .l) (loop .inv) (lexed .0) (omega arith) (put .0) (put .1) (put .2) run (c .before .before .before .put-plain .ensures) (c .with-more .ensures)
 
 enum-known-rank : tie.Need-enum-known-rank Inv-loop μ-loop
 enum-known-rank c = search needs
@@ -110,6 +150,11 @@ put-values-spec =
     lex-requires
     enum-known-byte
     put-value-byte-requires
+    past-plain-requires
+    add-put-plain
+    put-plain-requires
+    sub-with-more
+    with-more-requires
     loop-less
     loop-again
     enum-known-rank

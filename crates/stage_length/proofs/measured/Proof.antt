@@ -1,42 +1,86 @@
--- `stage_length::measured` meets its contract: a body that is spelled as in its normal form has its length without line
--- breaks, and another one is measured segment by segment. Assumes nothing.
-use Prim.Native.Nat.{ℕ}
-use mathlib.Core.Path.{sym, ap, _∙_}
+-- `stage_length::measured` meets its contract. The loop's invariant: the body is measured up to `at`. What is left of the input falls.
+-- Assumes nothing.
+use Prim.Native.Nat.{_-_}
+use mathlib.Core.Path.{ap, ap₂, _∙_}
+use mathlib.Core.Bool.{_&&_}
+use native.Mathlib.Omega.{arith}
 use lib.ListN.{length}
 use borrow.Author.Needs.{needs}
-use borrow.Author.Tests.{le-leb}
-use Rattle.characters.specs.declared.Characters.{Characters}
-use Rattle.values.specs.Tokens.{tokensAt}
-use Rattle.emission_laws.specs.Emission.{nothing, emitted}
-use Rattle.verbatim.proofs.Emitted.{emitted-verbatim}
+use Rattle.stages.specs.Contents.{normalCharacters}
+use Rattle.ordinary_runs.specs.Runs.{quiet}
+use Rattle.unbroken_parts.proofs.Parts.{unbroken-later}
+use Rattle.stretches.proofs.Stretching.{emitted-none}
+use Rattle.stage_length.specs.Measured.{Measured}
+use Rattle.stage_length.proofs.Parts.{measured-none, measured-more}
 use Rattle.stage_length.proofs.measured.Statement.{statement}
 use Rattle.stage_length.proofs.measured.Tie as tie
 
-is-verbatim-requires : tie.Need-is-verbatim-requires
-is-verbatim-requires c κs = search needs
+abbrev Inv-loop : tie.InvT-loop
+Inv-loop s c start repetition calm whole total₀ at₀ total at =
+    Measured c (normalCharacters (c .mark) repetition) s (record { total = 0; at = start }) (record { total = total; at = at })
 
-unbroken-length-requires : tie.Need-unbroken-length-requires
-unbroken-length-requires c κs = search needs
+abbrev μ-loop : tie.MeasureT-loop
+μ-loop s c start repetition calm whole total₀ at₀ total at = length s - at
 
-returns : tie.Need-returns
-returns c =
-    let args = c .before .before .before .before .args in
-    let (short, good, seen, printed) = c .before .before .before .before .pre in
-    let kept = sym (c .before .before .is-verbatim .ensures) ∙ c .before .if1 .taken in
-    c .unbroken-length .ensures
-    ∙ sym (ap length (emitted-verbatim (args .c) (args .s .now) (args .start) (args .repetition) (le-leb 32 (args .repetition) printed) kept good seen))
+is-quiet-requires : tie.Need-is-quiet-requires Inv-loop μ-loop
+is-quiet-requires c κs = search needs
 
-normal-characters-requires : tie.Need-normal-characters-requires
+normal-characters-requires : tie.Need-normal-characters-requires Inv-loop μ-loop
 normal-characters-requires c κs = search needs
 
-measured-by-segment-requires : tie.Need-measured-by-segment-requires
-measured-by-segment-requires c κs = search needs
+is-quiet-requires-2 : tie.Need-is-quiet-requires-2 Inv-loop μ-loop
+is-quiet-requires-2 c κs = search needs
 
-returns-2 : tie.Need-returns-2
-returns-2 c =
-    let args = c .before .before .before .before .before .args in
-    let ts = tokensAt (args .c) (args .s .now) (args .start) in
-    c .measured-by-segment .ensures ∙ ap (λ (n : Characters). length (emitted n nothing ts)) (c .before .normal-characters .ensures)
+is-whole-requires : tie.Need-is-whole-requires Inv-loop μ-loop
+is-whole-requires c κs = search needs
+
+loop-holds : tie.Need-loop-holds Inv-loop μ-loop
+loop-holds c =
+    let x = c .before .before .before .before .before .args in
+    measured-none (x .c) (normalCharacters (x .c .mark) (x .repetition)) (x .s .now) (record { total = 0; at = x .start })
+
+past-part-requires : tie.Need-past-part-requires Inv-loop μ-loop
+past-part-requires c κs =
+    let x = c .before .before .before .before .before .before .before .args in
+    let (short, good, seen, printed) = c .before .before .before .before .before .before .before .pre in
+    let so-far = c .before .loop .inv in
+    let calm = ap₂ _&&_ (c .before .before .before .before .before .is-quiet .ensures) (c .before .before .before .is-quiet2 .ensures ∙ ap quiet (c .before .before .before .before .normal-characters .ensures)) in (
+      short,
+      omega arith,
+      omega (arith, so-far .low, so-far .on),
+      calm,
+      so-far .sound (good, seen),
+      printed,
+      λ e. unbroken-later (x .s .now) (c .before .before .is-whole .ensures e) (so-far .on),
+    )
+
+loop-less : tie.Need-loop-less Inv-loop μ-loop
+loop-less c = let on = c .past-part .ensures .1 (c .before .loop-test .taken) in omega arith
+
+loop-again : tie.Need-loop-again Inv-loop μ-loop
+loop-again c =
+    let x = c .before .before .before .before .before .before .before .before .args in
+    measured-more (x .c) (normalCharacters (x .c .mark) (x .repetition)) (x .s .now) (c .before .before .loop .inv) (c .past-part .ensures .0)
+
+returns : tie.Need-returns Inv-loop μ-loop
+returns c =
+    let x = c .before .before .before .before .before .before .before .args in
+    let state = c .before .loop in
+    let none = emitted-none (x .c) (normalCharacters (x .c .mark) (x .repetition)) (x .s .now) (state .at) (c .loop-test .left) in
+    omega (arith, state .inv .counted, ap length none)
 
 pub measured-spec : {M : Type 1} → statement M
-measured-spec = tie.close (tie.spec is-verbatim-requires unbroken-length-requires returns normal-characters-requires measured-by-segment-requires returns-2)
+measured-spec =
+    tie.close
+    (tie.spec
+    Inv-loop
+    μ-loop
+    is-quiet-requires
+    normal-characters-requires
+    is-quiet-requires-2
+    is-whole-requires
+    loop-holds
+    past-part-requires
+    loop-less
+    loop-again
+    returns)

@@ -1,21 +1,31 @@
 -- `stretches::before_halt` meets its contract. The loop's invariant: the stretch halts at none of the bytes up to `at`, unless `first` bytes
 -- were passed before that. What is left of thirty-two falls. Assumes nothing.
-use Prim.Native.Nat.{_+_, _≤_, _-_}
-use mathlib.Core.Path.{_≡_}
+use Prim.Native.Nat.{ℕ, _+_, _-_, _≤_, _<_}
+use mathlib.Core.Path.{_≡_, sym, _∙_}
+use mathlib.Core.Bool.{false}
+use mathlib.Core.List.{List}
 use native.Mathlib.Omega.{arith}
+use lib.ListN.{length, getD}
 use borrow.Author.Needs.{needs}
-use Rattle.stretches.proofs.Steps.{Clear, clear-next}
+use Rattle.characters.specs.declared.Characters.{Characters}
+use Rattle.first_found.specs.First.{Upto}
+use Rattle.first_found.proofs.Firsts.{upto-none, upto-next}
+use Rattle.stretches.specs.Stretches.{halts}
 use Rattle.stretches.proofs.before_halt.Statement.{statement}
 use Rattle.stretches.proofs.before_halt.Tie as tie
 
+-- a byte follows, and the stretch does not halt there
+abbrev Passed : Characters → Characters → List ℕ → ℕ → Type 0
+Passed c n s p = (p + 1 < length s) × (halts c n (getD s p 0) (getD s (p + 1) 0) ≡ false)
+
 abbrev Inv-loop : tie.InvT-loop
-Inv-loop s c n r from first₀ k₀ at₀ first k at = (k ≤ 32) × (at ≡ from + k) × (first ≤ 32) × Clear c n s from at first
+Inv-loop s c n r from first₀ k₀ at₀ first k at = (k ≤ 32) × (at ≡ from + k) × (first ≤ 32) × Upto (Passed c n s) from at first
 
 abbrev μ-loop : tie.MeasureT-loop
 μ-loop s c n r from first₀ k₀ at₀ first k at = 32 - k
 
 loop-holds : tie.Need-loop-holds Inv-loop μ-loop
-loop-holds c = (omega arith, omega arith, omega arith, λ k l m j. absurd (omega arith))
+loop-holds c = let x = c .before .args in (omega arith, omega arith, omega arith, upto-none (Passed (x .c) (x .n) (x .s .now)) 32)
 
 add-next : tie.Need-add-next Inv-loop μ-loop
 add-next c = search needs
@@ -44,12 +54,13 @@ loop-less c = omega arith
 loop-again : tie.Need-loop-again Inv-loop μ-loop
 loop-again c =
     let x = c .before .before .before .before .before .before .before .before .args in
+    let state = c .before .before .before .before .before .before .loop in
     let asked = c .before .before .halts in
-    let inv = c .before .before .before .before .before .before .loop .inv in (
+    let found = c .least in (
       omega arith,
       omega arith,
       omega arith,
-      clear-next (x .c) (x .n) (x .s .now) (asked .result) (inv .3) (omega arith) (asked .ensures) (omega arith)
+      upto-next (Passed (x .c) (x .n) (x .s .now)) (asked .result) (state .first) (found .result) (state .inv .3) (λ e. (omega arith, sym (asked .ensures) ∙ e)) (omega arith)
           (λ t. omega (arith, c .before .place-found .ensures t)),
     )
 

@@ -1,8 +1,9 @@
--- `stretches::before_stop` meets its contract: `closed` says where the stretch passes to, of all bytes or of those reached. Assumes nothing.
+-- `stretches::before_stop` meets its contract: the stretch passes to where `closed` says, of all bytes or of those reached. Assumes nothing.
 use Prim.Native.Nat.{ℕ, _+_, _-_}
 use mathlib.Core.Path.{_≡_, sym, subst, _∙_}
 use native.Mathlib.Omega.{arith}
 use borrow.Author.Needs.{needs}
+use Rattle.release_marks.proofs.Reaching.{closed-holds}
 use Rattle.stretches.specs.Releases.{stays, Passes, Stopped}
 use Rattle.stretches.proofs.before_stop.Statement.{statement}
 use Rattle.stretches.proofs.before_stop.Tie as tie
@@ -22,34 +23,33 @@ first-stop-requires c κs =
     (omega arith, entry .pre .2, sym (c .before .is-marked-at .ensures) ∙ c .if1 .left)
 
 closed-requires : tie.Need-closed-requires
-closed-requires c κs =
-    let x = c .before .before .before .before .before .args in
-    let first = c .before .before in
-    let all : c .before .first-stop .result ≡ 32 = omega arith in (
-      omega arith,
-      sym (first .before .is-marked-at .ensures) ∙ first .if1 .left,
-      subst (λ (k : ℕ). Stopped (x .c) (x .s .now) (x .from - 4) k) all (c .before .first-stop .ensures),
-    )
+closed-requires c κs = let first = c .before .before in (omega arith, sym (first .before .is-marked-at .ensures) ∙ first .if1 .left)
 
 returns-2 : tie.Need-returns-2
 returns-2 c =
     let x = c .before .before .before .before .before .before .args in
-    let there : x .from - 4 + 4 ≡ x .from = omega arith in (
-      omega (arith, c .closed .ensures .0),
-      λ n v. subst (λ (f : ℕ). Passes (x .c) n (x .s .now) f (f + c .closed .result)) there (c .closed .ensures .1 n v),
+    let first = c .before .before .before in (
+      omega (arith, c .closed .ensures),
+      λ n v.
+          closed-holds (Passes (x .c) n (x .s .now)) (x .c) (x .s .now) (x .from - 4) 32 (omega arith)
+          (sym (first .before .is-marked-at .ensures) ∙ first .if1 .left) (c .closed .ensures)
+          (subst (λ (k : ℕ). Stopped (x .c) (x .s .now) (x .from - 4) k) (c .before .if2 .taken) (c .before .before .first-stop .ensures) .1 n v),
     )
 
 closed-requires-2 : tie.Need-closed-requires-2
 closed-requires-2 c κs =
     let first = c .before .before in
-    (omega (arith, c .before .first-stop .ensures .0), sym (first .before .is-marked-at .ensures) ∙ first .if1 .left, c .before .first-stop .ensures)
+    (omega (arith, c .before .first-stop .ensures .0), sym (first .before .is-marked-at .ensures) ∙ first .if1 .left)
 
 returns-3 : tie.Need-returns-3
 returns-3 c =
     let x = c .before .before .before .before .before .before .args in
-    let there : x .from - 4 + 4 ≡ x .from = omega arith in (
-      omega (arith, c .closed2 .ensures .0, c .before .before .first-stop .ensures .0),
-      λ n v. subst (λ (f : ℕ). Passes (x .c) n (x .s .now) f (f + c .closed2 .result)) there (c .closed2 .ensures .1 n v),
+    let stopped = c .before .before .first-stop in
+    let first = c .before .before .before in (
+      omega (arith, c .closed2 .ensures, stopped .ensures .0),
+      λ n v.
+          closed-holds (Passes (x .c) n (x .s .now)) (x .c) (x .s .now) (x .from - 4) (stopped .result) (omega arith)
+          (sym (first .before .is-marked-at .ensures) ∙ first .if1 .left) (c .closed2 .ensures) (stopped .ensures .1 n v),
     )
 
 pub before-stop-spec : {M : Type 1} → statement M

@@ -1,13 +1,15 @@
 -- `stretches::first_stop` meets its contract. The loop's invariant: each byte up to the `k`th that comes before the first stop is reached, and
 -- the six places stand side by side. What is left of thirty-two falls. Assumes nothing.
 use Prim.Native.Nat.{_+_, _≤_, _-_}
-use mathlib.Core.Path.{_≡_, refl}
+use mathlib.Core.Path.{_≡_, refl, sym, _∙_}
 use mathlib.Core.Bool.{true}
 use Rattle.characters.specs.declared.Characters.{Characters}
-use Rattle.stretches.specs.Releases.{alike}
+use Rattle.stretches.specs.Releases.{alike, Passes, stays}
 use native.Mathlib.Omega.{arith}
 use borrow.Author.Needs.{needs}
-use Rattle.stretches.proofs.Releasing.{Stopping, stopping-none, stopping-next, stops-there}
+use Rattle.release_marks.specs.Marks.{markedAt}
+use Rattle.release_marks.proofs.Reaching.{Stopping, stopping-none, stopping-next}
+use Rattle.stretches.proofs.Releasing.{passes-next, stops-there}
 use Rattle.stretches.proofs.first_stop.Statement.{statement}
 use Rattle.stretches.proofs.first_stop.Tie as tie
 
@@ -21,7 +23,7 @@ Inv-loop s c r from first₀ k₀ w₀ x₀ y₀ z₀ a₀ b₀ first k w x y z 
     × (a ≡ w + 1 + 1 + 1 + 1)
     × (b ≡ w + 1 + 1 + 1 + 1 + 1)
     × (first ≤ 32)
-    × ((n : Characters) → alike c n ≡ true → Stopping c n s from k first)
+    × ((n : Characters) → alike c n ≡ true → Stopping (Passes c n s (from + 4)) c s from k first)
 
 abbrev μ-loop : tie.MeasureT-loop
 μ-loop s c r from first₀ k₀ w₀ x₀ y₀ z₀ a₀ b₀ first k w x y z a b = 32 - k
@@ -37,7 +39,9 @@ loop-holds c =
       omega arith,
       omega arith,
       omega arith,
-      λ n v. stopping-none (x .c) n v (x .s .now) (x .from) (c .before .pre .2) 32,
+      λ n v.
+          stopping-none (Passes (x .c) n (x .s .now) (x .from + 4)) (x .c) (x .s .now) (x .from) (c .before .pre .2)
+          (stays {to = x .from + 1 + 1 + 1 + 1} (omega arith)) 32,
     )
 
 loop-less : tie.Need-loop-less Inv-loop μ-loop
@@ -62,8 +66,11 @@ loop-again c =
       omega arith,
       omega arith,
       omega arith,
-      λ n v. stopping-next (x .c) n v (x .s .now) (x .from) (asked .result) (inv .8 n v) (inv .1) (omega arith) there (omega arith)
-          (λ t. omega (arith, c .before .place-found .ensures t)),
+      λ n v.
+          stopping-next (Passes (x .c) n (x .s .now) (x .from + 4)) (x .c) (x .s .now) (x .from) (asked .result) (inv .8 n v) (inv .1)
+          (λ none. passes-next (x .c) n v (x .s .now) (x .from + 4) (markedAt (x .c) (x .s .now) (state .w)) (markedAt (x .c) (x .s .now) (state .w + 1))
+          (state .w + 1 + 1 + 1 + 1) (omega arith) (sym there ∙ none))
+          (omega arith) (λ t. omega (arith, c .before .place-found .ensures t)),
     )
 
 returns : tie.Need-returns Inv-loop μ-loop

@@ -7,11 +7,11 @@ use Rattle.stretches.specs.Releases.{stops}
 use Rattle.stretches.proofs.stops.Statement.{statement}
 use Rattle.stretches.proofs.stops.Tie as tie
 
-is-service-requires : tie.Need-is-service-requires
-is-service-requires c κs = search needs
-
 is-break-requires : tie.Need-is-break-requires
 is-break-requires c κs = search needs
+
+misread-requires : tie.Need-misread-requires
+misread-requires c κs = search needs
 
 is-idle-requires : tie.Need-is-idle-requires
 is-idle-requires c κs = search needs
@@ -19,11 +19,10 @@ is-idle-requires c κs = search needs
 returns : tie.Need-returns
 unfolding stops
 returns c =
-    let x = c .before .before .before .before .before .args in
-    let opens = not (x .this) && eqb (x .a) (x .c .release) in
-    ap₂ (λ (t u : Bool). ((x .next && not opens) || (opens && not (x .next))) || ((x .this && not t) || (not (x .this) && u)))
-    (c .before .before .before .is-service .ensures)
-    (ap₂ (λ (t u : Bool). (eqb (x .a) (x .c .terminator) && t) || u) (c .before .is-break .ensures) (c .is-idle .ensures))
+    let x = c .before .before .before .before .args in
+    ap₂ (λ (t u : Bool). t || (not (x .this) && u))
+    (c .before .misread .ensures)
+    (ap₂ (λ (t u : Bool). (eqb (x .a) (x .c .terminator) && t) || u) (c .before .before .is-break .ensures) (c .is-idle .ensures))
 
 pub stops-spec : {M : Type 1} → statement M
-stops-spec = tie.close (tie.spec is-service-requires is-break-requires is-idle-requires returns)
+stops-spec = tie.close (tie.spec is-break-requires misread-requires is-idle-requires returns)

@@ -12,7 +12,7 @@ use second::refusal::LONGEST;
 use crate::sides::Buffers;
 use crate::{opaque, orders, surface, SEED};
 
-const INTERCHANGES: usize = 2_000;
+const INTERCHANGES: usize = 10_000;
 const NAMES: [&str; 4] = ["judge", "second's judge", "normalise", "second's normalise"];
 
 /// An order and the same in lines, which is not too long for an input.

@@ -1,8 +1,9 @@
 //! Times the proved operations, in one run: Judge, Normalise and Compare against
 //! the rival's and the second program's, on ten thousand interchanges in flavours;
-//! what one change to an order costs; Compare on pairs; orders in lines; the shelf's
-//! operations against Judge over the kept texts; Report over mailbox files; Write over
-//! lists that look dear. A benchmark, not a test.
+//! all operations against the second program's, on the same interchanges; what one
+//! change to an order costs; Compare on pairs; orders in lines; the shelf's operations
+//! against Judge over the kept texts; Report over mailbox files; Write over lists that
+//! look dear. A benchmark, not a test.
 //!
 //! `bench [ROUNDS] [PART]`: the best of so many rounds, in which all that is
 //! compared takes turns; of all parts, or of one of those in `PARTS`.
@@ -12,11 +13,14 @@ mod cliffs;
 mod files;
 mod flavours;
 mod lines;
+mod operations;
 mod orders;
 mod pairs;
 mod passes;
+mod programs;
 mod shelf;
 mod sides;
+mod spellings;
 mod surface;
 mod table;
 mod traps;
@@ -35,8 +39,9 @@ const OTHER_INPUTS: usize = 20_000;
 const ROUNDS: usize = 5;
 
 /// The parts by their names.
-const PARTS: [(&str, fn(usize)); 7] = [
+const PARTS: [(&str, fn(usize)); 8] = [
     ("flavours", table::report),
+    ("operations", operations::report),
     ("cliffs", cliffs::report),
     ("pairs", pairs::report),
     ("lines", lines::report),

@@ -1,57 +1,62 @@
 //! Ours, the rival and the second program on the flavours: the shortest times,
 //! how they relate, and a file of them for the picture.
 
-use std::fs::File;
-use std::process::Command;
 use std::time::Instant;
 
 use second::generator::Random;
-use second::operations;
 use second::refusal::LONGEST;
 
 use crate::flavours::FLAVOURS;
 use crate::sides::{Buffers, SIDES};
+use crate::spellings::{other_spelling, respelled};
 use crate::{aims, opaque, passes};
 
-const SEED: u64 = 202609;
+pub const SEED: u64 = 202609;
 /// Where the file stands.
 const FIGURES: &str = concat!(env!("CARGO_MANIFEST_DIR"), "/../../performance.tsv");
-/// What draws the picture, and where it stands.
-const PICTURE: [&str; 2] = [
-    concat!(env!("CARGO_MANIFEST_DIR"), "/picture.pl"),
-    concat!(env!("CARGO_MANIFEST_DIR"), "/../../performance.svg"),
-];
 
-/// What is timed of an interchange, and its other spelling.
+/// What is timed of an interchange, its other spelling, and the same respelled.
 #[derive(Clone, Copy)]
 enum Turn {
     Judge,
     Normalise,
     NormaliseOther,
+    NormaliseRespelled,
     Compare,
     CompareEqual,
+    CompareRespelled,
 }
 use Turn::*;
-const TURNS: [Turn; 5] = [Judge, Normalise, NormaliseOther, Compare, CompareEqual];
+const TURNS: [Turn; 7] =
+    [Judge, Normalise, NormaliseOther, NormaliseRespelled, Compare, CompareEqual, CompareRespelled];
 
 /// What the table and the file have of each side.
-pub const OPERATIONS: [&str; 5] =
-    ["judge", "normalise", "normalise both", "compare", "compare equal"];
+pub const OPERATIONS: [&str; 7] = [
+    "judge",
+    "normalise",
+    "normalise both",
+    "compare",
+    "compare equal",
+    "normalise both, respelled",
+    "compare respelled",
+];
 pub const JUDGE: usize = 0;
 pub const NORMALISE: usize = 1;
 pub const NORMALISE_BOTH: usize = 2;
 pub const COMPARE: usize = 3;
 pub const COMPARE_EQUAL: usize = 4;
+pub const NORMALISE_BOTH_RESPELLED: usize = 5;
+pub const COMPARE_RESPELLED: usize = 6;
 
 /// For each operation and side the nanoseconds a byte: those of both inputs where
 /// the operation has both.
 pub type Times = [[f64; SIDES.len()]; OPERATIONS.len()];
 
-/// Over the interchanges of a flavour: their bytes, those of their other spellings,
-/// and the nanoseconds of each turn and side.
+/// Over the interchanges of a flavour: their bytes, those of their other spellings and
+/// of the same respelled, and the nanoseconds of each turn and side.
 #[derive(Clone, Copy, Default)]
 struct Sums {
-    bytes: [usize; 2],
+    bytes: [usize; 3],
     times: [[u64; SIDES.len()]; TURNS.len()],
 }
 
@@ -63,7 +68,7 @@ impl Sums {
     }
 
     fn a_byte(&self) -> Times {
-        let [one, other] = self.bytes;
+        let [one, other, respelled] = self.bytes;
         let figure = |turns: &[Turn], bytes: usize| {
             std::array::from_fn(|side| {
                 let time: u64 = turns.iter().map(|&turn| self.times[turn as usize][side]).sum();
@@ -76,40 +81,35 @@ impl Sums {
             figure(&[Normalise, NormaliseOther], one + other),
             figure(&[Compare], one + other),
             figure(&[CompareEqual], one),
+            figure(&[Normalise, NormaliseRespelled], one + respelled),
+            figure(&[CompareRespelled], one + respelled),
         ]
     }
 }
 
-/// The same contents in other bytes: the normal form; of an input that is its own
-/// normal form what stands behind the advice.
-fn other_spelling(input: &[u8]) -> Vec<u8> {
-    let mut form = vec![0; LONGEST];
-    let length = operations::normalise(input, &mut form).expect("it is accepted");
-    form.truncate(length);
-    if form == input {
-        form.drain(..9);
-    }
-    form
-}
+/// An input, its other spelling, the same respelled, and a copy.
+type Inputs<'a> = [&'a [u8]; 4];
 
-fn run(turn: Turn, side: usize, [input, other, copy]: [&[u8]; 3], buffers: &mut Buffers) -> bool {
+fn run(turn: Turn, side: usize, inputs: Inputs, buffers: &mut Buffers) -> bool {
+    let [input, other, respelled, copy] = inputs;
     match turn {
         Judge => (SIDES[side].judge)(input),
         Normalise => (SIDES[side].normalise)(input, &mut buffers.0[side]),
         NormaliseOther => (SIDES[side].normalise)(other, &mut buffers.0[side]),
+        NormaliseRespelled => (SIDES[side].normalise)(respelled, &mut buffers.0[side]),
         Compare => (SIDES[side].is_same)(input, other),
         CompareEqual => (SIDES[side].is_same)(input, copy),
+        CompareRespelled => (SIDES[side].is_same)(input, respelled),
     }
 }
 
-/// The shortest of so many rounds, in which all take turns, on an input, its other
-/// spelling and a copy.
-fn shortest(inputs: [&[u8]; 3], rounds: usize, buffers: &mut Buffers) -> Sums {
+/// The shortest of so many rounds, in which all take turns.
+fn shortest(inputs: Inputs, rounds: usize, buffers: &mut Buffers) -> Sums {
     let mut least = [[u64::MAX; SIDES.len()]; TURNS.len()];
     let turns = TURNS.len() * SIDES.len();
     for round in 0..rounds {
         for number in 0..turns {
-            let number = (number + 7 * round) % turns;
+            let number = (number + 9 * round) % turns;
             let (turn, side) = (TURNS[number / SIDES.len()], number % SIDES.len());
             let began = Instant::now();
             let holds = opaque(run(turn, side, opaque(inputs), buffers));
@@ -119,15 +119,16 @@ fn shortest(inputs: [&[u8]; 3], rounds: usize, buffers: &mut Buffers) -> Sums {
             *least = time.min(*least);
         }
     }
-    Sums { bytes: [inputs[0].len(), inputs[1].len()], times: least }
+    Sums { bytes: std::array::from_fn(|number| inputs[number].len()), times: least }
 }
 
 fn sums_of(inputs: &[Vec<u8>], rounds: usize, buffers: &mut Buffers) -> Sums {
     let mut sums = Sums::default();
     for input in inputs {
-        let other = other_spelling(input);
-        assert!(buffers.agreed(input) && buffers.agreed(&other), "an order is refused");
-        sums.add(&shortest([input, &other, &input.clone()], rounds, buffers));
+        let (other, respelled, copy) = (other_spelling(input), respelled(input), input.clone());
+        let inputs: Inputs = [input, &other, &respelled, &copy];
+        assert!(inputs[..3].iter().all(|input| buffers.agreed(input)), "an order is refused");
+        sums.add(&shortest(inputs, rounds, buffers));
     }
     sums
 }
@@ -140,8 +141,9 @@ fn row(name: &str, times: &Times) -> String {
         others.iter().for_each(|other| row.push_str(&format!("{:>6.2}", ours / other)));
     }
     let over_two = times[COMPARE][0] / times[NORMALISE_BOTH][0];
+    let respelled = times[COMPARE_RESPELLED][0] / times[NORMALISE_BOTH_RESPELLED][0];
     let over_judge = times[COMPARE_EQUAL][0] / times[JUDGE][0];
-    row.push_str(&format!(" |{over_two:>6.2}{over_judge:>6.2} |"));
+    row.push_str(&format!(" |{over_two:>6.2}{respelled:>6.2}{over_judge:>6.2} |"));
     for sides in [JUDGE, NORMALISE].map(|number| &times[number]) {
         sides.iter().for_each(|time| row.push_str(&format!("{time:>6.2}")));
         row.push_str(" |");
@@ -165,12 +167,14 @@ fn heading() -> String {
 fn print_heading(count: usize, rounds: usize) {
     println!(
         "{count} interchanges of 1 to 30 KB, the shortest of {rounds} rounds. Ours over the rival's, \
-         over the rival's by bytes, over the second program's; our Compare of another spelling over \
-         our two Normalises, of equal bytes over our Judge; ns a byte of all four"
+         over the rival's by bytes, over the second program's; our Compare over our two Normalises, \
+         of the interchange and its normal form, and of the interchange and the same respelled (an \
+         advice with `*%!&`, or with `<>=\"` where it has these), of equal bytes over our Judge; ns a \
+         byte of all four"
     );
     println!(
-        "{:<30}|{:^19}|{:^19}|{:^19}|{:^13}|{:^25}|{:^25}|",
-        "", "judge", "normalise", "compare", "two  equal", "judge, ns", "normalise, ns"
+        "{:<30}|{:^19}|{:^19}|{:^19}|{:^19}|{:^25}|{:^25}|",
+        "", "judge", "normalise", "compare", "form  resp. equal", "judge, ns", "normalise, ns"
     );
 }
 
@@ -194,13 +198,4 @@ pub fn report(rounds: usize) {
     rows.push(("all of them", all.a_byte()));
     let lines: String = rows.iter().map(|(name, times)| line(name, times)).collect();
     std::fs::write(FIGURES, heading() + &lines).expect("the figures can be stored");
-    draw();
-}
-
-/// Has the picture drawn from the figures.
-fn draw() {
-    let figures = File::open(FIGURES).expect("the figures can be read");
-    let picture = File::create(PICTURE[1]).expect("the picture can be stored");
-    let drawn = Command::new("perl").arg(PICTURE[0]).stdin(figures).stdout(picture).status();
-    assert!(drawn.expect("perl runs").success(), "the picture is drawn");
 }
