@@ -32,7 +32,7 @@
  *
  * Stack. Compare and Keep hold two arrays of 32,000 bytes each, or use shorter ones where neither
  * input has more than 4,091 bytes, and take some 66,100 bytes at most. A shelf's Put holds one of
- * 32,000, and takes some 33,300. Write and Acknowledge have room for one of 8,192, which is used while
+ * 32,000, and takes some 34,000. Write and Acknowledge have room for one of 8,192, which is used while
  * 16 is asked without a release character, and take less than 11,000. Judge by a table calls itself
  * for groups within groups, which are at most eight deep, and takes some 3,000 at most, whatever the
  * table and the input are. All others but these take less than 2,000. There is no other recursion.

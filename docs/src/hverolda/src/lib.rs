@@ -39,7 +39,7 @@
 //! refused as any such byte is.
 //!
 //! [`compare`] and [`keep`] take some 66,100 bytes of stack, [`Shelf::put`] some
-//! 33,300, [`write()`] and [`acknowledge`] less than 11,000, [`judge_by_table`] some
+//! 34,000, [`write()`] and [`acknowledge`] less than 11,000, [`judge_by_table`] some
 //! 3,000, all others less than 2,000: a stack of 96 KB is enough for a thread that
 //! calls them. What [`write()`] can cost stands there.
 //!
