@@ -26,7 +26,7 @@ use value_lists::{Record, check_release};
 
 // What is taken over from the received interchange: its service characters, the places at which values and elements of its
 // UNB begin, and where the action code stands among the words.
-#[derive(Drop)]
+#[derive(Clone, Copy)]
 pub struct Received {
     pub characters: Characters,
     pub level: usize,
@@ -37,7 +37,7 @@ pub struct Received {
     pub action: u32,
 }
 
-#[derive(Drop)]
+#[derive(Clone, Copy)]
 pub enum Part {
     Word { kind: u32, start: u32, size: u32 },
     Syntax { level: usize, version: usize },

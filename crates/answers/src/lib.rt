@@ -5,7 +5,7 @@ use refusals::Refusal;
 use segments::{Groups, Messages, Segments};
 
 // What Judge says of an accepted interchange; `length` is that of its normal form.
-#[derive(Drop)]
+#[derive(Clone, Copy)]
 pub struct Figures {
     pub characters: Characters,
     pub segments: Segments,
@@ -14,20 +14,20 @@ pub struct Figures {
     pub length: usize,
 }
 
-#[derive(Drop)]
+#[derive(Clone, Copy)]
 pub enum Judged {
     Accepted(Figures),
     Refused(Refusal),
 }
 
 // What Normalise and Write say: how many bytes they stored.
-#[derive(Drop)]
+#[derive(Clone, Copy)]
 pub enum Stored {
     Length(usize),
     Refused(Refusal),
 }
 
-#[derive(Drop)]
+#[derive(Clone, Copy)]
 pub enum Compared {
     Same,
     Different,
@@ -36,7 +36,7 @@ pub enum Compared {
 }
 
 // Where a value is spelled in the input.
-#[derive(Drop)]
+#[derive(Clone, Copy)]
 pub enum Located {
     At { offset: usize, length: usize },
     Absent,
@@ -44,7 +44,7 @@ pub enum Located {
 }
 
 // How many bytes and how many numbers of the table Read stored.
-#[derive(Drop)]
+#[derive(Clone, Copy)]
 pub enum Listed {
     Values { bytes: usize, numbers: usize },
     Refused(Refusal),

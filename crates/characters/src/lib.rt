@@ -4,7 +4,7 @@
 
 // Six bytes in the advice's order. `release` is a space where there is no release character, and
 // `repetition` where there is no repetition separator.
-#[derive(Drop)]
+#[derive(Clone, Copy)]
 pub struct Characters {
     pub component: u8,
     pub element: u8,
@@ -15,7 +15,7 @@ pub struct Characters {
 }
 
 // The part that a byte plays. A separator of rank 0 ends a segment, 1 an element, 2 a repeat, 3 a component.
-#[derive(Drop)]
+#[derive(Clone, Copy)]
 pub enum Role {
     Separator(u8),
     Release,

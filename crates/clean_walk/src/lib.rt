@@ -26,7 +26,7 @@ use tags::{kind_at, kind_named, tag_holds};
 use walk::{beginning, begun, fits, is_complete, stepped};
 
 // Nothing is found from a place on, and this is the walk over all of it; or something may be.
-#[derive(Drop)]
+#[derive(Clone, Copy)]
 pub enum Clean {
     Whole(Walk),
     Other,
@@ -34,7 +34,7 @@ pub enum Clean {
 
 // The tag of a segment keeps the rule for tags, and it is a segment of this kind; `spelled` says that the
 // tag's four bytes are read as they stand. Or it may not keep the rule.
-#[derive(Drop)]
+#[derive(Clone, Copy)]
 enum Tag {
     Named { kind: Kind, spelled: bool },
     Broken,
@@ -103,7 +103,7 @@ fn is_user(s: &[u8], c: Characters, calm: bool, at: usize) -> bool
 }
 
 // The walk and the headers after a segment that stages 9 and (10 11 12) pass; or one of them may not.
-#[derive(Drop)]
+#[derive(Clone, Copy)]
 enum Step {
     Next { walk: Walk, headers: Headers },
     Other,

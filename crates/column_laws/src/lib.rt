@@ -3,7 +3,7 @@
 // other, each by the position of its value (specs/).
 
 // Where a value stands: the four numbers in front of it in its line.
-#[derive(Drop)]
+#[derive(Clone, Copy)]
 pub struct Position {
     pub segment: usize,
     pub element: usize,

@@ -9,7 +9,7 @@ ghost use Rattle.refusals.specs.Refusals.{answering};
 ghost use Rattle.stages.specs.Stages.{stages_in};
 ghost use Rattle.stage_opening.specs.Runs.{found_by};
 ghost use Rattle.answers.specs.Answers.{toldCompared};
-ghost use Rattle.operations.specs.Compare.{keep as keepOf};
+ghost use Rattle.operations.specs.Compare.{keep as keep_of};
 ghost use Rattle.contracts.specs.Promises.{Compares, Keeps};
 ghost use Rattle.compare.specs.Forms.{IsForm, Room, compared_to};
 ghost use Rattle.compare.specs.Parts.{part_of};
@@ -182,7 +182,7 @@ pub fn compare(first: &[u8], second: &[u8]) -> Compared
 }
 
 // What Keep hands back: so many bytes from the start of the first input or of the second.
-#[derive(Drop)]
+#[derive(Clone, Copy)]
 pub enum Kept {
     First(usize),
     Second(usize),
@@ -190,7 +190,7 @@ pub enum Kept {
 
 // The shorter of two that are the same, the first where equally long; else no byte of the first.
 pub fn kept_part(first: &[u8], second: &[u8]) -> Kept
-    ensures { part_of result ≡ keepOf first.now second.now }
+    ensures { part_of result ≡ keep_of first.now second.now }
 {
     match compare(first, second) {
         Compared::Same => {

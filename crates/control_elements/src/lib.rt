@@ -3,7 +3,7 @@
 // which section a UNS may begin. The definitions are in specs/.
 
 // The numbers of two elements, counted from 1 after the tag; 0 means none.
-#[derive(Drop)]
+#[derive(Clone, Copy)]
 pub struct Positions {
     pub count: usize,
     pub reference: usize,

@@ -13,7 +13,7 @@ use trimmed_values::is_alone;
 
 // An element by its first value: the size in bytes, whether all of them are digits, the number that the
 // first six spell, and whether only empty values follow.
-#[derive(Drop)]
+#[derive(Clone, Copy)]
 pub struct Field {
     pub size: usize,
     pub digits: bool,

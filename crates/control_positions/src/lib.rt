@@ -8,7 +8,7 @@ use control_elements::Positions;
 use segments::Kind;
 
 // An entry of the table: `Positions` in two bytes.
-#[derive(Drop)]
+#[derive(Clone, Copy)]
 struct Entry {
     count: u8,
     reference: u8,

@@ -82,7 +82,7 @@ fn separators(s: &[u8], c: Characters, from: usize) -> u8
 }
 
 // The place at which the search for an element goes on, and the number that the element has from there.
-#[derive(Drop)]
+#[derive(Clone, Copy)]
 struct Search {
     at: usize,
     left: usize,
@@ -167,7 +167,7 @@ pub fn holds_byte(s: &[u8], c: Characters, from: usize, rank: u8) -> bool
 }
 
 // What is next in a value: a byte and the place to read on, or the place of what ends the value.
-#[derive(Drop)]
+#[derive(Clone, Copy)]
 pub enum NextByte {
     Byte { byte: u8, next: usize },
     Ended { place: usize },

@@ -4,7 +4,7 @@
 
 // How many separators of each rank are held back: those of elements, after them those of repeats, and
 // after them those of components.
-#[derive(Drop)]
+#[derive(Clone, Copy)]
 pub struct Held {
     pub elements: usize,
     pub repeats: usize,
@@ -12,7 +12,7 @@ pub struct Held {
 }
 
 // How long the text is so far, and what is held back after it.
-#[derive(Drop)]
+#[derive(Clone, Copy)]
 pub struct Measure {
     pub total: usize,
     pub held: Held,

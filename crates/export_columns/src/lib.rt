@@ -25,7 +25,7 @@ use scanner::{Lexed, lex};
 // The line of the value that is open: how many bytes are printed, the value's position, whether its numbers are
 // among them, and what is held back after it. The numbers wait for what follows them: after the last terminator
 // nothing does.
-#[derive(Drop)]
+#[derive(Clone, Copy)]
 pub struct Line {
     pub end: usize,
     pub position: Position,

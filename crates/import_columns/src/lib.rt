@@ -136,7 +136,7 @@ fn least_after(l: Line) -> u8
 }
 
 // How many lines the text has, or that it is none that export gives.
-#[derive(Drop)]
+#[derive(Clone, Copy)]
 pub enum Checked {
     Lines(usize),
     Other,

@@ -13,14 +13,14 @@ pub use number::{Number, number_of};
 pub const ROOM: usize = 32001;
 
 // Where an input comes from; an argument is known by its number.
-#[derive(Drop)]
+#[derive(Clone, Copy)]
 pub enum Source {
     StandardInput,
     Argument(usize),
 }
 
 // Whether an input could be read, and how many bytes of it stand at the start of the buffer.
-#[derive(Drop)]
+#[derive(Clone, Copy)]
 pub struct Input {
     pub is_read: bool,
     pub count: usize,

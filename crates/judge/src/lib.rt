@@ -128,7 +128,7 @@ fn stages_to_12_in_turn(s: &[u8]) -> Progress
 
 // What the quick way says: 1 to 12 pass, and this is what they find; or this is their refusal; or one of them
 // may refuse, and which is not known.
-#[derive(Drop)]
+#[derive(Clone, Copy)]
 pub enum Quick {
     Passed(Found),
     Refused(Refusal),

@@ -11,7 +11,7 @@ use storing::is_service;
 use verbatim::{is_normal, normal_characters};
 
 // Which service characters of the normal form are no service characters of the input.
-#[derive(Drop)]
+#[derive(Clone, Copy)]
 struct Unshared {
     component: bool,
     element: bool,

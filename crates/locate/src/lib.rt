@@ -10,7 +10,7 @@ use elements::segment_at;
 use trimmed_values::{Found, value_at};
 
 // A part of the input: where it begins, and how long it is.
-#[derive(Drop)]
+#[derive(Clone, Copy)]
 pub struct Span {
     pub offset: usize,
     pub length: usize,

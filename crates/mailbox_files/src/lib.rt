@@ -9,7 +9,7 @@ pub const MOST_FILE: usize = 65536;
 
 // The figures over the pieces of a file. `refused` has, at a refusal's number, how many pieces are refused
 // under it; the one at 0 is 0, since no refusal has that number. `total` and `longest` are of normal forms.
-#[derive(Drop)]
+#[derive(Clone, Copy)]
 pub struct Report {
     pub accepted: u32,
     pub refused: [u32; 14],
@@ -20,7 +20,7 @@ pub struct Report {
 }
 
 // What the operation answers: the report of a file; or what refused the file, and then every figure is 0.
-#[derive(Drop)]
+#[derive(Clone, Copy)]
 pub struct Reported {
     pub outcome: Outcome,
     pub report: Report,

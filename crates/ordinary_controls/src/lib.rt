@@ -14,7 +14,7 @@ use elements::element_at;
 use ordinary_runs::{is_ordinary, past_run};
 
 // Stage (10 11 12) passes the segment, whose reference begins at this place; or it may not.
-#[derive(Drop)]
+#[derive(Clone, Copy)]
 pub enum Control {
     Passed(usize),
     Other,
@@ -64,7 +64,7 @@ fn is_digit(b: u8) -> bool
 }
 
 // The digits from a place on, up to six, by the place after them and the number that they spell.
-#[derive(Drop)]
+#[derive(Clone, Copy)]
 struct Count {
     end: usize,
     number: u32,

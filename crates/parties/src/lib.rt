@@ -16,7 +16,7 @@ use refusals::Outcome;
 
 // Where each is spelled in the input, or zero bytes at its start; and what refused the input, and then each
 // is zero bytes.
-#[derive(Drop)]
+#[derive(Clone, Copy)]
 pub struct Parties {
     pub outcome: Outcome,
     pub sender: Span,

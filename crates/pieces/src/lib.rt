@@ -14,7 +14,7 @@ use tags::{kind_at, tag_holds};
 
 // How a piece ends: after its UNZ and the breaks behind that, at this place; or with the rest of the file, where
 // the cutting meets a fault 2 to 6 before a UNZ, or the file's end.
-#[derive(Drop)]
+#[derive(Clone, Copy)]
 pub enum Ending {
     AfterUnz(usize),
     Stopped(Refusal),

@@ -14,7 +14,7 @@ use scanner::{Lexed, lex};
 
 // What is listed so far: so many records, the record of the value that is open, and what is held
 // back after it.
-#[derive(Drop)]
+#[derive(Clone, Copy)]
 pub struct Listing {
     pub records: usize,
     pub kind: u32,
@@ -24,7 +24,7 @@ pub struct Listing {
 }
 
 // How many bytes, and how many numbers of the table.
-#[derive(Drop)]
+#[derive(Clone, Copy)]
 pub struct Tally {
     pub bytes: usize,
     pub numbers: usize,

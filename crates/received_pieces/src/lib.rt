@@ -17,7 +17,7 @@ use read_counts::start_of_list;
 use scanner::{Lexed, lex};
 
 // What is next in a piece: a byte of a value, a separator inside it, or its end.
-#[derive(Drop)]
+#[derive(Clone, Copy)]
 pub enum Within {
     Byte { byte: u8, next: usize },
     Separator { rank: u8, next: usize },

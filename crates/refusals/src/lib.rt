@@ -9,7 +9,7 @@ pub const MOST_BYTES: usize = 32000;
 
 pub const MOST_NUMBERS: usize = 96000;
 
-#[derive(Drop)]
+#[derive(Clone, Copy)]
 pub enum Fault {
     TooLong,
     UnusableAdvice,
@@ -37,14 +37,14 @@ pub enum Fault {
     NoColumns,
 }
 
-#[derive(Drop)]
+#[derive(Clone, Copy)]
 pub struct Refusal {
     pub fault: Fault,
     pub place: usize,
 }
 
 // The outcome of a stage.
-#[derive(Drop)]
+#[derive(Clone, Copy)]
 pub enum Outcome {
     Passed,
     Failed(Refusal),

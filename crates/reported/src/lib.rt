@@ -26,7 +26,7 @@ const REFUSED: u32 = 17;
 
 // What Judge's stages say: the service characters, where the body begins, and the action code; or that the interchange is
 // refused by another number than 10, 11 and 12.
-#[derive(Drop)]
+#[derive(Clone, Copy)]
 pub enum Standing {
     Reported {
         characters: Characters,
@@ -36,7 +36,7 @@ pub enum Standing {
     Unreported,
 }
 
-#[derive(Drop)]
+#[derive(Clone, Copy)]
 pub enum Report {
     Made(Received),
     Nothing,

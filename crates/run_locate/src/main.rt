@@ -10,7 +10,7 @@ use libc::{STDERR_FILENO, STDOUT_FILENO};
 use printing::{print_line, print_refused, print_value};
 
 // The numbers of a segment, an element, a repeat and a component.
-#[derive(Drop)]
+#[derive(Clone, Copy)]
 struct Numbers {
     segment: usize,
     element: usize,

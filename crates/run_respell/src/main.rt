@@ -14,7 +14,7 @@ use printing::{print_compared, print_line, print_refused};
 use refusals::Refusal;
 
 // How long the text is that was written, or what refused the input or the text.
-#[derive(Drop)]
+#[derive(Clone, Copy)]
 pub enum Respelled {
     Text(usize),
     InputRefused(Refusal),

@@ -91,7 +91,7 @@ fn print_done(outcome: Outcome, done: &[u8]) -> bool {
 }
 
 // What a word and its operand ask for. The file of a put is known by the number of its argument.
-#[derive(Drop)]
+#[derive(Clone, Copy)]
 enum Step {
     Put(usize),
     Get(usize),

@@ -38,7 +38,7 @@ pub fn role_of(c: Characters, b: u8) -> Role
 }
 
 // What stands at a place. `next` is the place at which reading goes on.
-#[derive(Drop)]
+#[derive(Clone, Copy)]
 pub enum Lexed {
     Byte { byte: u8, place: usize, next: usize },
     Separator { rank: u8, next: usize },
@@ -98,7 +98,7 @@ pub fn lex(s: &[u8], c: Characters, at: usize) -> Lexed
 
 // How the segment that begins at a place ends: with its terminator, or before that with a stray
 // release character, or not at all.
-#[derive(Drop)]
+#[derive(Clone, Copy)]
 pub enum Scanned {
     Ended { next: usize },
     Stray { place: usize },

@@ -49,7 +49,7 @@ fn up_to_either(s: &[u8], a: u8, b: u8, from: usize) -> usize
 
 // The segment ends, and the next one begins at this place; or how it ends is told from this place on; or
 // neither is known.
-#[derive(Drop)]
+#[derive(Clone, Copy)]
 enum Passed {
     Ended(usize),
     On(usize),
@@ -201,7 +201,7 @@ fn past_taken(s: &[u8], c: Characters, from: usize) -> usize
 }
 
 // A place from which on it is told how the segment ends, and whether more bytes are passed there.
-#[derive(Drop)]
+#[derive(Clone, Copy)]
 struct Reached {
     to: usize,
     on: bool,

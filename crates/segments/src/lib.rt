@@ -3,7 +3,7 @@
 // The definitions are in specs/. What trailers and UNS must say is left to `control_elements`.
 
 // The service segments, and every other one.
-#[derive(Drop)]
+#[derive(Clone, Copy)]
 pub enum Kind {
     Unb,
     Ung,
@@ -17,7 +17,7 @@ pub enum Kind {
 
 // Where the check stands: before UNB, outside every group and message, inside a group,
 // inside a message of a group or of none, and after UNZ.
-#[derive(Drop)]
+#[derive(Clone, Copy)]
 pub enum Standing {
     BeforeInterchange,
     BetweenGroups,
@@ -30,7 +30,7 @@ pub enum Standing {
 // The sections that a UNS begins (change request 2026-03): detail or summary. As a part of the walk, the
 // one that began last in the message; none where no section has begun. Of a UNS, the one that it names;
 // none where it names neither.
-#[derive(Drop)]
+#[derive(Clone, Copy)]
 pub enum Section {
     None,
     Detail,
@@ -38,19 +38,19 @@ pub enum Section {
 }
 
 // Three counters that the standard keeps apart.
-#[derive(Drop)]
+#[derive(Clone, Copy)]
 pub struct Segments(pub u32);
 
-#[derive(Drop)]
+#[derive(Clone, Copy)]
 pub struct Messages(pub u32);
 
-#[derive(Drop)]
+#[derive(Clone, Copy)]
 pub struct Groups(pub u32);
 
 // Where the walk stands, which section of the message it is in, and what it has counted so far: in the
 // interchange, since the last UNH (which is one of them) and since the last UNG, or since the start
 // where there was none.
-#[derive(Drop)]
+#[derive(Clone, Copy)]
 pub struct Walk {
     pub standing: Standing,
     pub section: Section,

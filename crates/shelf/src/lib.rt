@@ -26,7 +26,7 @@ mod putting;
 mod removing;
 
 // A part of the shelf: where it begins, and how long it is.
-#[derive(Drop)]
+#[derive(Clone, Copy)]
 pub struct Span {
     pub offset: usize,
     pub length: usize,

@@ -4,7 +4,7 @@
 ghost use Rattle.std.specs.Prelude.{◌≡◌, ◌++◌, ◌+◌, ◌*◌, ◌≤◌, ◌<◌, length};
 ghost use Rattle.std.proofs.lemmas.List.Edits.{sets};
 ghost use Rattle.numbers.specs.Numbers.{in_bytes};
-ghost use Rattle.shelves.specs.Layout.{version_one, version_two, base as base_of, map_of, held_figure, duplicates_of, heading, pair_place, start_of, length_of, held as heldIn, end_of};
+ghost use Rattle.shelves.specs.Layout.{version_one, version_two, base as base_of, map_of, held_figure, duplicates_of, heading, pair_place, start_of, length_of, held as held_in, end_of};
 ghost use Rattle.shelves.specs.Operations.{pair_of};
 ghost use Rattle.shelf_layout.specs.Laid.{laid, kept_in};
 
@@ -12,7 +12,7 @@ use big_endian::get;
 use slot_map::{SLOTS, is_occupied};
 
 // A layout: its version, and where its 64 pairs begin. All else follows.
-#[derive(Drop)]
+#[derive(Clone, Copy)]
 pub struct Layout {
     pub version: usize,
     pub pairs: usize,
@@ -107,7 +107,7 @@ fn kept_in(s: &[u8], l: Layout, map: u64, slot: usize) -> usize
 // How many bytes the texts have together.
 pub fn held(s: &[u8], l: Layout) -> usize
     requires { base_of (laid l) ≤ length s.now }
-    ensures { (result ≡ heldIn (laid l) s.now) × (result ≤ 64 * 4294967296) }
+    ensures { (result ≡ held_in (laid l) s.now) × (result ≤ 64 * 4294967296) }
 {
     let map = map_of(s);
     let mut sum: usize = 0;

@@ -4,7 +4,7 @@
 // was put or taken out is left to `shelf`.
 ghost use Rattle.std.specs.Prelude.{◌≡◌, true, false, ◌+◌, ◌≤◌, ◌<◌, length};
 ghost use Rattle.shelves.specs.Layout.{bit};
-ghost use Rattle.shelves.specs.Summary.{put_new, put_copy, removed as removedOf};
+ghost use Rattle.shelves.specs.Summary.{put_new, put_copy, removed as removed_of};
 ghost use Rattle.shelf_summary.specs.Steps.{Heads, stored_back, shelved_of, after_put, PutFits, PutStays, after_remove, RemoveFits};
 
 use answers::Stored;
@@ -13,7 +13,7 @@ use shelf_layout::{DUPLICATES_PLACE, HELD_PLACE, MAP_PLACE};
 use shelves::{Shelved, Summary};
 
 // What a put did: a new text of so many bytes in a slot, the slot of the copy that it found, or nothing.
-#[derive(Drop)]
+#[derive(Clone, Copy)]
 pub enum Placed {
     New { slot: usize, size: u32 },
     Copy(usize),
@@ -75,7 +75,7 @@ fn put_copy(u: Summary) -> Summary
 // A text taken out of its slot.
 fn removed(u: Summary, slot: usize, size: u32) -> Summary
     requires { ((slot < 64) × (bit u.map slot ≡ true)) × (size ≤ u.held) }
-    ensures { result ≡ removedOf u slot size }
+    ensures { result ≡ removed_of u slot size }
 {
     Summary {
         map: slot_map::freed(u.map, slot),

@@ -4,7 +4,7 @@
 use refusals::Refusal;
 
 // The summary at a shelf's head: the map of occupied slots, the text bytes held, the duplicates found.
-#[derive(Drop)]
+#[derive(Clone, Copy)]
 pub struct Summary {
     pub map: u64,
     pub held: u32,
@@ -12,7 +12,7 @@ pub struct Summary {
 }
 
 // What Put says: the slot of a text that it stored, or of the copy that it found.
-#[derive(Drop)]
+#[derive(Clone, Copy)]
 pub enum Shelved {
     New(usize),
     Copy(usize),
@@ -20,14 +20,14 @@ pub enum Shelved {
 }
 
 // What is read off the map: how many slots are occupied, and the lowest free one, 64 where none is.
-#[derive(Drop)]
+#[derive(Clone, Copy)]
 pub enum Slots {
     Numbers { occupied: usize, lowest_free: usize },
     Refused(Refusal),
 }
 
 // What the two sums are: the text bytes held, and the duplicates found.
-#[derive(Drop)]
+#[derive(Clone, Copy)]
 pub enum TwoSums {
     Numbers { held: u32, duplicates: u32 },
     Refused(Refusal),

@@ -23,7 +23,7 @@ use trimmed_values::same_value;
 use walk::{beginning, stepped};
 
 // Where the references of the headers that passed last begin; the input's length before the first.
-#[derive(Drop)]
+#[derive(Clone, Copy)]
 pub struct Headers {
     pub unb: usize,
     pub ung: usize,

@@ -195,7 +195,7 @@ fn is_opening(s: &[u8]) -> bool
 // What a run of stages finds of an input: its service characters and where its body begins; the level
 // that UNB names, once stage 7 has passed, and the walk over its segments, once stage 9 has. Before
 // that the level is 0, and the walk has passed no segment.
-#[derive(Drop)]
+#[derive(Clone, Copy)]
 pub struct Found {
     pub characters: Characters,
     pub start: usize,
@@ -204,7 +204,7 @@ pub struct Found {
 }
 
 // What a run of stages answers: what it found, or the refusal.
-#[derive(Drop)]
+#[derive(Clone, Copy)]
 pub enum Progress {
     Passed(Found),
     Refused(Refusal),

@@ -19,7 +19,7 @@ use trimmed_values::{is_alone, is_text};
 use walk::{beginning, begun, fits, is_complete, is_marker, stepped};
 
 // The walk over the whole, or the refusal that stage 9 answers.
-#[derive(Drop)]
+#[derive(Clone, Copy)]
 pub enum Ordered {
     Whole(Walk),
     Failed(Refusal),

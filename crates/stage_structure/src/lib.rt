@@ -19,7 +19,7 @@ use table_walk::{Walked, through_table};
 use tags::kind_at;
 
 // What became of the message of a UNH: its UNT's place, or the place before which the walk stopped.
-#[derive(Drop)]
+#[derive(Clone, Copy)]
 pub enum Body {
     Matched(usize),
     Left(usize),

@@ -199,7 +199,7 @@ fn past_taken(s: &[u8], c: Characters, from: usize) -> usize
 }
 
 // A place up to which a stretch passes, and whether it goes on there.
-#[derive(Drop)]
+#[derive(Clone, Copy)]
 struct Passed {
     to: usize,
     on: bool,
@@ -316,7 +316,7 @@ pub fn put_stretch(
 }
 
 // How long the text is so far, and the place of the input that is reached.
-#[derive(Drop)]
+#[derive(Clone, Copy)]
 pub struct Reached {
     pub total: usize,
     pub at: usize,

@@ -4,10 +4,10 @@
 // them out in structs, and every byte and number of each lent buffer at exit. A slice crosses as a pointer and a length;
 // nothing is asked of what it holds. `laying` makes the structs of the answers.
 ghost use Rattle.std.specs.Prelude.{◌≡◌};
-ghost use Rattle.operations.specs.Judge.{judge as judgeOf, normalise as normaliseOf, normalise_buffer};
+ghost use Rattle.operations.specs.Judge.{judge as judge_of, normalise as normalise_of, normalise_buffer};
 ghost use Rattle.message_structures.specs.Judging.{judge_by_table};
-ghost use Rattle.operations.specs.Compare.{compare as compareOf, keep as keepOf};
-ghost use Rattle.operations.specs.Locate.{locate as locateOf};
+ghost use Rattle.operations.specs.Compare.{compare as compare_of, keep as keep_of};
+ghost use Rattle.operations.specs.Locate.{locate as locate_of};
 ghost use Rattle.acknowledgements.specs.Lent.{lent_by};
 ghost use Rattle.columns.specs.Operations.{exports, export_buffer, imports, import_output};
 ghost use Rattle.surface.specs.Verdicts.{verdict_of};
@@ -17,10 +17,10 @@ ghost use Rattle.surface.specs.OfParties.{parties_of};
 ghost use Rattle.surface.specs.Rules.{rules};
 ghost use Rattle.surface.specs.OfShelf.{started_of, shelving_of, got_of, slot_numbers_of, sum_numbers_of};
 ghost use Rattle.surface.specs.OfMailbox.{morning_of, piece_end_of};
-ghost use Rattle.mailbox_files.specs.Report.{report as reportOf};
-ghost use Rattle.carrying.specs.Carrying.{carry as carryOf, carry_shelf, carry_back as carryBackOf, carry_back_shelf};
+ghost use Rattle.mailbox_files.specs.Report.{report as report_of};
+ghost use Rattle.carrying.specs.Carrying.{carry as carry_of, carry_shelf, carry_back as carry_back_of, carry_back_shelf};
 ghost use Rattle.shelves.specs.Layout.{version_two};
-ghost use Rattle.shelves.specs.Operations.{start as start_of, start_shelf, put as put_of, put_shelf, got_offset, got_length, length_answer, remove as removeOf, remove_shelf, slots_of, sums_of};
+ghost use Rattle.shelves.specs.Operations.{start as start_of, start_shelf, put as put_of, put_shelf, got_offset, got_length, length_answer, remove as remove_of, remove_shelf, slots_of, sums_of};
 
 use answers::Stored;
 use laying::{comparison_of, listing_of, location_of, verdict_of, written_of};
@@ -36,7 +36,7 @@ mod shelf_laying;
 // What Judge says. `number` is 0 where the interchange is accepted, and `place` is then 0; where it
 // is refused, `number` and `place` are the refusal's and all else is 0.
 #[repr(C)]
-#[derive(Drop)]
+#[derive(Clone, Copy)]
 pub struct Verdict {
     pub number: u32,
     pub segments: u32,
@@ -54,7 +54,7 @@ pub struct Verdict {
 
 // What Normalise, Write, Acknowledge, Export and Import say: 0 and how many bytes they stored, or the refusal's number and place.
 #[repr(C)]
-#[derive(Drop)]
+#[derive(Clone, Copy)]
 pub struct Written {
     pub number: u32,
     pub place: usize,
@@ -64,7 +64,7 @@ pub struct Written {
 // What Compare says: 0, and 1 for "same" or 0 for "different"; or the refusal's number, the input
 // that it speaks of, 1 or 2, and its place.
 #[repr(C)]
-#[derive(Drop)]
+#[derive(Clone, Copy)]
 pub struct Comparison {
     pub number: u32,
     pub input: u32,
@@ -74,7 +74,7 @@ pub struct Comparison {
 
 // What Keep hands back: a part of the first input or of the second.
 #[repr(C)]
-#[derive(Drop)]
+#[derive(Clone, Copy)]
 pub struct Kept {
     pub input: u32,
     pub offset: usize,
@@ -84,7 +84,7 @@ pub struct Kept {
 // What Locate says: 0, and 1 with the offset and the spelled length, or 0 where the value is absent;
 // or the refusal's number and place.
 #[repr(C)]
-#[derive(Drop)]
+#[derive(Clone, Copy)]
 pub struct Location {
     pub number: u32,
     pub present: u32,
@@ -95,7 +95,7 @@ pub struct Location {
 
 // What Locate's companion hands back: a part of the input.
 #[repr(C)]
-#[derive(Drop)]
+#[derive(Clone, Copy)]
 pub struct Part {
     pub offset: usize,
     pub length: usize,
@@ -104,7 +104,7 @@ pub struct Part {
 // What Read says: 0 and how many bytes and numbers of the table it stored, or the refusal's number
 // and place.
 #[repr(C)]
-#[derive(Drop)]
+#[derive(Clone, Copy)]
 pub struct Listing {
     pub number: u32,
     pub place: usize,
@@ -114,7 +114,7 @@ pub struct Listing {
 
 // What a shelf's Start says, and Carry and Carry back: 0, or the refusal's number and place.
 #[repr(C)]
-#[derive(Drop)]
+#[derive(Clone, Copy)]
 pub struct Started {
     pub number: u32,
     pub place: usize,
@@ -123,7 +123,7 @@ pub struct Started {
 // What a shelf's Put says: 0, the slot, and 1 for a text that is new or 0 for the copy of one that is
 // there; or the refusal's number and place.
 #[repr(C)]
-#[derive(Drop)]
+#[derive(Clone, Copy)]
 pub struct Shelving {
     pub number: u32,
     pub added: u32,
@@ -134,7 +134,7 @@ pub struct Shelving {
 // What a shelf's Get says and hands back: 0 and a part of the shelf; or the refusal's number and place,
 // and zero bytes at the shelf's start.
 #[repr(C)]
-#[derive(Drop)]
+#[derive(Clone, Copy)]
 pub struct Got {
     pub number: u32,
     pub place: usize,
@@ -145,7 +145,7 @@ pub struct Got {
 // What is read off a shelf's map: 0, how many slots are occupied and the lowest free one, 64 where none
 // is; or the refusal's number and place.
 #[repr(C)]
-#[derive(Drop)]
+#[derive(Clone, Copy)]
 pub struct SlotNumbers {
     pub number: u32,
     pub place: usize,
@@ -157,7 +157,7 @@ pub struct SlotNumbers {
 // and place, and then every figure is 0. `refused` is indexed by the refusal's number, 1 to 13; the one at 0
 // is 0. `total` and `longest` are the lengths of the accepted interchanges' normal forms.
 #[repr(C)]
-#[derive(Drop)]
+#[derive(Clone, Copy)]
 pub struct MorningFigures {
     pub number: u32,
     pub accepted: u32,
@@ -173,7 +173,7 @@ pub struct MorningFigures {
 // `place` are those of the fault 2 to 6 that the cutting meets, or 0 where it meets the file's end, and `end` is
 // the file's length.
 #[repr(C)]
-#[derive(Drop)]
+#[derive(Clone, Copy)]
 pub struct PieceEnd {
     pub number: u32,
     pub ended: u32,
@@ -184,7 +184,7 @@ pub struct PieceEnd {
 // The parties of an interchange: 0, and the parts of the input that spell the sender, the recipient and the
 // control reference; or the refusal's number and place, and then each is zero bytes at the input's start.
 #[repr(C)]
-#[derive(Drop)]
+#[derive(Clone, Copy)]
 pub struct Parties {
     pub number: u32,
     pub place: usize,
@@ -196,7 +196,7 @@ pub struct Parties {
 // What a shelf's two sums are: 0, the text bytes held and the duplicates found, which stay at 4,294,967,295; or
 // the refusal's number and place.
 #[repr(C)]
-#[derive(Drop)]
+#[derive(Clone, Copy)]
 pub struct SumNumbers {
     pub number: u32,
     pub held: u32,
@@ -214,7 +214,7 @@ pub extern "C" fn hverolda_rules() -> u32
 
 #[unsafe(no_mangle)]
 pub extern "C" fn hverolda_judge(input: &[u8]) -> Verdict
-    ensures { result ≡ verdict_of (judgeOf input.now) }
+    ensures { result ≡ verdict_of (judge_of input.now) }
 {
     verdict_of(judge::judge(input))
 }
@@ -228,14 +228,14 @@ pub extern "C" fn hverolda_judge_by_table(table: &[u8], input: &[u8]) -> Verdict
 
 #[unsafe(no_mangle)]
 pub extern "C" fn hverolda_normalise(buffer: &mut [u8], input: &[u8]) -> Written
-    ensures { (result ≡ written_of (normaliseOf buffer.old input.now)) × (buffer.new ≡ normalise_buffer buffer.old input.now) }
+    ensures { (result ≡ written_of (normalise_of buffer.old input.now)) × (buffer.new ≡ normalise_buffer buffer.old input.now) }
 {
     written_of(normalise::normalise(buffer, input))
 }
 
 #[unsafe(no_mangle)]
 pub extern "C" fn hverolda_compare(first: &[u8], second: &[u8]) -> Comparison
-    ensures { result ≡ comparison_of (compareOf first.now second.now) }
+    ensures { result ≡ comparison_of (compare_of first.now second.now) }
 {
     comparison_of(compare::compare(first, second))
 }
@@ -243,7 +243,7 @@ pub extern "C" fn hverolda_compare(first: &[u8], second: &[u8]) -> Comparison
 // A slice that is handed back cannot cross, so the part is named.
 #[unsafe(no_mangle)]
 pub extern "C" fn hverolda_keep(first: &[u8], second: &[u8]) -> Kept
-    ensures { result ≡ kept_of (keepOf first.now second.now) }
+    ensures { result ≡ kept_of (keep_of first.now second.now) }
 {
     match compare::kept_part(first, second) {
         compare::Kept::First(length) => Kept {
@@ -267,7 +267,7 @@ pub extern "C" fn hverolda_locate_value(
     repeat: usize,
     component: usize,
 ) -> Location
-    ensures { result ≡ location_of (locateOf input.now segment element repeat component) }
+    ensures { result ≡ location_of (locate_of input.now segment element repeat component) }
 {
     location_of(locate::locate(input, segment, element, repeat, component))
 }
@@ -387,7 +387,7 @@ pub extern "C" fn hverolda_shelf_get(shelf: &[u8], slot: usize) -> Got
 
 #[unsafe(no_mangle)]
 pub extern "C" fn hverolda_shelf_remove(shelf: &mut [u8], slot: usize) -> Written
-    ensures { (result ≡ written_of (removeOf version_two shelf.old slot)) × (shelf.new ≡ remove_shelf version_two shelf.old slot) }
+    ensures { (result ≡ written_of (remove_of version_two shelf.old slot)) × (shelf.new ≡ remove_shelf version_two shelf.old slot) }
 {
     written_of(shelf::remove(shelf, slot))
 }
@@ -401,7 +401,7 @@ pub extern "C" fn hverolda_shelf_slots(shelf: &[u8]) -> SlotNumbers
 
 #[unsafe(no_mangle)]
 pub extern "C" fn hverolda_report(file: &[u8]) -> MorningFigures
-    ensures { result ≡ morning_of (reportOf file.now) }
+    ensures { result ≡ morning_of (report_of file.now) }
 {
     morning_of(report::report(file))
 }
@@ -422,14 +422,14 @@ pub extern "C" fn hverolda_shelf_sums(shelf: &[u8]) -> SumNumbers
 
 #[unsafe(no_mangle)]
 pub extern "C" fn hverolda_shelf_carry(shelf: &mut [u8]) -> Started
-    ensures { (result ≡ started_of (carryOf shelf.old)) × (shelf.new ≡ carry_shelf shelf.old) }
+    ensures { (result ≡ started_of (carry_of shelf.old)) × (shelf.new ≡ carry_shelf shelf.old) }
 {
     started_of(shelf_carrying::carry(shelf))
 }
 
 #[unsafe(no_mangle)]
 pub extern "C" fn hverolda_shelf_carry_back(shelf: &mut [u8]) -> Started
-    ensures { (result ≡ started_of (carryBackOf shelf.old)) × (shelf.new ≡ carry_back_shelf shelf.old) }
+    ensures { (result ≡ started_of (carry_back_of shelf.old)) × (shelf.new ≡ carry_back_shelf shelf.old) }
 {
     started_of(shelf_carrying::carry_back(shelf))
 }

@@ -12,7 +12,7 @@ use big_endian::get;
 pub const ROW_BYTES: usize = 8;
 
 // A tag of three bytes; zeros are a group's own.
-#[derive(Drop)]
+#[derive(Clone, Copy)]
 pub struct Tag {
     pub first: u8,
     pub second: u8,
@@ -20,7 +20,7 @@ pub struct Tag {
 }
 
 // An entry: its tag, `M` or `C`, the largest number of repeats, and how many entries stand under it.
-#[derive(Drop)]
+#[derive(Clone, Copy)]
 pub struct Row {
     pub tag: Tag,
     pub status: u8,

@@ -23,14 +23,14 @@ const LEVELS: usize = 9;
 
 // Where the walk stands: the place of the segment that comes next, and its tag, zeros where it has none
 // of three bytes.
-#[derive(Drop)]
+#[derive(Clone, Copy)]
 pub struct Next {
     pub at: usize,
     pub tag: Tag,
 }
 
 // The walk stopped, or went through all entries: with what is left.
-#[derive(Drop)]
+#[derive(Clone, Copy)]
 pub enum Walked {
     Stopped(Next),
     Through(Next),
@@ -38,7 +38,7 @@ pub enum Walked {
 
 // An entry, for the walk: whether it is mandatory, its most repeats, the tag with which each of them
 // begins, and the entries that a repeat holds behind that, from a number up to another.
-#[derive(Drop)]
+#[derive(Clone, Copy)]
 pub struct Part {
     pub mandatory: bool,
     pub most: usize,

@@ -17,7 +17,7 @@ use segments::Kind;
 
 // A value's size and its last four bytes, with zeros in front of fewer; the rank of the separator that
 // ends it, 4 where the input ends first; and the place after that separator.
-#[derive(Drop)]
+#[derive(Clone, Copy)]
 pub struct Word {
     pub size: usize,
     pub first: u8,

@@ -2,7 +2,7 @@
 // differ are told apart at once. It promises the answer of the definitions. No loop here ends early, so
 // that many bytes are taken at once.
 ghost use Rattle.std.specs.Prelude.{◌≡◌, ◌≤◌, length};
-ghost use Rattle.lists.specs.Lists.{same, begins as beginsWith};
+ghost use Rattle.lists.specs.Lists.{same, begins as begins_with};
 ghost use Rattle.shelves.specs.Layout.{total};
 
 // All bytes of both are the same: the bits that differ are gathered.
@@ -23,7 +23,7 @@ pub fn equal(a: &[u8], b: &[u8]) -> bool
 
 // A text begins with another.
 pub fn begins(s: &[u8], front: &[u8]) -> bool
-    ensures { result ≡ beginsWith front.now s.now }
+    ensures { result ≡ begins_with front.now s.now }
 {
     let n = front.len();
     if s.len() < n {

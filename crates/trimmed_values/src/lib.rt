@@ -16,7 +16,7 @@ use characters::Characters;
 use elements::{NextByte, byte_at, component_at, element_at, holds_byte, repeat_at, value_end};
 
 // Where a value stands and how long it is spelled there, or that there is none.
-#[derive(Drop)]
+#[derive(Clone, Copy)]
 pub enum Found {
     At { offset: usize, length: usize },
     Absent,

@@ -20,7 +20,7 @@ use refusing::failed;
 // ---- records
 
 // Three numbers of a table: the kind, the start and the length of a value.
-#[derive(Drop)]
+#[derive(Clone, Copy)]
 pub struct Record {
     pub kind: u32,
     pub start: u32,
