@@ -2,6 +2,8 @@
 // together is never stored as a list: its parts are counted, checked, measured and stored where they stand, and the text
 // is judged as Write judges its own. It promises, for any slices, the answer and every byte of the output that
 // `acknowledgements` gives: what is refused leaves the whole output zero.
+#![tactic(auto)]
+
 ghost use Rattle.std.specs.Prelude.{◌≡◌, true, false, ◌+◌, ◌≤◌, length};
 ghost use Rattle.refusals.specs.Refusals.{outcome};
 ghost use Rattle.refusals.specs.Limits.{most_bytes};

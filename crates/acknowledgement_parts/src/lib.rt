@@ -2,6 +2,8 @@
 // elements of the received input where they are spelled, lent lists. Of each part: how many records it is, which of them
 // cannot stand, how far it moves the text's end, and its bytes in a lent buffer. Each goes through the steps that the
 // writer takes; nothing is copied together first. That the parts are the list is proved in proofs/.
+#![tactic(auto)]
+
 ghost use Rattle.std.specs.Prelude.{◌≡◌, ◌+◌, ◌≤◌, ◌<◌, length, get_or};
 ghost use Rattle.values.specs.Tokens.{tokens_at};
 ghost use Rattle.emission_laws.specs.Emission.{waiting, after};

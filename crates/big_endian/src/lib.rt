@@ -1,6 +1,8 @@
 // Big-endian numbers in a buffer (request 2026-04: "numbers are big-endian"): read and stored, in any
 // width up to eight bytes. It promises the number that `numbers` reads there, and every byte of the
 // buffer after a store. Which numbers stand where is left to others.
+#![tactic(auto)]
+
 ghost use Rattle.std.specs.Prelude.{◌≡◌, ◌+◌, ◌≤◌, length};
 ghost use Rattle.std.proofs.lemmas.List.Edits.{sets};
 ghost use Rattle.numbers.specs.Numbers.{number_at, in_bytes};

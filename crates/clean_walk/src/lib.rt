@@ -2,6 +2,8 @@
 // each segment's end once. It says only that none of them finds anything, and then hands on the walk
 // with its counts. Where one of them finds something, or may, it says no more than that: which of them
 // it is, and where, is left to the stages.
+#![tactic(auto)]
+
 ghost use Rattle.std.specs.Prelude.{◌≤◌, ◌<◌, ◌≡◌, true, length};
 ghost use Rattle.refusals.specs.Limits.{most_bytes};
 ghost use Rattle.walk_laws.specs.Walking.{Within};

@@ -2,6 +2,8 @@
 // between segments: the service characters are the normal form's, and there is nothing to trim. It
 // promises that what is emitted from a place on is the part without its line breaks, and then what is
 // emitted after it. Empty ends are looked for in sixty-four bytes at once.
+#![tactic(auto)]
+
 ghost use Rattle.std.specs.Prelude.{true, ◌≡◌, ◌+◌, ◌≤◌, ◌<◌, length};
 ghost use Rattle.verbatim.specs.Verbatim.{ends_repeat};
 ghost use Rattle.clear_parts.specs.Clear.{Clear, EndsInValue, ClearPart};

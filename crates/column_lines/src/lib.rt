@@ -1,5 +1,7 @@
 // A line in columns (request 2026-12), number by number: how long its numbers are, their bytes in a lent buffer,
 // and whether they stand at a place of a text. A number is never converted: its digits are compared, at most twenty.
+#![tactic(auto)]
+
 ghost use Rattle.std.specs.Prelude.{◌≡◌, ◌+◌, ◌%◌, ◌≤◌, ◌<◌, length, drop};
 ghost use Rattle.std.proofs.lemmas.List.Edits.{sets};
 ghost use Rattle.lists.specs.Lists.{begins};

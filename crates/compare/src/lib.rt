@@ -3,6 +3,8 @@
 // that has the other's bytes not at all, nor most often one that has those of the other's normal form. Others
 // are compared by their normal forms, for which two arrays are taken from the stack: 64,000 bytes, or 16,384 or 4,096
 // where both inputs are short.
+#![tactic(auto)]
+
 ghost use Rattle.std.specs.Prelude.{◌≡◌, ◌≤◌, length};
 ghost use Rattle.std.proofs.Math.Option.{none};
 ghost use Rattle.refusals.specs.Refusals.{answering};

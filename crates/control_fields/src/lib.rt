@@ -1,6 +1,8 @@
 // Control elements where they are spelled (paper 01, "Control elements"): what a reference or a count
 // is judged by is read off the element in one pass, and nothing is trimmed. It promises the answers
 // that the element of the trimmed contents gives.
+#![tactic(auto)]
+
 ghost use Rattle.std.specs.Prelude.{◌≡◌, ◌&&◌};
 ghost use Rattle.characters.specs.Characters.{between};
 ghost use Rattle.values.specs.Tokens.{tokens_at};

@@ -1,5 +1,7 @@
 // Where the count and the reference of a service segment stand (paper 01, "Control elements"). It
 // promises that the constant table is the paper's.
+#![tactic(auto)]
+
 ghost use Rattle.std.specs.Prelude.{◌≡◌};
 ghost use Rattle.segments.specs.Kinds.{index};
 ghost use Rattle.control_elements.specs.Positions.{positions_of};

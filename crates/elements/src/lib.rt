@@ -2,6 +2,8 @@
 // element or a component of a repeat begins, whether a byte of a value stands in a piece, and a value
 // byte by byte up to its end. It promises the pieces into which `values` cuts the larger piece, by their
 // numbers. What trimming leaves of them is left to `trimmed_values`.
+#![tactic(auto)]
+
 ghost use Rattle.std.specs.Prelude.{◌+◌, ◌≤◌, ◌≡◌, length};
 ghost use Rattle.values.specs.Tokens.{tokens_at};
 ghost use Rattle.elements.specs.Elements.{PieceAt, SegmentAt, ElementAt, RepeatAt, ComponentAt, holds_byte};

@@ -2,6 +2,8 @@
 // on the way: the lines are measured and then stored from the first byte to the last, with separators held back until
 // something follows them. It promises, for any bytes, the answer that `columns` gives, and every byte of the
 // buffer at exit: what is beyond the text, and all of it where something is refused, keeps its values.
+#![tactic(auto)]
+
 ghost use Rattle.std.specs.Prelude.{◌≡◌, ◌+◌, ◌≤◌, ◌<◌, length};
 ghost use Rattle.std.proofs.Math.Option.{none};
 ghost use Rattle.std.proofs.lemmas.List.Edits.{sets};

@@ -2,6 +2,8 @@
 // each byte asks many at once: the least of all places found. It promises a number that is not above the place
 // of what is found, and the lesser of two; what holds of all bytes before such a number is said in specs/.
 // (One function that did both would be compiled with a branch.)
+#![tactic(auto)]
+
 ghost use Rattle.std.specs.Prelude.{true, ◌≡◌, ◌≤◌};
 
 // Where something is found at the `k`th byte, `k`; else more than any.

@@ -2,6 +2,8 @@
 // "Trimming"): what is held back after a separator of a rank, and how it is let out before a byte of a
 // value. Each step is there twice: it measures a text, or stores it in a lent buffer. It promises
 // what `emission_laws` gives for the tokens passed; the length measured is the length of what is stored.
+#![tactic(auto)]
+
 ghost use Rattle.std.specs.Prelude.{[], ◌∷◌, ◌≡◌, ◌+◌, ◌≤◌, ◌<◌, length};
 ghost use Rattle.std.proofs.lemmas.List.Edits.{sets};
 ghost use Rattle.values.specs.Tokens.{separator};

@@ -3,6 +3,8 @@
 // goes from line to line with the position of the value before it, so that a pass takes as many steps as the text
 // has bytes, whatever the text is. It promises, for any slices, the answer and every byte of the output that
 // `columns` gives: what is refused leaves the whole output zero.
+#![tactic(auto)]
+
 ghost use Rattle.std.specs.Prelude.{◌≡◌, true, ◌+◌, ◌≤◌, ◌<◌, length, drop};
 ghost use Rattle.std.proofs.lemmas.List.Edits.{sets};
 ghost use Rattle.lists.specs.Lists.{begins};

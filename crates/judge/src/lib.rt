@@ -3,6 +3,8 @@
 // all of them up to 12 are asked in turn, one walk says whether they find nothing.
 // They promise, for any bytes, what the definition of the stages answers, and Judge the answer that
 // `operations` gives.
+#![tactic(auto)]
+
 ghost use Rattle.std.specs.Prelude.{◌≡◌, ◌≤◌, length};
 ghost use Rattle.std.proofs.Math.Option.{none};
 ghost use Rattle.refusals.specs.Refusals.{answering};

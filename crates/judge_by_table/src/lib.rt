@@ -1,6 +1,8 @@
 // The second Judge (request 2026-08), which is lent a table: 21 before all else, Judge's own run of 1 to 12, then
 // 22, and 13 as Judge asks it. It promises, for any bytes lent as a table and any input, the answer that
 // `message_structures` gives.
+#![tactic(auto)]
+
 ghost use Rattle.std.specs.Prelude.{◌≡◌, true};
 ghost use Rattle.std.proofs.Math.Option.{none};
 ghost use Rattle.refusals.specs.Refusals.{answering};

@@ -1,6 +1,8 @@
 // A length that the contents of a body do not exceed in its normal form (paper 01, "Normal form"), without
 // measuring them: one byte for each byte, and a release character for each that is to be released and was
 // not. It promises that number, and the law in proofs/ that it is a bound.
+#![tactic(auto)]
+
 ghost use Rattle.std.specs.Prelude.{◌≡◌, ◌+◌, ◌≤◌, length, drop};
 ghost use Rattle.refusals.specs.Limits.{most_bytes};
 ghost use Rattle.length_bound.specs.Bound.{counted, most_contents};

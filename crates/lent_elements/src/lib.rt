@@ -2,6 +2,8 @@
 // put together, where the first begins an element: how long they make the text, and their bytes in a lent buffer. Each
 // record goes through the steps of `value_list_text`. It promises the definition of a bad list in `acknowledgements`,
 // and the measure past these records.
+#![tactic(auto)]
+
 ghost use Rattle.std.specs.Prelude.{◌≡◌, true, ◌+◌, ◌≤◌, leb, length, drop};
 ghost use Rattle.lists.specs.Lists.{any};
 ghost use Rattle.emission_laws.specs.Emission.{waiting, after};

@@ -2,6 +2,8 @@
 // Callers ask the question; how it is answered is known to this crate alone. One byte is looked up in
 // two masks, which stay in registers. Many bytes are compared with the ends of the ranges, since the
 // compiler can compare sixteen bytes at once, and not shift by sixteen of them.
+#![tactic(auto)]
+
 ghost use Rattle.std.specs.Prelude.{◌≡◌, ◌≤◌, drop};
 ghost use Rattle.lists.specs.Lists.{all};
 ghost use Rattle.characters.specs.Characters.{between};

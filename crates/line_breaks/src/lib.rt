@@ -1,5 +1,7 @@
 // Line breaks (request 2026-01): whether a byte is one, the place after those that stand at a place, and
 // a text without them, measured or stored. Where breaks may stand is left to others.
+#![tactic(auto)]
+
 ghost use Rattle.std.specs.Prelude.{◌≡◌, ◌+◌, ◌≤◌, length, drop};
 ghost use Rattle.std.proofs.lemmas.List.Edits.{sets};
 ghost use Rattle.characters.specs.Characters.{is_break, after_breaks};

@@ -1,6 +1,8 @@
 // Locate and its companion (paper 01, "Operations"): where a value of the contents is spelled in the
 // input, by segment, element, repeat and component; and that part of the input. They promise, for any
 // bytes and any numbers, the answer that `operations` gives.
+#![tactic(auto)]
+
 ghost use Rattle.std.specs.Prelude.{◌+◌, ◌≤◌, ◌≡◌, length};
 ghost use Rattle.contracts.specs.Promises.{Locates, HandsBack};
 ghost use Rattle.locate.specs.Locating.{answer_of, Inside, part_of};

@@ -1,6 +1,8 @@
 // A text moved inside one buffer: down (request 2026-04: Remove "moves later texts down and zeroes what was
 // vacated"; request 2026-07, on the way back) or up (request 2026-07). The old place and the new one may overlap.
 // It promises every byte of the buffer at exit.
+#![tactic(auto)]
+
 ghost use Rattle.std.specs.Prelude.{◌≡◌, ◌++◌, ◌+◌, ◌-◌, ◌≤◌, length, take, drop, replicate};
 ghost use Rattle.std.proofs.lemmas.List.Edits.{sets};
 

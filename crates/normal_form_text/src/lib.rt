@@ -1,5 +1,7 @@
 // The contents of a body stored as the normal form spells them (paper 01, "Normal form"). It
 // promises every byte of the buffer at exit: the emission of the tokens from a place on.
+#![tactic(auto)]
+
 ghost use Rattle.std.specs.Prelude.{true, ◌&&◌, ◌≡◌, ◌+◌, ◌*◌, ◌≤◌, length};
 ghost use Rattle.values.specs.Tokens.{tokens_at};
 ghost use Rattle.stages.specs.Contents.{normal_characters};

@@ -3,6 +3,8 @@
 // exit: bytes beyond the normal form, and all of them where something is refused, keep their values.
 // The normal form is measured before it is stored only where it might be too long, for 13 or for the
 // buffer; elsewhere its length is where storing ends.
+#![tactic(auto)]
+
 ghost use Rattle.std.specs.Prelude.{◌≡◌, ◌≤◌, length};
 ghost use Rattle.std.proofs.Math.Option.{none};
 ghost use Rattle.characters.specs.Characters.{characters_of};

@@ -2,6 +2,8 @@
 // references are spelled so. It says only that stage (10 11 12) passes a segment, and then where the
 // segment's reference begins. Where an element is spelled otherwise, or the segment may be refused, it says
 // `Other`, which promises nothing, and the answer is left to `stage_control`.
+#![tactic(auto)]
+
 ghost use Rattle.std.specs.Prelude.{◌+◌, ◌≤◌, ◌<◌, ◌≡◌, true, not, ◌&&◌, ◌||◌, eqb, length};
 ghost use Rattle.characters.specs.Characters.{digit};
 ghost use Rattle.elements.specs.Elements.{ElementAt};

@@ -1,6 +1,8 @@
 // Runs of ordinary bytes, which stand for themselves under all service characters that are in use: the
 // place after one, and a run as a part of a text, measured or stored. It promises that each byte of a
 // run is there and is a digit or an upper case letter.
+#![tactic(auto)]
+
 ghost use Rattle.std.specs.Prelude.{◌≡◌, ◌+◌, ◌-◌, ◌<◌, length, take, drop};
 ghost use Rattle.std.proofs.lemmas.List.Edits.{sets};
 ghost use Rattle.ordinary_runs.specs.Runs.{is_ordinary, quiet, Run, RunFits, longer};

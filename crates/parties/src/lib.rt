@@ -1,6 +1,8 @@
 // The parties of an interchange: sender, recipient and control reference, which are UNB's elements 2, 3 and 5.
 // One call says of each which part of the input spells it, after one Judge and in one pass over UNB. It promises
 // what Locate's companion hands back for each, for any bytes.
+#![tactic(auto)]
+
 ghost use Rattle.std.specs.Prelude.{◌≡◌, false, ◌||◌, eqb};
 ghost use Rattle.values.specs.Tokens.{tokens_at};
 ghost use Rattle.values.specs.Values.{ends_inside};

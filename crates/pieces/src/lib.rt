@@ -1,6 +1,8 @@
 // The cut of a mailbox file (request 2026-02): where the first piece of what is left of a file ends, and why
 // there. One walk over the segments, which stops at the first UNZ or at the first fault. It promises the
 // definitions of `mailbox_files`. What Judge says of the piece is left to others.
+#![tactic(auto)]
+
 ghost use Rattle.std.specs.Prelude.{◌≡◌};
 ghost use Rattle.mailbox_files.specs.Pieces.{piece_end};
 ghost use Rattle.pieces.specs.Walk.{ending_of, ending_from, end_in, is_unz};

@@ -1,6 +1,8 @@
 // Runs of plain bytes: bytes of which none is a service character, so that each is a byte of a value and
 // stands for itself. It promises that each byte of a run is there and is plain, and every byte of a buffer
 // that a run is stored in.
+#![tactic(auto)]
+
 ghost use Rattle.std.specs.Prelude.{◌≡◌, ◌+◌, ◌-◌, ◌≤◌, length, take, drop};
 ghost use Rattle.std.proofs.lemmas.List.Edits.{sets};
 ghost use Rattle.plain_runs.specs.Runs.{PlainRun};

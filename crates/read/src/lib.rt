@@ -2,6 +2,8 @@
 // a lent table of three 32-bit numbers a value. It promises, for any bytes, the answer that
 // `operations` gives, and every byte of the buffer and every number of the table at exit: what is
 // beyond the list, and all of both where something is refused, keeps its values.
+#![tactic(auto)]
+
 ghost use Rattle.std.specs.Prelude.{◌≡◌};
 ghost use Rattle.std.proofs.Math.Option.{none};
 ghost use Rattle.stages.specs.Stages.{refusal_of};

@@ -1,6 +1,8 @@
 // How many bytes and how many table numbers the value list of a body takes (paper 01, "Operations":
 // Read), without storing any of them. It promises the numbers of bytes and of table numbers that the
 // body's tokens take; that these are those of the body's contents is proved in proofs/Contents.antt.
+#![tactic(auto)]
+
 ghost use Rattle.std.specs.Prelude.{◌≡◌, ◌+◌, ◌≤◌, length};
 ghost use Rattle.values.specs.Tokens.{tokens_at};
 ghost use Rattle.read_counts.specs.Tally.{fresh, values, end, after_marks, past_held, grown, longer, after_byte, after_separator, Tallies};

@@ -1,6 +1,8 @@
 // The value list of a body stored in a lent byte buffer and a lent table (paper 01, "Operations":
 // Read). It promises every byte and every number of both at exit: the value bytes of the body's tokens
 // end to end, and the table of these values; what is not stored keeps its value.
+#![tactic(auto)]
+
 ghost use Rattle.std.specs.Prelude.{◌≡◌, ◌∷◌, [], ◌+◌, ◌*◌, ◌≤◌, ◌<◌, length};
 ghost use Rattle.std.proofs.lemmas.List.Edits.{sets};
 ghost use Rattle.values.specs.Tokens.{tokens_at};

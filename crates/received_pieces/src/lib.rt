@@ -2,6 +2,8 @@
 // 2026-11): the tokens of the piece without what ends it go through the steps of `held_separators`, which trim it. How long
 // the piece is then, its bytes in a lent buffer, and how many values trimming leaves in an element. It promises what
 // `emission_laws` gives for these tokens; that they are the tokens of the trimmed piece is proved in proofs/.
+#![tactic(auto)]
+
 ghost use Rattle.std.specs.Prelude.{◌≡◌, ◌+◌, ◌*◌, ◌≤◌, length};
 ghost use Rattle.values.specs.Tokens.{tokens_at};
 ghost use Rattle.emission_laws.specs.Emission.{after};

@@ -1,5 +1,7 @@
 // Refusals made and numbered (paper 01, "Refusals by number"): what a stage with a refusal returns, and the
 // paper's number of each, for what programs print and for what crosses to C.
+#![tactic(auto)]
+
 ghost use Rattle.std.specs.Prelude.{◌≡◌};
 ghost use Rattle.refusals.specs.Refusals.{number, failed_at};
 

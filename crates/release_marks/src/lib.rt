@@ -2,6 +2,8 @@
 // by the four bytes before it, so that many are asked at once. Where a guess is wrong a byte is misread, and
 // what goes from byte to byte stops there: nothing rests on a guess. It promises what is guessed, and which
 // bytes are misread.
+#![tactic(auto)]
+
 ghost use Rattle.std.specs.Prelude.{false, ◌≡◌, ◌+◌, ◌≤◌, length};
 ghost use Rattle.release_marks.specs.Marks.{marked, marked_at, misread, closed_at};
 

@@ -1,6 +1,8 @@
 // The morning figures of a mailbox file (request 2026-02). One walk over the file's pieces: each is cut, judged
 // and counted, and what is left goes the same way. It promises, for every file, the answer that
 // `mailbox_files` defines over the list of pieces. Where a piece ends is left to `pieces`.
+#![tactic(auto)]
+
 ghost use Rattle.std.specs.Prelude.{◌≡◌, ◌≤◌, max, length};
 ghost use Rattle.refusals.specs.Refusals.{number};
 ghost use Rattle.mailbox_files.specs.Pieces.{pieces};

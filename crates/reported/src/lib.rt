@@ -1,6 +1,8 @@
 // Whether a received interchange can be acknowledged (request 2026-11), and what is taken over from it: the places at which
 // values and elements of its UNB are spelled, and the action code. One run of Judge's stages; nothing is read a second way.
 // It promises refusal 23 of `acknowledgements`, and the pieces that these places begin.
+#![tactic(auto)]
+
 ghost use Rattle.std.specs.Prelude.{◌≡◌, true};
 ghost use Rattle.std.proofs.Math.Option.{none};
 ghost use Rattle.characters.specs.Characters.{characters_of, body_start};

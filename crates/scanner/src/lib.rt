@@ -1,6 +1,8 @@
 // The scanner: what stands at a place of the input (a byte of a value, a separator, a stray release
 // character, the end) and where reading goes on: after a terminator past the line breaks that follow
 // it. It promises the tokens of `values`, one at a time.
+#![tactic(auto)]
+
 ghost use Rattle.std.specs.Prelude.{◌≡◌, false, ◌+◌, ◌≤◌, ◌<◌, length, get_or};
 ghost use Rattle.characters.specs.declared.Role.TheVariants.{Release};
 ghost use Rattle.characters.specs.Characters.{role};

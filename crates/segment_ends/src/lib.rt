@@ -1,6 +1,8 @@
 // Where a segment ends: the first terminator or release character is looked for among sixty-four bytes at
 // once, and from a release character on thirty-two bytes are. It promises what `scanner::scan` promises, which
 // it calls for the last few bytes of an input and where a release character is stray.
+#![tactic(auto)]
+
 ghost use Rattle.std.specs.Prelude.{true, false, ◌≡◌, ◌+◌, ◌≤◌, ◌<◌, length};
 ghost use Rattle.characters.specs.declared.Role.TheVariants.{Release};
 ghost use Rattle.characters.specs.Characters.{role, is_service};

@@ -1,6 +1,8 @@
 // Where service characters stand in lent bytes that are asked again and again: the bytes are cut into blocks, and a lent array
 // holds for each block the first place from its start on. It promises of any part of the bytes whether a service character
 // stands in it; the question looks at the bytes of one block at most.
+#![tactic(auto)]
+
 ghost use Rattle.std.specs.Prelude.{◌≡◌, ◌-◌, ◌≤◌, length, take, drop};
 ghost use Rattle.lists.specs.Lists.{any};
 ghost use Rattle.characters.specs.Characters.{is_service};

@@ -2,6 +2,8 @@
 // map, and the two sums, over a lent buffer. They promise, for any bytes, the answer that `shelves` gives and
 // every byte of the shelf at exit; what is refused leaves it unchanged. Put and Remove are lent the summary at
 // the shelf's head. The functions that take a layout serve every version.
+#![tactic(auto)]
+
 ghost use Rattle.std.specs.Prelude.{◌≡◌, true, ◌+◌, ◌≤◌, length};
 ghost use Rattle.refusals.specs.Refusals.{outcome};
 ghost use Rattle.shelves.specs.Layout.{version_two};

@@ -3,6 +3,8 @@
 // two sums, in one move and with no scratch; then the starts are raised or lowered, and the head is stored. They
 // promise, for any bytes, the answer that `carrying` gives and every byte of the shelf at exit; what is refused
 // leaves it unchanged.
+#![tactic(auto)]
+
 ghost use Rattle.std.specs.Prelude.{◌≡◌, true, ◌+◌, ◌≤◌, ◌<◌, length};
 ghost use Rattle.std.proofs.lemmas.List.Edits.{sets};
 ghost use Rattle.shelves.specs.Layout.{version_one, version_two, bit, base as base_of, pair_place, start_of, end_of};

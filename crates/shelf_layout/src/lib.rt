@@ -1,6 +1,8 @@
 // What stands where in a shelf (requests 2026-04 and 2026-06), read and stored: the map, a slot's start and length, how
 // many bytes the texts have together, and where the free bytes begin. It promises the numbers that
 // `shelves` reads there, in any layout. Whether the shelf is sound is left to `shelf_soundness`.
+#![tactic(auto)]
+
 ghost use Rattle.std.specs.Prelude.{◌≡◌, ◌++◌, ◌+◌, ◌*◌, ◌≤◌, ◌<◌, length};
 ghost use Rattle.std.proofs.lemmas.List.Edits.{sets};
 ghost use Rattle.numbers.specs.Numbers.{in_bytes};

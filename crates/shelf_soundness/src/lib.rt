@@ -1,5 +1,7 @@
 // Whether a shelf is sound (requests 2026-04 and 2026-06), for any bytes. It promises the answer that `shelves` gives. Each
 // kept text is judged once; the rest takes little beside that.
+#![tactic(auto)]
+
 ghost use Rattle.std.specs.Prelude.{◌≡◌, ◌≤◌, eqb, length, drop};
 ghost use Rattle.lists.specs.Lists.{begins, all};
 ghost use Rattle.shelves.specs.Layout.{base, map_of, end_of, heading};

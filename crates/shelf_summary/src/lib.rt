@@ -2,6 +2,8 @@
 // from the head and stored back there, and what a put or a removal does to it. The core is by value; the thin
 // steps over it change a summary that is lent by `&mut`. It promises every field after each of them. Which text
 // was put or taken out is left to `shelf`.
+#![tactic(auto)]
+
 ghost use Rattle.std.specs.Prelude.{◌≡◌, true, false, ◌+◌, ◌≤◌, ◌<◌, length};
 ghost use Rattle.shelves.specs.Layout.{bit};
 ghost use Rattle.shelves.specs.Summary.{put_new, put_copy, removed as removed_of};

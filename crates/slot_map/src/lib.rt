@@ -1,6 +1,8 @@
 // The map of occupied slots (request 2026-04: "slot k is the bit worth 2^k"): a slot asked, occupied and
 // freed, and the two numbers that "are read off the map", how many slots are occupied and the lowest
 // that is free. It promises what `shelves` says of these.
+#![tactic(auto)]
+
 ghost use Rattle.std.specs.Prelude.{◌≡◌, true, false, ◌+◌, ◌-◌, ◌<◌, ◌^◌};
 ghost use Rattle.shelves.specs.Layout.{bit};
 ghost use Rattle.slot_map.specs.Slots.{occupied_count, lowest_free_in};

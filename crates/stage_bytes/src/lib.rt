@@ -1,5 +1,7 @@
 // Stage 8 (paper 01, "Levels"): every byte of every value is in the level. It promises the walk of
 // `stage_walks` over the tokens from a place on.
+#![tactic(auto)]
+
 ghost use Rattle.std.specs.Prelude.{◌≡◌, drop};
 ghost use Rattle.refusals.specs.Refusals.{outcome};
 ghost use Rattle.values.specs.Tokens.{tokens_at};

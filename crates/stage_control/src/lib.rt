@@ -1,6 +1,8 @@
 // Stage (10 11 12) (paper 01, "Control elements"): the first segment whose reference or count is not
 // well-formed, or a trailer with another reference than its header's or with a wrong count. It promises
 // what the walk of `stage_walks` answers. The order of the segments is left to `stage_order`.
+#![tactic(auto)]
+
 ghost use Rattle.std.specs.Prelude.{◌≤◌, ◌≡◌, length};
 ghost use Rattle.refusals.specs.Refusals.{outcome};
 ghost use Rattle.values.specs.Tokens.{tokens_at};

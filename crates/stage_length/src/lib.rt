@@ -1,5 +1,7 @@
 // How long the contents of a body are, spelled as the normal form spells them (paper 01, "Normal
 // form"), without storing a byte. It promises the length of what `emission_laws` gives.
+#![tactic(auto)]
+
 ghost use Rattle.std.specs.Prelude.{true, ◌&&◌, ◌≡◌, ◌*◌, ◌≤◌, length};
 ghost use Rattle.stages.specs.Contents.{normal_characters};
 ghost use Rattle.values.specs.Tokens.{tokens_at};

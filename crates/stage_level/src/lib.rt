@@ -2,6 +2,8 @@
 // It promises the level that `levels` reads in the header's trimmed contents, and the fifth byte that
 // the version gives the normal form. That the segment is a header, and that its values keep the level,
 // is left to others.
+#![tactic(auto)]
+
 ghost use Rattle.std.specs.Prelude.{◌≡◌, [], ◌∷◌};
 ghost use Rattle.lists.specs.Lists.{maybe};
 ghost use Rattle.levels.specs.Levels.{level_of};

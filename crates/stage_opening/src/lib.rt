@@ -2,6 +2,8 @@
 // it uses, whether they are usable, and where its body begins. It promises what these two stages of
 // Judge answer, as `Progress`, in which every run of stages hands on what it found. What the body
 // holds is left to others.
+#![tactic(auto)]
+
 ghost use Rattle.std.specs.Prelude.{◌≡◌, not, ◌||◌, [], ◌∷◌, ◌++◌, ◌+◌, get_or, drop};
 ghost use Rattle.lists.specs.Lists.{if◌then◌else◌, text, begins, member, all_differ, all};
 ghost use Rattle.characters.specs.Characters.{between, separates, usable, advised, plus_characters, star_characters, characters_of, body_start, bad_advice, opens};

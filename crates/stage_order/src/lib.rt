@@ -2,6 +2,8 @@
 // where it stands, the first UNS that breaks the rule of sections, or the end before UNZ; or else the
 // walk over the whole, with its counts. It promises what the walk of `stage_walks` answers. What
 // trailers must say is left to others.
+#![tactic(auto)]
+
 ghost use Rattle.std.specs.Prelude.{◌≤◌, ◌≡◌, length};
 ghost use Rattle.values.specs.Tokens.{tokens_at};
 ghost use Rattle.scanner.specs.Scan.{segment_at};

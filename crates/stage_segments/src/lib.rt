@@ -1,5 +1,7 @@
 // Stage (4 5 6): stray releases, a body that ends inside a segment, tags. It promises the answer of
 // the walk `worded` over the segments from a place on. The stages after it are left to others.
+#![tactic(auto)]
+
 ghost use Rattle.std.specs.Prelude.{◌≡◌, length};
 ghost use Rattle.refusals.specs.Refusals.{outcome};
 ghost use Rattle.values.specs.Tokens.{tokens_at};

@@ -1,6 +1,8 @@
 // Stage 22 (request 2026-08, "body doesn't match"): each message's segments between UNH and UNT go through the
 // table, from left to right; the first place at which a walk stops answers. It promises what the walk
 // of `structure_walks` answers, for a sound table.
+#![tactic(auto)]
+
 ghost use Rattle.std.specs.Prelude.{◌≤◌, ◌≡◌, true, length};
 ghost use Rattle.values.specs.Tokens.{segments, tokens_at};
 ghost use Rattle.segments.specs.declared.Kind.TheVariants.{Unh, Unt};

@@ -1,5 +1,7 @@
 // Storing a text in a lent buffer: a run of one byte, a part of another text, a byte of a value as it
 // is spelled, an advice. It promises every byte of the buffer at exit; what is not stored keeps its value.
+#![tactic(auto)]
+
 ghost use Rattle.std.specs.Prelude.{◌≡◌, ◌++◌, ◌+◌, ◌≤◌, length, replicate, drop};
 ghost use Rattle.std.proofs.lemmas.List.Edits.{sets};
 ghost use Rattle.characters.specs.Characters.{is_service, advice_of};

@@ -3,6 +3,8 @@
 // where the service characters are the same. It promises that what is emitted from a place on is the
 // stretch, each separator respelled, and then what is emitted after it. Where a stretch halts is told by
 // tests that ask thirty-two bytes at once.
+#![tactic(auto)]
+
 ghost use Rattle.std.specs.Prelude.{true, false, ◌≡◌, ◌+◌, ◌-◌, ◌≤◌, ◌<◌, length};
 ghost use Rattle.std.proofs.lemmas.List.Edits.{sets};
 ghost use Rattle.verbatim.specs.Verbatim.{ends_repeat};

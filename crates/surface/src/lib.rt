@@ -3,6 +3,8 @@
 // 2026-12), and the parties of an interchange in one call, for programs in C and Rust. It promises, for any bytes and any numbers, the paper's answers as the definitions in specs/ lay
 // them out in structs, and every byte and number of each lent buffer at exit. A slice crosses as a pointer and a length;
 // nothing is asked of what it holds. `laying` makes the structs of the answers.
+#![tactic(auto)]
+
 ghost use Rattle.std.specs.Prelude.{◌≡◌};
 ghost use Rattle.operations.specs.Judge.{judge as judge_of, normalise as normalise_of, normalise_buffer};
 ghost use Rattle.message_structures.specs.Judging.{judge_by_table};

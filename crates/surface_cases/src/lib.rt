@@ -2,6 +2,8 @@
 // a caller of one function of the surface and does nothing else: that its contract follows from the surface's shows that a
 // struct's fields, the order of the arguments and the operation itself are those that are meant, also where a contract
 // of the surface and its code would be wrong in the same way. No program links it.
+#![tactic(auto)]
+
 ghost use Rattle.surface_cases.specs.Says.{SaysJudged, SaysJudgedByTable, SaysNormalised, SaysCompared, SaysKept, SaysLocated, SaysPart, SaysListed, SaysWritten, SaysAcknowledged, SaysExported, SaysImported, SaysStarted, SaysPut, SaysGot, SaysRemoved, SaysCounted, SaysSummed, SaysCarried, SaysCarriedBack, SaysReported};
 
 use surface::{

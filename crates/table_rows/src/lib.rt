@@ -1,6 +1,8 @@
 // The entries of a table (request 2026-08), read where they stand: "eight big-endian bytes an entry". It
 // promises the entry that `message_tables` reads there. Whether an entry fits is left to
 // `table_soundness`, and what it takes to `table_walk`.
+#![tactic(auto)]
+
 ghost use Rattle.std.specs.Prelude.{◌+◌, ◌*◌, ◌≤◌, ◌<◌, ◌≡◌, length, drop};
 ghost use Rattle.lists.specs.Lists.{same};
 ghost use Rattle.message_tables.specs.Entries.{entry_of, is_group, is_mandatory};

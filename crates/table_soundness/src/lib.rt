@@ -1,6 +1,8 @@
 // Whether a table is sound (request 2026-08), for any bytes and any number of them. One pass over at most 999
 // entries; what is kept of those before the present one is whether the last was a group's own, and
 // where each open group ends. It promises the lowest entry at fault, as `message_table_laws` finds it.
+#![tactic(auto)]
+
 ghost use Rattle.std.specs.Prelude.{◌+◌, ◌≤◌, ◌≡◌, false, not, ◌||◌, []};
 ghost use Rattle.lists.specs.Lists.{text, member};
 ghost use Rattle.message_tables.specs.Entries.{whole_entries, entries_of};

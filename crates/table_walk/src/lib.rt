@@ -3,6 +3,8 @@
 // is gone through the same way, one level deeper." A level calls the repeats of its entries, and a
 // repeat the level below, so that the stack is bounded by the depth of the groups. It promises the walk
 // of `message_structures`. Which messages are walked is left to `stage_structure`.
+#![tactic(auto)]
+
 ghost use Rattle.std.specs.Prelude.{◌+◌, ◌≤◌, ◌≡◌, not, ◌&&◌, drop};
 ghost use Rattle.lists.specs.Lists.{same};
 ghost use Rattle.segments.specs.Tags.{tag_of};

@@ -1,6 +1,8 @@
 // Tags, and other short values: a value by its size and its last four bytes, with the separator that
 // ends it; the kind of segment that begins at a place, and whether its tag keeps the rule for tags.
 // What the segment then holds is left to others.
+#![tactic(auto)]
+
 ghost use Rattle.std.specs.Prelude.{◌<◌, ◌≡◌, ◌||◌, [], ◌∷◌, leb, true};
 ghost use Rattle.characters.specs.Characters.{upper, digit};
 ghost use Rattle.segments.specs.declared.Kind.TheVariants.{User};

@@ -1,6 +1,8 @@
 // Texts compared: whether two have the same bytes, and the sum of a text's bytes, by which most texts that
 // differ are told apart at once. It promises the answer of the definitions. No loop here ends early, so
 // that many bytes are taken at once.
+#![tactic(auto)]
+
 ghost use Rattle.std.specs.Prelude.{◌≡◌, ◌≤◌, length};
 ghost use Rattle.lists.specs.Lists.{same, begins as begins_with};
 ghost use Rattle.shelves.specs.Layout.{total};

@@ -3,6 +3,8 @@
 // whether an element is one repeat, or one value; and whether a value is the same as another or as a text, by
 // its bytes without their release characters. All of it holds of any segment, ended or not, but for a value's
 // length.
+#![tactic(auto)]
+
 ghost use Rattle.std.specs.Prelude.{◌≡◌, false};
 ghost use Rattle.lists.specs.Lists.{same};
 ghost use Rattle.values.specs.Values.{ends_inside};

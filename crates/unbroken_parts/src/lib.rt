@@ -1,6 +1,8 @@
 // Parts of a text without their line breaks, measured and stored. Where a text is known to have none, which is
 // asked once, no byte of a part is asked. It promises the part without the bytes below the space, as
 // `line_breaks` does of a whole text.
+#![tactic(auto)]
+
 ghost use Rattle.std.specs.Prelude.{true, ◌≡◌, ◌+◌, ◌≤◌, length, take, drop};
 ghost use Rattle.std.proofs.lemmas.List.Edits.{sets};
 ghost use Rattle.line_breaks.specs.Unbroken.{unbroken};

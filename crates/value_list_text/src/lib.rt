@@ -1,5 +1,7 @@
 // The text of a value list (paper 01, "Write": "always an advice, then the trimmed list"), composed
 // record by record with separators held back: how long it is, and its bytes in a lent buffer.
+#![tactic(auto)]
+
 ghost use Rattle.std.specs.Prelude.{◌≡◌, true, ◌+◌, ◌≤◌, length};
 ghost use Rattle.std.proofs.lemmas.List.Edits.{sets};
 ghost use Rattle.emission_laws.specs.Emission.{nothing, waiting, emitted, after};

@@ -1,6 +1,8 @@
 // The checks of a value list that is lent to Write (paper 01, refusals 15 and 16; request 2026-10): a byte buffer of
 // values and a table of three numbers a value. It promises, for each, the refusal that answers: that
 // of the lowest record which fails. What is written of a list that passes is left to others.
+#![tactic(auto)]
+
 ghost use Rattle.std.specs.Prelude.{◌≡◌, ◌+◌, ◌≤◌, true, length};
 ghost use Rattle.lists.specs.Lists.{any};
 ghost use Rattle.characters.specs.Characters.{is_service};

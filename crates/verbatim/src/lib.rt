@@ -1,6 +1,8 @@
 // What tells that bytes stand as their normal form spells them (paper 01, "Normal form"): the service
 // characters are the normal form's, and nothing is empty to its end between two bytes that stand side by
 // side. It promises the answers of the tests in specs/. How many bytes stand so is left to others.
+#![tactic(auto)]
+
 ghost use Rattle.std.specs.Prelude.{◌≡◌};
 ghost use Rattle.stages.specs.Contents.{normal_characters};
 ghost use Rattle.verbatim.specs.Verbatim.{is_normal, ends_repeat, idle};

@@ -3,6 +3,8 @@
 // section that it begins, the walk after it, and whether the walk has come to the end of an interchange.
 // Each answers from the walk alone; that this is the answer of `segments` and `control_elements` for all
 // that passed is said in `walk_laws`. Going through the segments of an input is left to `stage_order`.
+#![tactic(auto)]
+
 ghost use Rattle.std.specs.Prelude.{◌≡◌, []};
 ghost use Rattle.segments.specs.declared.Section.TheVariants.{None};
 ghost use Rattle.segments.specs.Order.{walk_over};

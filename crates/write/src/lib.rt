@@ -1,6 +1,8 @@
 // Write (paper 01, "Operations"): an interchange from a value list and six service bytes, in a lent
 // buffer. It promises, for any slices, the answer and every byte of the buffer that `operations`
 // gives: a refused Write leaves its whole output zero.
+#![tactic(auto)]
+
 ghost use Rattle.std.specs.Prelude.{◌≡◌, true, ◌≤◌, length, take};
 ghost use Rattle.characters.specs.Characters.{six_bytes, usable};
 ghost use Rattle.stages.specs.Stages.{refusal_of};

@@ -1,0 +1,34 @@
+-- `control_fields::with_digit` meets its contract: five bytes spell too little for the sixth to be too much. Assumes nothing.
+use borrow.Author.Rules.{rules}
+use native.Mathlib.Omega.{arith}
+use borrow.Author.Tests.{le-ltb, lt-ltb}
+use Rattle.control_fields.specs.Reading.{with_digit}
+use Rattle.control_fields.proofs.Bytes.{five_spell}
+use Rattle.control_fields.proofs.with_digit.Goals as goal
+
+pub returns-then-f-ge6 : goal.returns-then-f-ge6
+unfolding with_digit
+returns-then-f-ge6 c = simp (le-ltb _ _ c.if-f-ge6.true)
+
+pub overflow_mul-result : goal.overflow_mul-result
+overflow_mul-result c =
+    let h = five_spell c.args.f c.requires.1 (omega arith) in
+    omega arith
+
+pub returns-then-b-lt48 : goal.returns-then-b-lt48
+unfolding with_digit
+returns-then-b-lt48 c = simp (lt-ltb _ _ c.if-f-ge6.false) (omega arith)
+
+pub overflow_mul-result-2 : goal.overflow_mul-result-2
+overflow_mul-result-2 c =
+    let h = five_spell c.args.f c.requires.1 (omega arith) in
+    omega arith
+
+pub overflow_add-result : goal.overflow_add-result
+overflow_add-result c =
+    let h = five_spell c.args.f c.requires.1 (omega arith) in
+    omega arith
+
+pub returns : goal.returns
+unfolding with_digit
+returns c = simp (lt-ltb _ _ c.if-f-ge6.false)

@@ -1,0 +1,19 @@
+-- `elements::holds_byte` meets its contract. The loop's invariant: a byte stands from the start on if one does from `at` on. What is
+-- left of the input falls. Assumes nothing.
+use Prim.Native.Nat.{◌-◌}
+use mathlib.Core.Path.{◌≡◌, refl, sym, ◌∙◌}
+use native.Mathlib.Omega.{arith}
+use lib.ListN.{length}
+use borrow.Author.Rules.{rules}
+use borrow.Author.Tests.{le-leb, lt-leb}
+use Rattle.values.specs.Tokens.{tokens_at}
+use Rattle.scanner.proofs.Lexing.{lexes_as}
+use Rattle.elements.specs.Elements.{holds_byte}
+use Rattle.elements.proofs.Elements.{holds_byte_lem, holds_over, holds_separator, holds_stray, holds_end}
+use Rattle.elements.proofs.holds_byte.Given as goal
+
+abbrev pub invariant-loop-found : goal.invariant-loop-found
+invariant-loop-found l = holds_byte l.rank (tokens_at l.c l.s l.from) ≡ holds_byte l.rank (tokens_at l.c l.s l.at)
+
+abbrev pub decreases-loop-found : goal.decreases-loop-found
+decreases-loop-found l = length l.s - l.at

@@ -1,0 +1,28 @@
+-- `held_separators::after_separator` meets its contract: it asks the definition's tests in the definition's order. Assumes nothing.
+use native.Mathlib.Omega.{arith}
+use borrow.Author.Rules.{rules}
+use borrow.Author.Tests.{le-leb, lt-leb}
+use Rattle.emission_laws.specs.Emission.{separated}
+use Rattle.held_separators.proofs.after_separator.Goals as goal
+
+pub returns-then-rank-eq0 : goal.returns-then-rank-eq0
+unfolding separated
+returns-then-rank-eq0 c = simp (le-leb c.args.rank 0 (omega arith)) c.nothing_held.ensures
+
+pub returns-then-rank-eq1 : goal.returns-then-rank-eq1
+unfolding separated
+returns-then-rank-eq1 c =
+    let rank = c.args.rank in
+    simp (lt-leb rank 0 (omega arith), le-leb rank 1 (omega arith))
+
+pub returns-then-rank-eq2 : goal.returns-then-rank-eq2
+unfolding separated
+returns-then-rank-eq2 c =
+    let rank = c.args.rank in
+    simp (lt-leb rank 0 (omega arith), lt-leb rank 1 (omega arith), le-leb rank 2 (omega arith))
+
+pub returns : goal.returns
+unfolding separated
+returns c =
+    let rank = c.args.rank in
+    simp (lt-leb rank 0 (omega arith), lt-leb rank 1 (omega arith), lt-leb rank 2 (omega arith))

@@ -1,0 +1,32 @@
+-- `line_breaks::past_breaks` meets its contract. The loop's invariant: the place after the breaks from the start is the one after the breaks
+-- from `at`. What is left of the input falls. Assumes nothing.
+use Prim.Native.Nat.{◌-◌}
+use mathlib.Core.Path.{◌≡◌, refl, sym, ◌∙◌}
+use native.Mathlib.Omega.{arith}
+use lib.ListN.{length}
+use borrow.Author.Rules.{rules}
+use borrow.Author.Tests.{not-true, not-false}
+use Rattle.characters.specs.Characters.{after_breaks}
+use Rattle.line_breaks.proofs.Passing.{after_break, after_none, after_all_lem}
+use Rattle.line_breaks.proofs.past_breaks.Goals as goal
+
+pub loop-at-init : goal.loop-at-init
+loop-at-init c = refl
+
+pub returns-then-not-is_break : goal.returns-then-not-is_break
+returns-then-not-is_break c =
+    let told = c.is_break in
+    let loop = c.loop-at in
+    after_none _ loop.at (omega arith) (sym told.ensures ∙ not-true told.result c.if-not-is_break.true-raw) ∙ sym loop.invariant
+
+pub loop-at-smaller : goal.loop-at-smaller
+loop-at-smaller c = omega arith
+
+pub loop-at-preserved : goal.loop-at-preserved
+loop-at-preserved c =
+    let told = c.is_break in
+    let loop = c.loop-at in
+    loop.invariant ∙ after_break _ loop.at (omega arith) (sym told.ensures ∙ not-false told.result c.if-not-is_break.false-raw)
+
+pub returns : goal.returns
+returns c = after_all_lem _ c.loop-at.at (omega arith) ∙ sym c.loop-at.invariant

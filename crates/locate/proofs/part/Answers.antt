@@ -1,0 +1,11 @@
+-- `locate::part` meets its contract: the part that `part_of` names. Assumes nothing.
+use mathlib.Core.Path.{refl}
+use borrow.Author.Rules.{rules}
+use Rattle.locate.proofs.Locating.{handed}
+use Rattle.locate.proofs.part.Goals as goal
+
+pub returns : goal.returns
+returns c =
+    let x = c.args in
+    let p = c.part_of-part in
+    handed x.s x.segment x.element x.repeat x.component _ p.ensures.0 p.ensures.1 refl refl

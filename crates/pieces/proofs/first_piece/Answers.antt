@@ -1,0 +1,17 @@
+-- `pieces::first_piece` meets its contract: without a byte there is no piece, and else what the opening answers decides whether there is
+-- a walk. Assumes nothing.
+use mathlib.Core.Path.{◌∙◌}
+use borrow.Author.Rules.{rules}
+use Rattle.pieces.proofs.Walking.{ending_none, ending_unopened, ending_opened}
+use Rattle.pieces.proofs.first_piece.Goals as goal
+
+pub returns-then-rest-eq0 : goal.returns-then-rest-eq0
+returns-then-rest-eq0 c = ending_none _ c.if-rest-eq0.true
+
+pub returns-in-Refused : goal.returns-in-Refused
+returns-in-Refused c = ending_unopened _ c.if-rest-eq0.false c.opening_of.ensures c.in-Refused.is
+
+pub returns-in-Passed : goal.returns-in-Passed
+returns-in-Passed c =
+    c.unz_end.ensures
+    ∙ ending_opened _ c.if-rest-eq0.false c.opening_of.ensures c.in-Passed.is

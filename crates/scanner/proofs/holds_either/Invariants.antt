@@ -1,0 +1,17 @@
+-- `scanner::holds_either` meets its contract. The loop's invariant: where nothing was found so far, the bytes before `at` are others. What is
+-- left up to the end falls. Assumes nothing.
+use Prim.Native.Nat.{◌+◌, ◌≤◌, ◌-◌}
+use mathlib.Core.Path.{◌≡◌, refl}
+use mathlib.Core.Bool.{false}
+use native.Mathlib.Omega.{arith}
+use lib.ListN.{length}
+use borrow.Author.Rules.{rules}
+use Rattle.scanner.specs.Scan.{Others}
+use Rattle.scanner.proofs.Scanning.{others_none, others_next, others_to}
+use Rattle.scanner.proofs.holds_either.Given as goal
+
+abbrev pub invariant-loop-at : goal.invariant-loop-at
+invariant-loop-at l = (l.at ≤ l.from + 16) × (l.found ≡ false → Others l.a l.b l.s l.from l.at)
+
+abbrev pub decreases-loop-at : goal.decreases-loop-at
+decreases-loop-at l = l.from + 16 - l.at

@@ -1,0 +1,18 @@
+-- `scanner::scan` meets its contract. The loop's invariant: how the segment ends is how the rest of it, from `at` on, ends.
+-- What is left of the input falls. Assumes nothing.
+use Prim.Native.Nat.{◌+◌, ◌≤◌, ◌-◌}
+use mathlib.Core.Path.{◌≡◌, refl, sym, ap, ◌∙◌}
+use native.Mathlib.Omega.{arith}
+use lib.ListN.{length}
+use borrow.Author.Rules.{rules}
+use Rattle.values.specs.Tokens.{tokens_at}
+use Rattle.line_breaks.proofs.Passing.{after_least, after_most}
+use Rattle.scanner.specs.Scan.{scanned, ended}
+use Rattle.scanner.proofs.Scanning.{releases, scan_other, scan_others, scan_ends, scan_past, passed_none, passed_one}
+use Rattle.scanner.proofs.scan.Given as goal
+
+abbrev pub invariant-loop-at : goal.invariant-loop-at
+invariant-loop-at l = (l.from ≤ l.at) × (scanned (tokens_at l.c l.s l.from) ≡ scanned (tokens_at l.c l.s l.at))
+
+abbrev pub decreases-loop-at : goal.decreases-loop-at
+decreases-loop-at l = length l.s - l.at

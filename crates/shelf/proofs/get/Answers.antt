@@ -1,0 +1,12 @@
+-- `shelf::get` meets its contract: the part that `got` names. Assumes nothing.
+use mathlib.Core.Path.{◌≡◌, refl, sym, ap, ap₂, subst, ◌∙◌}
+use Rattle.shelves.specs.Layout.{version_two}
+use Rattle.shelf.proofs.Spans.{handed}
+use borrow.Author.Rules.{rules}
+use Rattle.shelf.proofs.get.Goals as goal
+
+pub returns : goal.returns
+returns c =
+    let x = c.args in
+    let p = c.got-part in
+    handed version_two x.s x.slot _ p.ensures.0 p.ensures.1 refl refl

@@ -1,0 +1,21 @@
+-- `parting::are_alone` meets its contract. The loop's invariant: every text passed is alone. What is left falls. Assumes nothing.
+use native.Mathlib.Omega.{arith}
+use Prim.Native.Nat.{ℕ, ◌+◌, ◌-◌, ◌*◌, ◌≤◌, ◌<◌}
+use mathlib.Core.Path.{◌≡◌, refl, sym, ap, ap₂, subst, ◌∙◌}
+use mathlib.Core.Bool.{Bool, true, false, ◌&&◌, ◌||◌, false≢true}
+use borrow.Author.Tests.{not-true, not-false}
+use Rattle.shelf_layout.specs.Laid.{laid}
+use mathlib.Core.List.{List}
+use Rattle.shelf_layout.specs.declared.Layout.{Layout}
+use Rattle.shelf_soundness.specs.Clauses.{AloneAt}
+use Rattle.shelf_soundness.proofs.Loops.{Passed, passed_none, passed_more, one_fails, none_fails, not_passed}
+use Rattle.shelf_soundness.proofs.parting.are_alone.Given as goal
+
+abbrev pub At : Layout → List ℕ → ℕ → Type 0
+At l s j = AloneAt (laid l) s j
+
+abbrev pub invariant-loop-slot : goal.invariant-loop-slot
+invariant-loop-slot l = (l.slot ≤ 64) × Passed (At l.l l.s) 0 l.slot
+
+abbrev pub decreases-loop-slot : goal.decreases-loop-slot
+decreases-loop-slot l = 64 - l.slot

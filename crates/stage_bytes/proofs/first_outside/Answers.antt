@@ -1,0 +1,47 @@
+-- `stage_bytes::first_outside` meets its contract. The loop's invariant: what the walk answers from the start it answers from `at`.
+-- What is left of the input falls. Assumes nothing.
+use Prim.Native.Nat.{◌-◌}
+use mathlib.Core.Path.{◌≡◌, refl, sym, ap, ◌∙◌}
+use native.Mathlib.Omega.{arith}
+use lib.ListN.{length}
+use borrow.Author.Rules.{rules}
+use borrow.Author.Tests.{not-true, not-false}
+use Rattle.refusals.specs.Refusals.{outcome}
+use Rattle.values.specs.Tokens.{tokens_at}
+use Rattle.stage_walks.specs.Walks.{leveled}
+use Rattle.scanner.proofs.Lexing.{lexes_as}
+use Rattle.stage_bytes.proofs.Steps.{level_byte, level_separator, level_fault, level_end}
+use Rattle.stage_bytes.proofs.first_outside.Goals as goal
+
+pub loop-byte-init : goal.loop-byte-init
+loop-byte-init c = refl
+
+pub returns-then-not-is_in_level : goal.returns-then-not-is_in_level
+unfolding outcome
+returns-then-not-is_in_level c =
+    let l = lexes_as c.args.c c.args.s.now c.loop-byte.at c.lex.ensures c.in-Byte.is in
+    ap outcome (sym (c.loop-byte.invariant ∙ level_byte _ l.0 (sym c.is_in_level.ensures ∙ not-true c.is_in_level.result c.if-not-is_in_level.true-raw)))
+
+pub loop-byte-smaller-in-Byte : goal.loop-byte-smaller-in-Byte
+loop-byte-smaller-in-Byte c = let l = lexes_as c.args.c c.args.s.now c.loop-byte.at c.lex.ensures c.in-Byte.is in omega arith
+
+pub loop-byte-preserved-in-Byte : goal.loop-byte-preserved-in-Byte
+loop-byte-preserved-in-Byte c =
+    let l = lexes_as c.args.c c.args.s.now c.loop-byte.at c.lex.ensures c.in-Byte.is in
+    c.loop-byte.invariant ∙ level_byte _ l.0 (sym c.is_in_level.ensures ∙ not-false c.is_in_level.result c.if-not-is_in_level.false-raw)
+
+pub loop-byte-smaller-in-Separator : goal.loop-byte-smaller-in-Separator
+loop-byte-smaller-in-Separator c = let l = lexes_as c.args.c c.args.s.now c.loop-byte.at c.lex.ensures c.in-Separator.is in omega arith
+
+pub loop-byte-preserved-in-Separator : goal.loop-byte-preserved-in-Separator
+loop-byte-preserved-in-Separator c = let l = lexes_as c.args.c c.args.s.now c.loop-byte.at c.lex.ensures c.in-Separator.is in c.loop-byte.invariant ∙ level_separator _ l.0
+
+pub loop-byte-smaller : goal.loop-byte-smaller
+loop-byte-smaller c = let l = lexes_as c.args.c c.args.s.now c.loop-byte.at c.lex.ensures c.in-Stray.is in omega arith
+
+pub loop-byte-preserved : goal.loop-byte-preserved
+loop-byte-preserved c = let l = lexes_as c.args.c c.args.s.now c.loop-byte.at c.lex.ensures c.in-Stray.is in c.loop-byte.invariant ∙ level_fault _ l.0
+
+pub returns-in-End : goal.returns-in-End
+unfolding outcome
+returns-in-End c = let l = lexes_as c.args.c c.args.s.now c.loop-byte.at c.lex.ensures c.in-End.is in ap outcome (sym (c.loop-byte.invariant ∙ level_end _ l.0))

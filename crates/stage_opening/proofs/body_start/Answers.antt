@@ -1,0 +1,11 @@
+-- `stage_opening::body_start` meets its contract: it makes the definition's test. Assumes nothing.
+use mathlib.Core.Path.{sym, ◌∙◌}
+use Rattle.stage_opening.proofs.Beginnings.{start_advised, start_plain}
+use borrow.Author.Rules.{rules}
+use Rattle.stage_opening.proofs.body_start.Goals as goal
+
+pub returns-then-is_advised : goal.returns-then-is_advised
+returns-then-is_advised c = start_advised _ (sym c.is_advised.ensures ∙ c.if-is_advised.true) c.after_breaks.ensures
+
+pub returns : goal.returns
+returns c = start_plain _ (sym c.is_advised.ensures ∙ c.if-is_advised.false)

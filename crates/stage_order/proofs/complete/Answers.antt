@@ -1,0 +1,13 @@
+-- `stage_order::complete` meets its contract. Assumes nothing.
+use mathlib.Core.Path.{sym, ◌∙◌}
+use Rattle.stage_order.specs.Ordering.{completed}
+use borrow.Author.Rules.{rules}
+use Rattle.stage_order.proofs.complete.Goals as goal
+
+pub returns-then-is_complete : goal.returns-then-is_complete
+unfolding completed
+returns-then-is_complete c = rw (sym c.is_complete.ensures ∙ c.if-is_complete.true)
+
+pub returns : goal.returns
+unfolding completed
+returns c = rw (sym c.is_complete.ensures ∙ c.if-is_complete.false) c.misplaced.ensures

@@ -1,0 +1,63 @@
+-- `stage_structure::check` meets its contract. The loop's invariant: the first stop from the start is the first stop
+-- from `at` on. What is left of the input falls. Assumes nothing.
+use Prim.Native.Nat.{◌-◌}
+use mathlib.Core.Path.{◌≡◌, refl, sym, ap, subst, ◌∙◌}
+use native.Mathlib.Omega.{arith}
+use lib.ListN.{length}
+use Rattle.values.specs.Tokens.{segments, tokens_at}
+use Rattle.segments.specs.declared.Kind.TheVariants.{Unh}
+use Rattle.segments.specs.Kinds.{is}
+use Rattle.message_tables.specs.Structure.{structure_of}
+use Rattle.structure_walks.specs.Walks.{first_stop}
+use Rattle.stage_structure.specs.Stopping.{Says, stopped_at}
+use Rattle.stage_structure.proofs.Stops.{stage_ends, stage_passes, stage_stops, stage_goes}
+use borrow.Author.Rules.{rules}
+use Rattle.stage_structure.proofs.check.Goals as goal
+
+pub loop-at-init : goal.loop-at-init
+loop-at-init c = refl
+
+pub body_at-requires : goal.body_at-requires
+body_at-requires c = c.requires
+
+pub returns-in-Left : goal.returns-in-Left
+returns-in-Left c =
+    let x = c.args in
+    let state = c.loop-at in
+    let says = subst (Says x.table.now x.c x.s.now c.segment_end-next.result) c.in-Left.is c.body_at.ensures in
+    c.failed.ensures
+    ∙ sym
+    (ap stopped_at
+    (state.invariant ∙ stage_stops x.c x.s.now x.table.now state.at c.segment_end-next.result c.loop-at-test.true c.segment_end-next.ensures
+    (sym (ap (is Unh) c.kind_at.ensures) ∙ sym c.is_header.ensures ∙ c.if-is_header.true) says))
+
+pub loop-at-smaller-in-Matched : goal.loop-at-smaller-in-Matched
+loop-at-smaller-in-Matched c =
+    let x = c.args in
+    let state = c.loop-at in
+    let says = subst (Says x.table.now x.c x.s.now c.segment_end-next.result) c.in-Matched.is c.body_at.ensures in
+    omega (arith, says.2, c.segment_end-next.ensures.2 c.loop-at-test.true, c.loop-at-test.true)
+
+pub loop-at-preserved-in-Matched : goal.loop-at-preserved-in-Matched
+loop-at-preserved-in-Matched c =
+    let x = c.args in
+    let state = c.loop-at in
+    let says = subst (Says x.table.now x.c x.s.now c.segment_end-next.result) c.in-Matched.is c.body_at.ensures in
+    state.invariant ∙ stage_goes x.c x.s.now x.table.now state.at c.segment_end-next.result c.loop-at-test.true c.segment_end-next.ensures
+    (sym (ap (is Unh) c.kind_at.ensures) ∙ sym c.is_header.ensures ∙ c.if-is_header.true) _ says.0 says.1
+
+pub loop-at-smaller : goal.loop-at-smaller
+loop-at-smaller c = omega (arith, c.segment_end-next.ensures.2 c.loop-at-test.true, c.loop-at-test.true)
+
+pub loop-at-preserved : goal.loop-at-preserved
+loop-at-preserved c =
+    let x = c.args in
+    let state = c.loop-at in
+    state.invariant ∙ stage_passes x.c x.s.now x.table.now state.at c.segment_end-next.result c.loop-at-test.true c.segment_end-next.ensures
+    (sym (ap (is Unh) c.kind_at.ensures) ∙ sym c.is_header.ensures ∙ c.if-is_header.false)
+
+pub returns : goal.returns
+returns c =
+    let x = c.args in
+    let state = c.loop-at in
+    sym (ap stopped_at (state.invariant ∙ stage_ends x.c x.s.now x.table.now state.at c.loop-at-test.false))

@@ -1,0 +1,24 @@
+-- `stretches::before_halt` meets its contract. The loop's invariant: the stretch halts at none of the bytes up to `at`, unless `first` bytes
+-- were passed before that. What is left of thirty-two falls. Assumes nothing.
+-- a byte follows, and the stretch does not halt there
+use Prim.Native.Nat.{ℕ, ◌+◌, ◌-◌, ◌≤◌, ◌<◌}
+use mathlib.Core.Path.{◌≡◌, sym, ◌∙◌}
+use mathlib.Core.Bool.{false}
+use mathlib.Core.List.{List}
+use native.Mathlib.Omega.{arith}
+use lib.ListN.{length, get_or}
+use borrow.Author.Rules.{rules}
+use Rattle.characters.specs.declared.Characters.{Characters}
+use Rattle.first_found.specs.First.{Upto}
+use Rattle.first_found.proofs.Firsts.{upto_none, upto_next}
+use Rattle.stretches.specs.Stretches.{halts}
+use Rattle.stretches.proofs.before_halt.Given as goal
+
+abbrev pub Passed : Characters → Characters → List ℕ → ℕ → Type 0
+Passed c n s p = (p + 1 < length s) × (halts c n (get_or s p 0) (get_or s (p + 1) 0) ≡ false)
+
+abbrev pub invariant-loop-k : goal.invariant-loop-k
+invariant-loop-k l = (l.k ≤ 32) × (l.at ≡ l.from + l.k) × (l.first ≤ 32) × Upto (Passed l.c l.n l.s) l.from l.at l.first
+
+abbrev pub decreases-loop-k : goal.decreases-loop-k
+decreases-loop-k l = 32 - l.k

@@ -1,0 +1,17 @@
+-- `stretches::past_taken` meets its contract. The loop's invariant: the stretch passes up to `at`. What is left of the input falls. Assumes
+-- nothing.
+use Prim.Native.Nat.{◌≤◌, ◌-◌}
+use mathlib.Core.Path.{refl, sym, ◌∙◌}
+use native.Mathlib.Omega.{arith}
+use lib.ListN.{length}
+use borrow.Author.Rules.{rules}
+use borrow.Author.Tests.{not-false}
+use Rattle.stretches.specs.Releases.{PassesAlike, stays}
+use Rattle.stretches.proofs.Releasing.{taken_next}
+use Rattle.stretches.proofs.past_taken.Given as goal
+
+abbrev pub invariant-loop-at : goal.invariant-loop-at
+invariant-loop-at l = (l.from ≤ l.at) × PassesAlike l.c l.s l.from l.at
+
+abbrev pub decreases-loop-at : goal.decreases-loop-at
+decreases-loop-at l = length l.s - l.at

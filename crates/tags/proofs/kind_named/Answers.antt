@@ -1,0 +1,57 @@
+-- `tags::kind_named` meets its contract: it asks for the bytes of the seven tags. Assumes nothing.
+use borrow.Author.Tests.{eq-eqb, ne_eqb}
+use Rattle.lists.specs.Lists.{same}
+use Rattle.segments.specs.Kinds.{kind_named}
+use Rattle.tags.proofs.Tagging.{named_as}
+use Rattle.tags.proofs.kind_named.Goals as goal
+
+pub returns-then-first-ne85 : goal.returns-then-first-ne85
+unfolding kind_named same
+returns-then-first-ne85 c = simp (ne_eqb _ _ c.if-first-ne85.true)
+
+pub returns-then-second-ne78 : goal.returns-then-second-ne78
+unfolding kind_named same
+returns-then-second-ne78 c = simp (eq-eqb _ _ c.if-first-ne85.false, ne_eqb _ _ c.if-second-ne78.true)
+
+pub returns-in-66 : goal.returns-in-66
+unfolding kind_named same
+returns-in-66 c = named_as c.if-first-ne85.false c.if-second-ne78.false c.in-66.is
+
+pub returns-in-71 : goal.returns-in-71
+unfolding kind_named same
+returns-in-71 c = named_as c.if-first-ne85.false c.if-second-ne78.false c.in-71.is
+
+pub returns-in-72 : goal.returns-in-72
+unfolding kind_named same
+returns-in-72 c = named_as c.if-first-ne85.false c.if-second-ne78.false c.in-72.is
+
+pub returns-in-83 : goal.returns-in-83
+unfolding kind_named same
+returns-in-83 c = named_as c.if-first-ne85.false c.if-second-ne78.false c.in-83.is
+
+pub returns-in-84 : goal.returns-in-84
+unfolding kind_named same
+returns-in-84 c = named_as c.if-first-ne85.false c.if-second-ne78.false c.in-84.is
+
+pub returns-in-69 : goal.returns-in-69
+unfolding kind_named same
+returns-in-69 c = named_as c.if-first-ne85.false c.if-second-ne78.false c.in-69.is
+
+pub returns-in-90 : goal.returns-in-90
+unfolding kind_named same
+returns-in-90 c = named_as c.if-first-ne85.false c.if-second-ne78.false c.in-90.is
+
+pub returns-in_default : goal.returns-in_default
+unfolding kind_named same
+returns-in_default c =
+    simp (
+      eq-eqb _ _ c.if-first-ne85.false,
+      eq-eqb _ _ c.if-second-ne78.false,
+      ne_eqb c.args.third 66 c.in_default.rest.0.0.0.0.0.0.1,
+      ne_eqb c.args.third 71 c.in_default.rest.0.0.0.0.0.1,
+      ne_eqb c.args.third 72 c.in_default.rest.0.0.0.0.1,
+      ne_eqb c.args.third 83 c.in_default.rest.0.0.0.1,
+      ne_eqb c.args.third 84 c.in_default.rest.0.0.1,
+      ne_eqb c.args.third 69 c.in_default.rest.0.1,
+      ne_eqb c.args.third 90 c.in_default.rest.1,
+    )

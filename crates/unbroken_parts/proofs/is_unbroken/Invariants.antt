@@ -1,0 +1,19 @@
+-- `unbroken_parts::is_unbroken` meets its contract. The loop's invariant: where none below the space was found, none stands up to `at`. What is
+-- left of the input falls. Assumes nothing.
+use Prim.Native.Nat.{ℕ, ◌+◌, ◌-◌, ◌≤◌, ◌<◌}
+use mathlib.Core.Path.{◌≡◌, sym, ap, ◌∙◌}
+use mathlib.Core.Bool.{true}
+use native.Mathlib.Omega.{arith}
+use native.Mathlib.Decide.{dec_le}
+use native.Mathlib.Nat.{lt_of_not-le}
+use lib.Dec.{leb}
+use lib.ListN.{length, get_or}
+use borrow.Author.Rules.{rules}
+use Rattle.lists.proofs.Texts.{and_left, and_right}
+use Rattle.unbroken_parts.proofs.is_unbroken.Given as goal
+
+abbrev pub invariant-loop-at : goal.invariant-loop-at
+invariant-loop-at l = l.whole ≡ true → (k : ℕ) → l.start ≤ k → k < l.at → leb 32 (get_or l.s k 0) ≡ true
+
+abbrev pub decreases-loop-at : goal.decreases-loop-at
+decreases-loop-at l = length l.s - l.at
