@@ -1,13 +1,13 @@
 -- Laws of a list that is cut into blocks: the places are stored block by block, and what they say of a part of the list. Assumes nothing.
-use Prim.Native.Nat.{ℕ, suc, ◌+◌, ◌-◌, ◌*◌, ◌/◌, ◌%◌, ◌≤◌, ◌<◌}
-use mathlib.Core.Path.{◌≡◌, refl, sym, ap, subst, ◌∙◌}
+use Prim.Native.Nat.{ℕ, ◌+◌, ◌-◌, ◌*◌, ◌/◌, ◌%◌, ◌≤◌, ◌<◌}
+use mathlib.Core.Path.{◌≡◌, refl, sym, ap, ◌∙◌}
 use mathlib.Core.Bool.{Bool, true, false, ◌||◌}
 use mathlib.Core.List.{List}
-use native.Mathlib.Nat.{add-mul, one-mul, mul_comm, div-add-mod', div-mul-le_self, mod-lt, lt_of_mul-lt-mul_right}
+use native.Mathlib.Nat.{add-mul, one-mul, div-add-mod', div-mul-le_self, mod-lt, lt_of_mul-lt-mul_right}
 use native.Mathlib.Omega.{arith}
 use lib.ListN.{length, set, take, drop, get_or}
 use lib.Seq.{get_or-set_same, get_or-set_other}
-use lib.Dec.{ltb, leb}
+use lib.Dec.{ltb}
 use borrow.Author.Tests.{lt-ltb, le-ltb, ltb-true, ltb-false}
 use Rattle.lists.specs.Lists.{any}
 use Rattle.service_places.specs.Places.{blocks, next_place, Noted}

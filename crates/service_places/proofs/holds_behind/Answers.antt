@@ -3,7 +3,6 @@
 use mathlib.Core.Path.{◌∙◌}
 use native.Mathlib.Nat.{mod-lt}
 use native.Mathlib.Omega.{arith}
-use borrow.Author.Rules.{rules}
 use Rattle.characters.specs.Characters.{is_service}
 use Rattle.service_places.proofs.Blocks.{next_known, beyond_found, beyond_none}
 use Rattle.service_places.proofs.holds_behind.Goals as goal

@@ -1,6 +1,5 @@
 -- `service_places::holds_between` meets its contract: the block's place says it unless it is passed. Assumes nothing.
 use native.Mathlib.Omega.{arith}
-use borrow.Author.Rules.{rules}
 use Rattle.characters.specs.Characters.{is_service}
 use Rattle.service_places.proofs.Blocks.{block_known, ahead_told}
 use Rattle.service_places.proofs.holds_between.Goals as goal

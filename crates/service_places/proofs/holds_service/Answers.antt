@@ -1,12 +1,9 @@
 -- `service_places::holds_service` meets its contract. The loop's invariant: one passes where one was found or one passes from here on.
 -- Assumes nothing.
-use Prim.Native.Nat.{◌-◌}
 use mathlib.Core.Path.{refl}
 use native.Mathlib.Omega.{arith}
-use lib.ListN.{length}
-use borrow.Author.Rules.{rules}
 use Rattle.characters.specs.Characters.{is_service}
-use Rattle.service_places.proofs.Places.{Found, found_more, found_all}
+use Rattle.service_places.proofs.Places.{found_more, found_all}
 use Rattle.service_places.proofs.holds_service.Goals as goal
 
 pub loop-i-init : goal.loop-i-init

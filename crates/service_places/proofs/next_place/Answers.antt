@@ -1,11 +1,7 @@
 -- `service_places::next_place` meets its contract. The loop's invariant: the next place is that from here on. Assumes nothing.
-use Prim.Native.Nat.{◌-◌}
-use mathlib.Core.Path.{◌≡◌, refl, sym, ◌∙◌}
+use mathlib.Core.Path.{refl, sym, ◌∙◌}
 use native.Mathlib.Omega.{arith}
-use lib.ListN.{length}
-use borrow.Author.Rules.{rules}
 use Rattle.characters.specs.Characters.{is_service}
-use Rattle.service_places.specs.Places.{next_place}
 use Rattle.service_places.proofs.Places.{next_hit, next_miss, next_end}
 use Rattle.service_places.proofs.next_place.Goals as goal
 

@@ -1,5 +1,4 @@
 -- `service_places::place_from` meets its contract. Assumes nothing.
-use borrow.Author.Rules.{rules}
 use Rattle.service_places.proofs.place_from.Goals as goal
 
 pub returns-then-from-known : goal.returns-then-from-known

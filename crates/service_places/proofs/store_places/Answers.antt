@@ -1,14 +1,13 @@
 -- `service_places::store_places` meets its contract. The loop's invariant: the places of the blocks before `start` are stored, and the place
 -- at hand, unless it is passed, is that of the next block. The number of blocks that are left falls. Assumes nothing.
-use Prim.Native.Nat.{◌+◌, ◌-◌, ◌*◌, ◌/◌, ◌≤◌}
-use mathlib.Core.Path.{◌≡◌, refl, sym, ap, ◌∙◌}
+use Prim.Native.Nat.{◌+◌, ◌/◌}
+use mathlib.Core.Path.{refl, sym, ◌∙◌}
 use native.Mathlib.Nat.{zero-mul, mul-le-mul_right}
 use native.Mathlib.Omega.{arith}
 use lib.ListN.{length, length-set}
-use borrow.Author.Rules.{rules}
 use Rattle.characters.specs.Characters.{is_service}
-use Rattle.service_places.specs.Places.{blocks, next_place}
-use Rattle.service_places.proofs.Blocks.{enough, block_more, Stored, stored_none, stored_more, stored_all, still_next}
+use Rattle.service_places.specs.Places.{blocks}
+use Rattle.service_places.proofs.Blocks.{enough, block_more, stored_none, stored_more, stored_all, still_next}
 use Rattle.service_places.proofs.store_places.Goals as goal
 
 pub loop-k-init : goal.loop-k-init
