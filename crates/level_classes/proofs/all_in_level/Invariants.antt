@@ -1,9 +1,8 @@
 -- `level_classes::all_in_level` meets its contract. The loop's invariant: all bytes from the start are in the level just where those so far
 -- were and all from `at` are. What is left of the input falls. Assumes nothing.
-use Rattle.std.proofs.Common.{◌≡◌, ◌-◌, ◌&&◌, length, drop, sym, refl, ◌∙◌, arith, rules}
+use Rattle.std.proofs.Common.{◌≡◌, ◌-◌, ◌&&◌, length, drop}
 use Rattle.lists.specs.Lists.{all}
 use Rattle.levels.specs.Levels.{in_level}
-use Rattle.level_classes.proofs.Bytes.{gathered_next, gathered_end}
 use Rattle.level_classes.proofs.all_in_level.Given as goal
 
 abbrev pub invariant-loop-at : goal.invariant-loop-at

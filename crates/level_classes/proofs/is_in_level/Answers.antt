@@ -1,5 +1,5 @@
 -- `level_classes::is_in_level` meets its contract: the masks are those of level A and of what level B adds. Assumes nothing.
-use Rattle.std.proofs.Common.{◌≡◌, ◌∙◌, rules}
+use Rattle.std.proofs.Common.{◌∙◌}
 use Rattle.level_classes.proofs.Classes.{mask_a, mask_letters, level_known}
 use Rattle.level_classes.proofs.is_in_level.Goals as goal
 

@@ -1,6 +1,5 @@
 -- `level_classes::is_within` meets its contract: the ranges are those of level A and of what level B adds. Assumes nothing.
-use Rattle.std.proofs.Common.{◌≡◌, ◌||◌, refl, ◌∙◌, ap₂, rules}
-use Rattle.characters.specs.Characters.{lower}
+use Rattle.std.proofs.Common.{◌||◌, ◌∙◌, ap₂}
 use Rattle.level_classes.proofs.Classes.{ranges_a, ranges_letters, level_known}
 use Rattle.level_classes.proofs.is_within.Goals as goal
 
