@@ -8,7 +8,7 @@ use native.Mathlib.Omega.{arith}
 use native.Mathlib.Decide.{dec_le}
 use native.Mathlib.Nat.{lt_of_not-le}
 use lib.ListN.{length, get_or}
-use lib.Dec.{eqb, leb, ltb}
+use lib.Dec.{eqb, leb}
 use borrow.Author.Tests.{eqb-true, eqb-false, eq-eqb, ne_eqb, le-leb, lt-leb}
 use Rattle.lists.specs.Lists.{if◌then◌else◌, beyond}
 use Rattle.lists.proofs.Texts.{if_true, if_false, or_none_left, or_none_right}
@@ -18,7 +18,6 @@ use Rattle.characters.specs.declared.Role.TheVariants as role
 use Rattle.characters.specs.Characters.{role as role_in, has_release, has_repetition, after_breaks}
 use Rattle.values.proofs.Steps.{at_end, at_plain, at_terminator, at_separator, at_last_release, at_stray_release, at_released_release, at_released_separator}
 use Rattle.values.specs.Tokens.{Token, byte, separator, fault, ends, tokens_at}
-use Rattle.scanner.specs.declared.Lexed.{Lexed}
 use Rattle.scanner.specs.declared.Lexed.TheVariants.{Byte, Separator, Stray, End}
 use Rattle.scanner.specs.declared.Scanned.{Scanned}
 use Rattle.scanner.specs.Scan.{Scanning, ended, stray, unended, scanned, releasing, Others, Passes, Scans}

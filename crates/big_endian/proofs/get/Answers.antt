@@ -1,10 +1,8 @@
 -- `big_endian::get` meets its contract. The loop's invariant: the number is what was read so far, and reading goes on from it. What is left
 -- falls. Assumes nothing.
 use native.Mathlib.Omega.{arith}
-use borrow.Author.Rules.{rules}
-use Prim.Native.Nat.{ℕ, ◌+◌, ◌-◌, ◌*◌, ◌^◌, ◌≤◌, ◌<◌}
-use mathlib.Core.Path.{◌≡◌, sym, ap, subst, ◌∙◌}
-use lib.ListN.{get_or}
+use Prim.Native.Nat.{ℕ, ◌+◌, ◌*◌}
+use mathlib.Core.Path.{sym, ap, ◌∙◌}
 use Rattle.numbers.specs.Numbers.{read_on, number_at}
 use Rattle.big_endian.proofs.Steps.{left_over, none_read, one_read, all_read, digit_more, digit_room}
 use Rattle.big_endian.proofs.get.Goals as goal

@@ -1,12 +1,9 @@
 -- `big_endian::get` meets its contract. The loop's invariant: the number is what was read so far, and reading goes on from it. What is left
 -- falls. Assumes nothing.
-use native.Mathlib.Omega.{arith}
-use borrow.Author.Rules.{rules}
-use Prim.Native.Nat.{ℕ, ◌+◌, ◌-◌, ◌*◌, ◌^◌, ◌≤◌, ◌<◌}
-use mathlib.Core.Path.{◌≡◌, sym, ap, subst, ◌∙◌}
-use lib.ListN.{get_or}
+use Prim.Native.Nat.{◌-◌, ◌^◌, ◌≤◌, ◌<◌}
+use mathlib.Core.Path.{◌≡◌}
 use Rattle.numbers.specs.Numbers.{read_on, number_at}
-use Rattle.big_endian.proofs.Steps.{left_over, none_read, one_read, all_read, digit_more, digit_room}
+use Rattle.big_endian.proofs.Steps.{left_over}
 use Rattle.big_endian.proofs.get.Given as goal
 
 abbrev pub invariant-loop-i : goal.invariant-loop-i

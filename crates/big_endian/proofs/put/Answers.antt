@@ -1,9 +1,9 @@
 -- `big_endian::put` meets its contract. The loop's invariant: what is left of the number, stored in the bytes that are left, gives what the
 -- whole gives. What is left falls. Assumes nothing.
 use native.Mathlib.Omega.{arith}
-use Prim.Native.Nat.{ℕ, ◌+◌, ◌-◌, ◌*◌, ◌%◌, ◌^◌, ◌≤◌, ◌<◌}
+use Prim.Native.Nat.{ℕ, ◌+◌, ◌-◌, ◌%◌, ◌≤◌}
 use mathlib.Core.Path.{◌≡◌, refl, sym, ap, ◌∙◌}
-use lib.ListN.{length, length-set}
+use lib.ListN.{length-set}
 use lib.Seq.{sets}
 use Rattle.numbers.specs.Numbers.{in_bytes}
 use Rattle.big_endian.proofs.Steps.{one_stored}

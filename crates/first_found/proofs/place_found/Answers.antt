@@ -1,7 +1,6 @@
 -- `first_found::place_found` meets its contract. Assumes nothing.
 use mathlib.Core.Path.{sym, ◌∙◌}
 use mathlib.Core.Bool.{false≢true}
-use borrow.Author.Rules.{rules}
 use Rattle.first_found.proofs.place_found.Goals as goal
 
 pub returns : goal.returns

@@ -1,7 +1,6 @@
 -- `line_breaks::after_breaks` meets its contract: after the last byte, and at a byte above both breaks, none stands. Assumes nothing.
 use native.Mathlib.Omega.{arith}
 use Rattle.line_breaks.proofs.Passing.{after_high, after_all_lem}
-use borrow.Author.Rules.{rules}
 use Rattle.line_breaks.proofs.after_breaks.Goals as goal
 
 pub returns-then-s-from : goal.returns-then-s-from

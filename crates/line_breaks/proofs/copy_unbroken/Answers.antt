@@ -1,12 +1,11 @@
 -- `line_breaks::copy_unbroken` meets its contract. The loop's invariant: what is left of the text, stored from here, gives what the whole,
 -- stored at the start, gives; and it ends where the whole ends. What is left of the input falls. Assumes nothing.
-use Prim.Native.Nat.{ℕ, ◌+◌, ◌-◌, ◌≤◌}
+use Prim.Native.Nat.{ℕ}
 use mathlib.Core.Path.{◌≡◌, refl, sym, ap, ◌∙◌}
 use mathlib.Core.List.{List, [], ◌∷◌}
 use native.Mathlib.Omega.{arith}
-use lib.ListN.{length, set, get_or, drop, length-set}
+use lib.ListN.{length, get_or, drop, length-set}
 use lib.Seq.{sets}
-use borrow.Author.Rules.{rules}
 use Rattle.line_breaks.specs.Unbroken.{unbroken}
 use Rattle.line_breaks.proofs.Unbroken.{unbroken_inside, unbroken_next, stored_next}
 use Rattle.line_breaks.proofs.copy_unbroken.Goals as goal

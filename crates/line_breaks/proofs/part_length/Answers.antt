@@ -1,11 +1,10 @@
 -- `line_breaks::part_length` meets its contract. The loop's invariant: what is counted, and what is left from `at`, is what was there from the
 -- start; and no more is counted than bytes were passed. What is left of the part falls. Assumes nothing.
-use Prim.Native.Nat.{ℕ, ◌+◌, ◌-◌, ◌≤◌}
+use Prim.Native.Nat.{ℕ, ◌+◌}
 use mathlib.Core.Path.{◌≡◌, ap, ◌∙◌}
 use native.Mathlib.Omega.{arith}
 use lib.Dec.{leb}
 use lib.ListN.{length, get_or, drop}
-use borrow.Author.Rules.{rules}
 use Rattle.storing.proofs.Stores.{bit_most}
 use Rattle.line_breaks.specs.Unbroken.{unbroken}
 use Rattle.line_breaks.proofs.Unbroken.{unbroken_next}

@@ -1,13 +1,9 @@
 -- `line_breaks::past_breaks` meets its contract. The loop's invariant: the place after the breaks from the start is the one after the breaks
 -- from `at`. What is left of the input falls. Assumes nothing.
 use Prim.Native.Nat.{◌-◌}
-use mathlib.Core.Path.{◌≡◌, refl, sym, ◌∙◌}
-use native.Mathlib.Omega.{arith}
+use mathlib.Core.Path.{◌≡◌}
 use lib.ListN.{length}
-use borrow.Author.Rules.{rules}
-use borrow.Author.Tests.{not-true, not-false}
 use Rattle.characters.specs.Characters.{after_breaks}
-use Rattle.line_breaks.proofs.Passing.{after_break, after_none, after_all_lem}
 use Rattle.line_breaks.proofs.past_breaks.Given as goal
 
 abbrev pub invariant-loop-at : goal.invariant-loop-at

@@ -1,11 +1,9 @@
 -- `line_breaks::put_unbroken` meets its contract: a text that is as long without breaks has none. Assumes nothing.
-use Prim.Native.Nat.{◌+◌, ◌≤◌}
 use mathlib.Core.Path.{sym, ap, ◌∙◌}
 use native.Mathlib.Omega.{arith}
 use lib.ListN.{length}
 use lib.Seq.{sets}
 use Rattle.line_breaks.proofs.Unbroken.{unbroken_none, unbroken_all}
-use borrow.Author.Rules.{rules}
 use Rattle.line_breaks.proofs.put_unbroken.Goals as goal
 
 pub returns-then-s-start : goal.returns-then-s-start

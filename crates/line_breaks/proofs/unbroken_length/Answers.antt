@@ -1,11 +1,7 @@
 -- `line_breaks::unbroken_length` meets its contract. The loop's invariant: what is counted, and what is left from `at`, is what was there from
 -- the start. What is left of the input falls. Assumes nothing.
-use Prim.Native.Nat.{◌+◌, ◌-◌}
-use mathlib.Core.Path.{◌≡◌}
 use native.Mathlib.Omega.{arith}
-use lib.ListN.{length, drop, length-drop}
-use borrow.Author.Rules.{rules}
-use Rattle.line_breaks.specs.Unbroken.{unbroken}
+use lib.ListN.{drop, length-drop}
 use Rattle.line_breaks.proofs.Unbroken.{unbroken_most, unbroken_end}
 use Rattle.line_breaks.proofs.unbroken_length.Goals as goal
 

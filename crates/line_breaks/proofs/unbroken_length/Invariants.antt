@@ -2,11 +2,8 @@
 -- the start. What is left of the input falls. Assumes nothing.
 use Prim.Native.Nat.{◌+◌, ◌-◌}
 use mathlib.Core.Path.{◌≡◌}
-use native.Mathlib.Omega.{arith}
-use lib.ListN.{length, drop, length-drop}
-use borrow.Author.Rules.{rules}
+use lib.ListN.{length, drop}
 use Rattle.line_breaks.specs.Unbroken.{unbroken}
-use Rattle.line_breaks.proofs.Unbroken.{unbroken_most, unbroken_end}
 use Rattle.line_breaks.proofs.unbroken_length.Given as goal
 
 abbrev pub invariant-loop-at : goal.invariant-loop-at

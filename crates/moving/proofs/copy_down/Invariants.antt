@@ -1,10 +1,8 @@
 -- `moving::copy_down` meets its contract. The loop's invariant: so many bytes are copied. What is left falls. Assumes nothing.
-use native.Mathlib.Omega.{arith}
-use Prim.Native.Nat.{ℕ, ◌+◌, ◌-◌, ◌≤◌}
-use mathlib.Core.Path.{◌≡◌, refl, sym, ap, ◌∙◌}
-use lib.ListN.{length, take, drop, get_or, length-set}
+use Prim.Native.Nat.{◌-◌, ◌≤◌}
+use mathlib.Core.Path.{◌≡◌}
+use lib.ListN.{length, take, drop}
 use lib.Seq.{sets}
-use Rattle.moving.proofs.Steps.{one_behind}
 use Rattle.moving.proofs.copy_down.Given as goal
 
 abbrev pub invariant-loop-i : goal.invariant-loop-i

@@ -1,7 +1,6 @@
 -- `moving::move_down` meets its contract: what was copied, and zeros behind it. Assumes nothing.
 use native.Mathlib.Omega.{arith}
-use borrow.Author.Rules.{rules}
-use Prim.Native.Nat.{ℕ, ◌-◌}
+use Prim.Native.Nat.{◌-◌}
 use lib.ListN.{replicate}
 use Rattle.moving.proofs.Steps.{moved_then_zeroed}
 use Rattle.moving.proofs.move_down.Goals as goal

@@ -1,10 +1,8 @@
 -- `moving::move_up` meets its contract. The loop's invariant: all but so many bytes at the front are copied. That number falls. Assumes nothing.
 use native.Mathlib.Omega.{arith}
-use native.Mathlib.Nat.{add-zero}
-use Prim.Native.Nat.{ℕ, ◌+◌, ◌-◌, ◌≤◌}
-use mathlib.Core.Path.{◌≡◌, refl, sym, ap, ap₂, ◌∙◌}
-use mathlib.Core.List.{List}
-use lib.ListN.{length, take, drop, get_or, length-set}
+use Prim.Native.Nat.{ℕ, ◌+◌, ◌-◌}
+use mathlib.Core.Path.{◌≡◌, refl, ap, ap₂, ◌∙◌}
+use lib.ListN.{take, drop, get_or, length-set}
 use lib.Seq.{sets}
 use Rattle.moving.proofs.Steps.{one_before}
 use Rattle.moving.proofs.move_up.Goals as goal

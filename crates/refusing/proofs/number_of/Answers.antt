@@ -1,6 +1,5 @@
 -- `refusing::number_of` meets its contract: each arm is its fault's number. Assumes nothing.
 use mathlib.Core.Path.{sym, ap}
-use borrow.Author.Rules.{rules}
 use Rattle.refusals.specs.Refusals.{number}
 use Rattle.refusing.proofs.number_of.Goals as goal
 

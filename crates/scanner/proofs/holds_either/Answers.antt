@@ -1,12 +1,7 @@
 -- `scanner::holds_either` meets its contract. The loop's invariant: where nothing was found so far, the bytes before `at` are others. What is
 -- left up to the end falls. Assumes nothing.
-use Prim.Native.Nat.{◌+◌, ◌≤◌, ◌-◌}
-use mathlib.Core.Path.{◌≡◌, refl}
-use mathlib.Core.Bool.{false}
+use mathlib.Core.Path.{refl}
 use native.Mathlib.Omega.{arith}
-use lib.ListN.{length}
-use borrow.Author.Rules.{rules}
-use Rattle.scanner.specs.Scan.{Others}
 use Rattle.scanner.proofs.Scanning.{others_none, others_next, others_to}
 use Rattle.scanner.proofs.holds_either.Goals as goal
 

@@ -1,13 +1,9 @@
 -- `scanner::holds_either` meets its contract. The loop's invariant: where nothing was found so far, the bytes before `at` are others. What is
 -- left up to the end falls. Assumes nothing.
 use Prim.Native.Nat.{◌+◌, ◌≤◌, ◌-◌}
-use mathlib.Core.Path.{◌≡◌, refl}
+use mathlib.Core.Path.{◌≡◌}
 use mathlib.Core.Bool.{false}
-use native.Mathlib.Omega.{arith}
-use lib.ListN.{length}
-use borrow.Author.Rules.{rules}
 use Rattle.scanner.specs.Scan.{Others}
-use Rattle.scanner.proofs.Scanning.{others_none, others_next, others_to}
 use Rattle.scanner.proofs.holds_either.Given as goal
 
 abbrev pub invariant-loop-at : goal.invariant-loop-at

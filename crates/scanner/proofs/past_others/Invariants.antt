@@ -1,11 +1,8 @@
 -- `scanner::past_others` meets its contract. The loop's invariant: the bytes before `at` are others. What is left of the input falls.
 -- Assumes nothing.
 use Prim.Native.Nat.{◌≤◌, ◌-◌}
-use native.Mathlib.Omega.{arith}
 use lib.ListN.{length}
-use borrow.Author.Rules.{rules}
 use Rattle.scanner.specs.Scan.{Others}
-use Rattle.scanner.proofs.Scanning.{others_none, others_more}
 use Rattle.scanner.proofs.past_others.Given as goal
 
 abbrev pub invariant-loop-at : goal.invariant-loop-at

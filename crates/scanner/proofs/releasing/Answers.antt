@@ -1,6 +1,5 @@
 -- `scanner::releasing` meets its contract: in each arm the role of the release character is known. Assumes nothing.
 use mathlib.Core.Path.{sym, ap, ◌∙◌}
-use borrow.Author.Rules.{rules}
 use Rattle.scanner.specs.Scan.{releasing}
 use Rattle.scanner.proofs.releasing.Goals as goal
 

@@ -3,13 +3,14 @@
 use Prim.Native.Nat.{ℕ}
 use mathlib.Core.Path.{◌≡◌, sym, ◌∙◌}
 use mathlib.Core.Bool.{◌&&◌, and-false}
-use mathlib.Core.Logic.{◌⊎◌, inl, inr, ⊎_elim}
+use mathlib.Core.Logic.{◌⊎◌, inl, inr}
 use lib.Dec.{eqb}
 use borrow.Author.Tests.{eq-eqb, ne_eqb}
 use Rattle.characters.specs.declared.Characters.{Characters}
 use Rattle.characters.specs.declared.Role.TheVariants.{Separator, Release, Plain}
 use Rattle.lists.specs.Lists.{if◌then◌else◌}
 use Rattle.characters.specs.Characters.{role, has_release, has_repetition}
+use Rattle.scanner.proofs.role_of.Goals.{then-c-ne32+else-b-c-3, else-c-ne32}
 use Rattle.scanner.proofs.role_of.Goals as goal
 
 module _ (c : Characters) (b : ℕ) (no_terminator : b ≡ c.terminator → ⊥) (no_element : b ≡ c.element → ⊥) where
@@ -43,7 +44,7 @@ returns-then-b-c-4 c =
     let b = c.args.b in
     sym
     (within chars b c.if-b-c.false c.if-b-c-2.false
-    (⊎_elim {0, 0, 0} (λ w. inr w.2.left) (λ w. inl w.left) c.if-c-ne32.branch)
+    (elim c.if-c-ne32.branch [ then-c-ne32+else-b-c-3 w ↦ inr w.if-b-c-3.false | else-c-ne32 w ↦ inl w.if-c-ne32.false ])
     ∙ simp (eq-eqb _ _ c.if-b-c-4.true))
 
 pub returns-then-c-eq32 : goal.returns-then-c-eq32
@@ -53,7 +54,7 @@ returns-then-c-eq32 c =
     let b = c.args.b in
     sym
     (within chars b c.if-b-c.false c.if-b-c-2.false
-    (⊎_elim {0, 0, 0} (λ w. inr w.2.left) (λ w. inl w.left) c.if-c-ne32.branch)
+    (elim c.if-c-ne32.branch [ then-c-ne32+else-b-c-3 w ↦ inr w.if-b-c-3.false | else-c-ne32 w ↦ inl w.if-c-ne32.false ])
     ∙ simp (ne_eqb _ _ c.if-b-c-4.false, eq-eqb _ _ c.if-c-eq32.true))
 
 pub returns-then-b-c-5 : goal.returns-then-b-c-5
@@ -63,7 +64,7 @@ returns-then-b-c-5 c =
     let b = c.args.b in
     sym
     (within chars b c.if-b-c.false c.if-b-c-2.false
-    (⊎_elim {0, 0, 0} (λ w. inr w.2.left) (λ w. inl w.left) c.if-c-ne32.branch)
+    (elim c.if-c-ne32.branch [ then-c-ne32+else-b-c-3 w ↦ inr w.if-b-c-3.false | else-c-ne32 w ↦ inl w.if-c-ne32.false ])
     ∙ simp (ne_eqb _ _ c.if-b-c-4.false, ne_eqb _ _ c.if-c-eq32.false, eq-eqb _ _ c.if-b-c-5.true))
 
 pub returns : goal.returns
@@ -73,5 +74,5 @@ returns c =
     let b = c.args.b in
     sym
     (within chars b c.if-b-c.false c.if-b-c-2.false
-    (⊎_elim {0, 0, 0} (λ w. inr w.2.left) (λ w. inl w.left) c.if-c-ne32.branch)
+    (elim c.if-c-ne32.branch [ then-c-ne32+else-b-c-3 w ↦ inr w.if-b-c-3.false | else-c-ne32 w ↦ inl w.if-c-ne32.false ])
     ∙ simp (ne_eqb _ _ c.if-b-c-4.false, ne_eqb _ _ c.if-c-eq32.false, ne_eqb _ _ c.if-b-c-5.false))

@@ -1,14 +1,10 @@
 -- `scanner::scan` meets its contract. The loop's invariant: how the segment ends is how the rest of it, from `at` on, ends.
 -- What is left of the input falls. Assumes nothing.
-use Prim.Native.Nat.{◌+◌, ◌≤◌, ◌-◌}
-use mathlib.Core.Path.{◌≡◌, refl, sym, ap, ◌∙◌}
-use native.Mathlib.Omega.{arith}
+use Prim.Native.Nat.{◌≤◌, ◌-◌}
+use mathlib.Core.Path.{◌≡◌}
 use lib.ListN.{length}
-use borrow.Author.Rules.{rules}
 use Rattle.values.specs.Tokens.{tokens_at}
-use Rattle.line_breaks.proofs.Passing.{after_least, after_most}
-use Rattle.scanner.specs.Scan.{scanned, ended}
-use Rattle.scanner.proofs.Scanning.{releases, scan_other, scan_others, scan_ends, scan_past, passed_none, passed_one}
+use Rattle.scanner.specs.Scan.{scanned}
 use Rattle.scanner.proofs.scan.Given as goal
 
 abbrev pub invariant-loop-at : goal.invariant-loop-at

@@ -1,8 +1,5 @@
 -- `scanner::segment_end` meets its contract: where the scan ends with a terminator, that is the next one. Assumes nothing.
-use Prim.Native.Nat.{◌≤◌, ◌<◌}
-use mathlib.Core.Path.{◌≡◌}
 use native.Mathlib.Omega.{arith}
-use borrow.Author.Rules.{rules}
 use Rattle.scanner.proofs.Scanning.{scans_as, ended_beyond}
 use Rattle.scanner.proofs.segment_end.Goals as goal
 

@@ -1,14 +1,11 @@
 -- `scanner::segment_end_past` meets its contract. The loop's invariant: what follows the next terminator from the start is what follows
 -- the next one from `at`. What is left of the input falls. Assumes nothing.
-use Prim.Native.Nat.{◌≤◌, ◌<◌, ◌-◌}
-use mathlib.Core.Path.{◌≡◌, refl, sym, ap, ◌∙◌}
+use mathlib.Core.Path.{refl, sym, ap, ◌∙◌}
 use native.Mathlib.Omega.{arith}
-use lib.ListN.{length}
-use borrow.Author.Rules.{rules}
 use native.Mathlib.Nat.{le_of_eq, pos_of_ne-zero}
 use Rattle.lists.specs.Lists.{beyond}
 use Rattle.lists.proofs.Pieces.{beyond_hit, beyond_miss}
-use Rattle.values.specs.Tokens.{ends, tokens_at}
+use Rattle.values.specs.Tokens.{ends}
 use Rattle.values.proofs.Steps.{ends_yes, ends_no}
 use Rattle.scanner.proofs.Lexing.{lexes_as}
 use Rattle.scanner.proofs.segment_end_past.Goals as goal

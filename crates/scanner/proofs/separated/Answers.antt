@@ -2,7 +2,6 @@
 use mathlib.Core.Path.{ap, ◌∙◌}
 use Rattle.scanner.specs.declared.Lexed.TheVariants.{Separator}
 use Rattle.scanner.proofs.Lexing.{terminator_is, separator_is}
-use borrow.Author.Rules.{rules}
 use Rattle.scanner.proofs.separated.Goals as goal
 
 pub returns-then-rank-eq0 : goal.returns-then-rank-eq0

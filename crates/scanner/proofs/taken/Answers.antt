@@ -1,5 +1,4 @@
 -- `scanner::taken` meets its contract: in each arm the role is known. Assumes nothing.
-use borrow.Author.Rules.{rules}
 use Rattle.scanner.proofs.taken.Goals as goal
 
 pub returns-in-Separator : goal.returns-in-Separator

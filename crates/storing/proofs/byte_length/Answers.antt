@@ -1,6 +1,5 @@
 -- `storing::byte_length` meets its contract. Assumes nothing.
 use native.Mathlib.Omega.{arith}
-use borrow.Author.Rules.{rules}
 use Rattle.storing.proofs.Stores.{bit_most, spelled_length}
 use Rattle.storing.proofs.byte_length.Goals as goal
 

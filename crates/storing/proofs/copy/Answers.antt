@@ -1,9 +1,8 @@
 -- `storing::copy` meets its contract. The loop's invariant: what is left of the text, stored from here, gives what the whole, stored at the
 -- start, gives; and it fits. What is left falls. Assumes nothing.
-use Prim.Native.Nat.{ℕ, ◌+◌, ◌-◌, ◌≤◌}
-use mathlib.Core.Path.{◌≡◌, refl, sym, ap, ◌∙◌}
+use mathlib.Core.Path.{refl, sym, ap, ◌∙◌}
 use native.Mathlib.Omega.{arith}
-use lib.ListN.{length, set, get_or, drop, length-set, length-drop, drop_of_length-le}
+use lib.ListN.{get_or, length-set, length-drop, drop_of_length-le}
 use lib.Seq.{sets}
 use Rattle.storing.proofs.Stores.{rest_first}
 use Rattle.storing.proofs.copy.Goals as goal

@@ -2,10 +2,10 @@
 -- the start, gives. What is left falls. Assumes nothing.
 use Prim.Native.Nat.{ℕ, ◌+◌, ◌-◌, ◌≤◌}
 use mathlib.Core.Path.{◌≡◌, refl, sym, ap, ◌∙◌}
-use mathlib.Core.List.{List, []}
+use mathlib.Core.List.{List}
 use native.Mathlib.Nat.{add_assoc}
 use native.Mathlib.Omega.{arith}
-use lib.ListN.{length, replicate, length-set, set}
+use lib.ListN.{replicate, length-set, set}
 use lib.Seq.{sets}
 use Rattle.storing.proofs.Stores.{sets_first, run_first}
 use Rattle.storing.proofs.fill.Goals as goal

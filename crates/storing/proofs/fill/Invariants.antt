@@ -1,17 +1,13 @@
 -- `storing::fill` meets its contract. The loop's invariant: what is left of the run, stored from here, gives what the whole, stored at
 -- the start, gives. What is left falls. Assumes nothing.
-use Prim.Native.Nat.{ℕ, ◌+◌, ◌-◌, ◌≤◌}
-use mathlib.Core.Path.{◌≡◌, refl, sym, ap, ◌∙◌}
-use mathlib.Core.List.{List, []}
-use native.Mathlib.Nat.{add_assoc}
-use native.Mathlib.Omega.{arith}
-use lib.ListN.{length, replicate, length-set, set}
+use Prim.Native.Nat.{◌+◌, ◌-◌, ◌≤◌}
+use mathlib.Core.Path.{◌≡◌}
+use lib.ListN.{length, replicate}
 use lib.Seq.{sets}
-use Rattle.storing.proofs.Stores.{sets_first, run_first}
 use Rattle.storing.proofs.fill.Given as goal
 
 abbrev pub invariant-loop-i : goal.invariant-loop-i
-invariant-loop-i l =    (sets l.initial.buffer l.from (replicate l.count l.b) ≡ sets l.buffer (l.from + l.i) (replicate (l.count - l.i) l.b))
+invariant-loop-i l = (sets l.initial.buffer l.from (replicate l.count l.b) ≡ sets l.buffer (l.from + l.i) (replicate (l.count - l.i) l.b))
     × (length l.buffer ≡ length l.initial.buffer)
     × (l.i ≤ l.count)
 

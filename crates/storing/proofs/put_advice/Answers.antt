@@ -3,7 +3,6 @@ use mathlib.Core.Path.{refl}
 use native.Mathlib.Omega.{arith}
 use lib.ListN.{length-set}
 use Rattle.characters.specs.Characters.{advice_of, spelled_out}
-use borrow.Author.Rules.{rules}
 use Rattle.storing.proofs.put_advice.Goals as goal
 
 pub bounds-buffer-1 : goal.bounds-buffer-1

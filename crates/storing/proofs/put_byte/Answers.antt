@@ -1,7 +1,6 @@
 -- `storing::put_byte` meets its contract: the byte is stored after the release character, or in its place. Assumes nothing.
 use native.Mathlib.Omega.{arith}
 use lib.ListN.{length-set}
-use borrow.Author.Rules.{rules}
 use Rattle.storing.proofs.Stores.{spelled_length, byte_stored}
 use Rattle.storing.proofs.put_byte.Goals as goal
 

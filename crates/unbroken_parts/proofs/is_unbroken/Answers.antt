@@ -1,14 +1,12 @@
 -- `unbroken_parts::is_unbroken` meets its contract. The loop's invariant: where none below the space was found, none stands up to `at`. What is
 -- left of the input falls. Assumes nothing.
-use Prim.Native.Nat.{ℕ, ◌+◌, ◌-◌, ◌≤◌, ◌<◌}
-use mathlib.Core.Path.{◌≡◌, sym, ap, ◌∙◌}
-use mathlib.Core.Bool.{true}
+use Prim.Native.Nat.{ℕ, ◌+◌}
+use mathlib.Core.Path.{◌≡◌, ap, ◌∙◌}
 use native.Mathlib.Omega.{arith}
 use native.Mathlib.Decide.{dec_le}
 use native.Mathlib.Nat.{lt_of_not-le}
 use lib.Dec.{leb}
-use lib.ListN.{length, get_or}
-use borrow.Author.Rules.{rules}
+use lib.ListN.{get_or}
 use Rattle.lists.proofs.Texts.{and_left, and_right}
 use Rattle.unbroken_parts.proofs.is_unbroken.Goals as goal
 

@@ -1,15 +1,10 @@
 -- `unbroken_parts::is_unbroken` meets its contract. The loop's invariant: where none below the space was found, none stands up to `at`. What is
 -- left of the input falls. Assumes nothing.
-use Prim.Native.Nat.{ℕ, ◌+◌, ◌-◌, ◌≤◌, ◌<◌}
-use mathlib.Core.Path.{◌≡◌, sym, ap, ◌∙◌}
+use Prim.Native.Nat.{ℕ, ◌-◌, ◌≤◌, ◌<◌}
+use mathlib.Core.Path.{◌≡◌}
 use mathlib.Core.Bool.{true}
-use native.Mathlib.Omega.{arith}
-use native.Mathlib.Decide.{dec_le}
-use native.Mathlib.Nat.{lt_of_not-le}
 use lib.Dec.{leb}
 use lib.ListN.{length, get_or}
-use borrow.Author.Rules.{rules}
-use Rattle.lists.proofs.Texts.{and_left, and_right}
 use Rattle.unbroken_parts.proofs.is_unbroken.Given as goal
 
 abbrev pub invariant-loop-at : goal.invariant-loop-at

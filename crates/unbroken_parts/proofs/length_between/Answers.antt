@@ -4,7 +4,6 @@ use mathlib.Core.Path.{sym, ap, ◌∙◌}
 use native.Mathlib.Omega.{arith}
 use lib.ListN.{length}
 use lib.Seq.{length-take-le, length-slice}
-use borrow.Author.Rules.{rules}
 use Rattle.unbroken_parts.proofs.Parts.{unbroken_part}
 use Rattle.unbroken_parts.proofs.length_between.Goals as goal
 

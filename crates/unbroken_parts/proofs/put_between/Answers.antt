@@ -1,10 +1,9 @@
 -- `unbroken_parts::put_between` meets its contract: a part of a text without breaks is copied. Assumes nothing.
-use Prim.Native.Nat.{◌+◌, ◌-◌}
+use Prim.Native.Nat.{◌-◌}
 use mathlib.Core.Path.{sym, ap, ◌∙◌}
 use native.Mathlib.Omega.{arith}
 use lib.ListN.{length}
 use lib.Seq.{sets, length-take-le}
-use borrow.Author.Rules.{rules}
 use Rattle.unbroken_parts.proofs.Parts.{unbroken_part}
 use Rattle.unbroken_parts.proofs.put_between.Goals as goal
 
