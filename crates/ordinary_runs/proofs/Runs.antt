@@ -1,7 +1,7 @@
 -- A run of ordinary bytes is spelled as it stands, byte by byte. Assumes nothing.
 use Prim.Native.Nat.{ℕ, zero, suc, ◌+◌, ◌-◌, ◌≤◌, ◌<◌}
 use mathlib.Core.Path.{◌≡◌, refl, sym, ap, ap₂, ◌∙◌}
-use mathlib.Core.Bool.{Bool, true, false, not, ◌&&◌, ◌||◌, false≢true, and-false}
+use mathlib.Core.Bool.{Bool, true, false, ◌&&◌, ◌||◌, false≢true, and-false}
 use mathlib.Core.List.{List, [], ◌∷◌, ◌++◌}
 use native.Mathlib.Omega.{arith}
 use native.Mathlib.Decide.{dec_le}
@@ -10,13 +10,12 @@ use lib.Dec.{eqb}
 use lib.ListN.{length, get_or, set, take, drop, length-drop}
 use lib.Seq.{sets, take-suc, get_or-drop, length-take-le}
 use borrow.Author.Tests.{ne_eqb, not-true}
-use Rattle.lists.specs.Lists.{if◌then◌else◌}
 use Rattle.lists.proofs.Numbers.{drop_next}
 use Rattle.lists.proofs.Texts.{and_left, and_right, or_none_left, or_none_right, if_false}
 use Rattle.characters.specs.declared.Characters.{Characters}
 use Rattle.characters.specs.declared.Role.TheVariants.{Plain}
-use Rattle.characters.specs.Characters.{role, is_service, has_repetition, has_release}
-use Rattle.values.specs.Tokens.{Token, byte, separator, tokens_at}
+use Rattle.characters.specs.Characters.{role, is_service}
+use Rattle.values.specs.Tokens.{byte, separator, tokens_at}
 use Rattle.values.specs.Spelling.{spell_byte}
 use Rattle.values.proofs.Steps.{at_plain}
 use Rattle.spelling_laws.proofs.Service.{serves, service_serves}

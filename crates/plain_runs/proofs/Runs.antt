@@ -1,7 +1,7 @@
 -- A run of plain bytes, byte by byte: each of them is a byte of a value. Assumes nothing.
 use Prim.Native.Nat.{ℕ, zero, suc, ◌+◌, ◌-◌, ◌≤◌, ◌<◌}
 use mathlib.Core.Path.{◌≡◌, refl, sym, ap, subst, ◌∙◌}
-use mathlib.Core.Bool.{true, false, false≢true}
+use mathlib.Core.Bool.{false, false≢true}
 use mathlib.Core.List.{List, ◌∷◌}
 use native.Mathlib.Omega.{arith}
 use native.Mathlib.Decide.{dec_le}
@@ -11,7 +11,7 @@ use Rattle.characters.specs.declared.Characters.{Characters}
 use Rattle.characters.specs.declared.Role.{Role}
 use Rattle.characters.specs.declared.Role.TheVariants.{Separator, Release, Plain}
 use Rattle.characters.specs.Characters.{role, is_service}
-use Rattle.values.specs.Tokens.{Token, byte, tokens_at}
+use Rattle.values.specs.Tokens.{byte, tokens_at}
 use Rattle.values.proofs.Steps.{at_plain}
 use Rattle.spelling_laws.proofs.Service.{serves, service_serves}
 use Rattle.plain_runs.specs.Runs.{PlainRun}

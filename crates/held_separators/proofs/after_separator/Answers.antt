@@ -1,6 +1,5 @@
 -- `held_separators::after_separator` meets its contract: it asks the definition's tests in the definition's order. Assumes nothing.
 use native.Mathlib.Omega.{arith}
-use borrow.Author.Rules.{rules}
 use borrow.Author.Tests.{le-leb, lt-leb}
 use Rattle.emission_laws.specs.Emission.{separated}
 use Rattle.held_separators.proofs.after_separator.Goals as goal

@@ -4,7 +4,6 @@ use mathlib.Core.List.{[], ◌++◌, append_assoc}
 use native.Mathlib.Omega.{arith}
 use lib.ListN.{replicate, drop_of_length-le, length-append, length-replicate}
 use lib.Seq.{sets}
-use borrow.Author.Rules.{rules}
 use Rattle.characters.specs.declared.Characters.{Characters}
 use Rattle.storing.proofs.Stores.{stored_after}
 use Rattle.emission_laws.specs.declared.Held.{Held}

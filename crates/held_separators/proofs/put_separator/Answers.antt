@@ -3,7 +3,6 @@ use mathlib.Core.Path.{sym, ap}
 use native.Mathlib.Omega.{arith}
 use lib.ListN.{length}
 use lib.Seq.{sets}
-use borrow.Author.Rules.{rules}
 use Rattle.emission_laws.proofs.Steps.{terminator_text, no_text}
 use Rattle.held_separators.proofs.put_separator.Goals as goal
 

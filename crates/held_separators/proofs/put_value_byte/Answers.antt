@@ -4,7 +4,6 @@ use mathlib.Core.Path.{sym, ap, ◌∙◌}
 use mathlib.Core.List.{[], ◌∷◌}
 use native.Mathlib.Omega.{arith}
 use lib.Seq.{sets}
-use borrow.Author.Rules.{rules}
 use Rattle.values.specs.Spelling.{spell_byte}
 use Rattle.storing.proofs.Stores.{stored_length, stored_after}
 use Rattle.emission_laws.specs.Emission.{held_next, held_after, let_out}

@@ -3,7 +3,6 @@ use native.Mathlib.Omega.{arith}
 use Prim.Native.Nat.{◌≤◌}
 use mathlib.Core.List.{[], ◌∷◌}
 use lib.ListN.{length}
-use borrow.Author.Rules.{rules}
 use Rattle.emission_laws.specs.Emission.{held_next, held_after}
 use Rattle.emission_laws.proofs.Cases.{by_spelling}
 use Rattle.emission_laws.proofs.Steps.{byte_length, moved}

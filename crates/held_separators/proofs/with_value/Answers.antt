@@ -1,12 +1,10 @@
 -- `held_separators::with_value` meets its contract. The loop's invariant: the measure after the whole value is the measure after what is left
 -- of it, from the one reached; and each byte passed adds two at most. What is left falls. Assumes nothing.
-use Prim.Native.Nat.{◌+◌, ◌*◌, ◌-◌, ◌≤◌}
-use mathlib.Core.Path.{◌≡◌, refl, sym}
+use Prim.Native.Nat.{◌+◌}
+use mathlib.Core.Path.{refl}
 use mathlib.Core.List.{[], ◌∷◌}
 use native.Mathlib.Omega.{arith}
-use lib.ListN.{length, drop, get_or}
-use borrow.Author.Rules.{rules}
-use Rattle.emission_laws.specs.Emission.{waiting, after}
+use lib.ListN.{drop, get_or}
 use Rattle.emission_laws.proofs.Steps.{goes_on, goes_end, after_most}
 use Rattle.held_separators.specs.Putting.{value_byte, value_tokens}
 use Rattle.held_separators.proofs.Steps.{value_next, value_end_lem}

@@ -1,7 +1,6 @@
 -- `ordinary_runs::is_quiet` meets its contract: the five bytes are asked one by one. Assumes nothing.
 use mathlib.Core.Path.{ap, ap₂}
 use mathlib.Core.Bool.{not, ◌||◌}
-use borrow.Author.Rules.{rules}
 use Rattle.ordinary_runs.specs.Runs.{quiet}
 use Rattle.ordinary_runs.proofs.is_quiet.Goals as goal
 

@@ -1,13 +1,8 @@
 -- `ordinary_runs::past_run` meets its contract. The loop's invariant: the bytes before `at` are a run. What is left of the input falls.
 -- Assumes nothing.
 use Prim.Native.Nat.{◌-◌}
-use mathlib.Core.Path.{sym, ◌∙◌}
-use native.Mathlib.Omega.{arith}
 use lib.ListN.{length}
-use borrow.Author.Rules.{rules}
-use borrow.Author.Tests.{not-false}
 use Rattle.ordinary_runs.specs.Runs.{Run}
-use Rattle.ordinary_runs.proofs.Runs.{run_none, run_next_lem}
 use Rattle.ordinary_runs.proofs.past_run.Given as goal
 
 abbrev pub invariant-loop-at : goal.invariant-loop-at

@@ -1,14 +1,11 @@
 -- `ordinary_runs::put_run` meets its contract. The loop's invariant: the bytes before `at` are a run, and are stored. What is left of the input
 -- falls. Assumes nothing.
-use Prim.Native.Nat.{◌+◌, ◌-◌}
-use mathlib.Core.Path.{◌≡◌, sym, ◌∙◌}
+use Prim.Native.Nat.{◌-◌}
+use mathlib.Core.Path.{sym, ◌∙◌}
 use native.Mathlib.Omega.{arith}
 use lib.ListN.{length, take, drop}
-use lib.Seq.{sets}
-use borrow.Author.Rules.{rules}
 use borrow.Author.Tests.{not-false}
 use Rattle.storing.proofs.Stores.{stored_length}
-use Rattle.ordinary_runs.specs.Runs.{Run}
 use Rattle.ordinary_runs.proofs.Runs.{run_none, run_next_lem, none_stored, run_room, run_stored}
 use Rattle.ordinary_runs.proofs.put_run.Goals as goal
 
