@@ -6,3 +6,4 @@
 // which differ in nothing else are the same, and that contents and normal form hold none. The records are in specs/;
 // the theorems are the `pub` ones of proofs/Acceptance, Stages, Judged, Same, Breaks, Respaced, Breakless and Fakes.
 // How each rule is read off an input is left to the crates below.
+#![tactic(auto)]

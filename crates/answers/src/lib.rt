@@ -1,5 +1,7 @@
 // What the operations answer (paper 01, "Operations"): an enum for each, and for each of its cases
 // the paper's number and values, in which the contracts are stated (specs/).
+#![tactic(auto)]
+
 use characters::Characters;
 use refusals::Refusal;
 use segments::{Groups, Messages, Segments};

@@ -1,6 +1,7 @@
 // The service characters of an interchange (paper 01, "Service characters"): which six bytes are
 // usable, which ones an input uses, where its body begins, and what part a byte then plays.
 // The definitions are in specs/. What the bytes of the body mean is left to `values`.
+#![tactic(auto)]
 
 // Six bytes in the advice's order. `release` is a space where there is no release character, and
 // `repetition` where there is no repetition separator.

@@ -144,6 +144,7 @@ counts_differ trailer count past g k one right v e =
 -- none of the kinds before the nearest header is its own
 apart : (kind : Kind) (gs : List Segment) → ((g : Segment) → Memᴰ g gs → kind_of g ≡ kind → ⊥)
     → (k : Kind) → Memᴰ k (map kind_of gs) → k ≡ kind → ⊥
+apart kind [] h k m q = elim m [ ]
 apart kind (g ∷ gs) h k (Memᴰ.head e) q = h g (Memᴰ.head refl) (sym e ∙ q)
 apart kind (g ∷ gs) h k (Memᴰ.tail m) q = apart kind gs (λ x n. h x (Memᴰ.tail n)) k m q
 

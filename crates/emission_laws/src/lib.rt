@@ -1,6 +1,7 @@
 // The trimmed contents of a body, spelled in one pass (paper 01, "Trimming" and "Normal form"): a
 // machine runs over the tokens from left to right and holds back separators until something follows
 // them. specs/ has the machine; proofs/ shows that it spells the contents.
+#![tactic(auto)]
 
 // How many separators of each rank are held back: those of elements, after them those of repeats, and
 // after them those of components.

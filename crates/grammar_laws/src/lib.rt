@@ -3,3 +3,4 @@
 // without walking over it. It promises that refusal 9 is not met exactly where the order is that of the
 // grammar, that none of 9 to 12 is met exactly where headers and trailers agree as well, and that the
 // counts are the numbers of messages and groups. The definitions are in specs/, the theorems in proofs/Theorem.antt.
+#![tactic(auto)]

@@ -1,7 +1,7 @@
 -- Laws of lists without their idle ends. Assumes nothing.
-use mathlib.Core.Path.{◌≡◌, refl, sym, ap, ◌∙◌}
+use mathlib.Core.Path.{◌≡◌, refl, ap, ◌∙◌}
 use mathlib.Core.Bool.{Bool, true, false}
-use mathlib.Core.List.{List, [], ◌∷◌, ◌++◌, map}
+use mathlib.Core.List.{List, [], ◌∷◌, map}
 use Rattle.lists.specs.Lists.{unless_idle, drop_end, trim_end}
 
 module _ {A : Type 0} (t : A → Bool) where

@@ -1,6 +1,6 @@
 -- Lists, as the other crates speak of them. Nothing here knows of EDIFACT. Assumes nothing.
 use Rattle.std.specs.Prelude.{ℕ, zero, suc, Bool, true, false, not, ◌&&◌, ◌||◌, List, [], ◌∷◌, ◌++◌, eqb}
-use Prim.Native.Char.{Char, code}
+use Prim.Native.Char.{code}
 use Prim.Native.String.{String, [] as ε, ◌∷◌ as ◌◂◌}
 use Rattle.std.proofs.Math.Option.{Option, none, some}
 

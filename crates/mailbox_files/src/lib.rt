@@ -1,6 +1,8 @@
 // Mailbox files (request 2026-02): where a file with interchanges end to end is cut into pieces, and the
 // figures of the morning report over the list of its pieces, for every file. The definitions are in specs/,
 // with what the operation promises. The pieces are bytes; what Judge says of each is left to `operations`.
+#![tactic(auto)]
+
 use refusals::Outcome;
 use segments::{Messages, Segments};
 

@@ -2,6 +2,7 @@
 // the first failing stage answers; within a stage the lowest place, then the lowest number.
 // The definitions are in specs/. When each refusal is met is left to `stages`, `operations`, `shelves`,
 // `message_structures`, `acknowledgements` and `columns`.
+#![tactic(auto)]
 
 // The most bytes of an input, a text or a normal form (refusals 1 and 13), and the most numbers of a
 // value list's table (refusal 15).

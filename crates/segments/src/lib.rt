@@ -1,6 +1,7 @@
 // Segments (paper 01, the tag rule and "Order of segments"): the kind that a tag names, the rule for
 // tags, where the check stands as it walks, which segment is allowed there, and the three counters.
 // The definitions are in specs/. What trailers and UNS must say is left to `control_elements`.
+#![tactic(auto)]
 
 // The service segments, and every other one.
 #[derive(Clone, Copy)]

@@ -1,6 +1,8 @@
 // The shelf (requests 2026-04 and 2026-06): a lent buffer that keeps up to 64 normal forms, each once. Its
 // layouts of version 1 and 2, when it is sound, and what Start, Put, Get, Remove, the two numbers read off
 // the map and the two sums answer and leave in the buffer, are in specs/. The layout is a parameter.
+#![tactic(auto)]
+
 use refusals::Refusal;
 
 // The summary at a shelf's head: the map of occupied slots, the text bytes held, the duplicates found.

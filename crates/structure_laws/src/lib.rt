@@ -2,3 +2,4 @@
 // (specs/Theorems.antt): where no segment tag stands twice in a table, a body is refused by 22 exactly if
 // no choice of repeats within the limits spells its tags; the walk never accepts what the language lacks;
 // and the second Judge answers as Judge does, with 21 and 22 in their places.
+#![tactic(auto)]

@@ -2,3 +2,4 @@
 // (specs/Demands.antt), to be read in ten minutes, and the proof that all of them hold, which only
 // cites the crates below. Beside it what follows for a caller from the contracts alone, one operation
 // after the other: the round trips (specs/Contracts.antt).
+#![tactic(auto)]

@@ -2,3 +2,4 @@
 // a body with their places, its segments, elements, repeats and values, trimming, and the spelling of a
 // list of segments. An element of the older versions is one repeat.
 // The definitions are in specs/. Which segments are allowed is left to `segments`.
+#![tactic(auto)]

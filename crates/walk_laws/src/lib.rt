@@ -4,3 +4,4 @@
 // `control_elements` for all that passed, where each segment was allowed and kept the rule of sections,
 // and that no counter is higher than the number of segments. The definitions are in specs/; the
 // functions are in `walk`.
+#![tactic(auto)]
