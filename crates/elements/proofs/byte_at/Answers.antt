@@ -1,12 +1,9 @@
 -- `elements::byte_at` meets its contract. The loop's invariant: the value that begins at the start goes on at `at`, and ends where it
 -- ends. What is left of the input falls. Assumes nothing.
-use Prim.Native.Nat.{◌-◌}
 use mathlib.Core.Path.{refl}
 use native.Mathlib.Omega.{arith}
-use lib.ListN.{length}
-use borrow.Author.Rules.{rules}
 use Rattle.scanner.proofs.Lexing.{lexes_as}
-use Rattle.elements.proofs.Values.{Continues, next_byte, next_separator, next_stray, next_end}
+use Rattle.elements.proofs.Values.{next_byte, next_separator, next_stray, next_end}
 use Rattle.elements.proofs.byte_at.Goals as goal
 
 pub loop-byte-init : goal.loop-byte-init

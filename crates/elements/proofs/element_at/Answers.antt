@@ -1,6 +1,5 @@
 -- `elements::element_at` meets its contract: the search goes on token by token. Assumes nothing.
 use mathlib.Core.Path.{sym, ◌∙◌}
-use borrow.Author.Rules.{rules}
 use Rattle.elements.proofs.element_at.Goals as goal
 
 pub returns : goal.returns

@@ -1,14 +1,9 @@
 -- `elements::holds_byte` meets its contract. The loop's invariant: a byte stands from the start on if one does from `at` on. What is
 -- left of the input falls. Assumes nothing.
-use Prim.Native.Nat.{◌-◌}
-use mathlib.Core.Path.{◌≡◌, refl, sym, ◌∙◌}
+use mathlib.Core.Path.{refl, sym, ◌∙◌}
 use native.Mathlib.Omega.{arith}
-use lib.ListN.{length}
-use borrow.Author.Rules.{rules}
 use borrow.Author.Tests.{le-leb, lt-leb}
-use Rattle.values.specs.Tokens.{tokens_at}
 use Rattle.scanner.proofs.Lexing.{lexes_as}
-use Rattle.elements.specs.Elements.{holds_byte}
 use Rattle.elements.proofs.Elements.{holds_byte_lem, holds_over, holds_separator, holds_stray, holds_end}
 use Rattle.elements.proofs.holds_byte.Goals as goal
 

@@ -1,11 +1,7 @@
 -- `elements::past_sixteens` meets its contract. The loop's invariant: the element that is looked for from the start is the one that is looked for
 -- from `at`. What is left of the input falls. Assumes nothing.
-use Prim.Native.Nat.{◌-◌}
 use mathlib.Core.Path.{refl, ◌∙◌}
 use native.Mathlib.Omega.{arith}
-use lib.ListN.{length}
-use borrow.Author.Rules.{rules}
-use Rattle.elements.specs.Sixteen.{GoesOn}
 use Rattle.elements.proofs.past_sixteens.Goals as goal
 
 pub loop-at-init : goal.loop-at-init

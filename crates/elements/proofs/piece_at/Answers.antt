@@ -1,15 +1,12 @@
 -- `elements::piece_at` meets its contract. The loop's invariant: the piece that is looked for from the start is the one that is
 -- looked for from `at`, after as many separators as are left. What is left of the input falls. Assumes nothing.
-use Prim.Native.Nat.{◌≤◌, ◌-◌}
-use mathlib.Core.Path.{◌≡◌, refl, sym, ◌∙◌}
+use mathlib.Core.Path.{refl, sym, ◌∙◌}
 use native.Mathlib.Omega.{arith}
 use native.Mathlib.Nat.{le_refl}
-use lib.ListN.{length}
 use borrow.Author.Rules.{rules}
-use Rattle.values.specs.Tokens.{ends, tokens_at}
+use Rattle.values.specs.Tokens.{ends}
 use Rattle.values.proofs.Steps.{at_end, ends_yes, ends_no}
 use Rattle.scanner.proofs.Lexing.{lexes_as}
-use Rattle.elements.specs.Elements.{outer, piece_from}
 use Rattle.elements.proofs.Elements.{outer_yes, outer_no, from_plain, from_here, from_over, from_end, from_next, from_miss}
 use Rattle.elements.proofs.piece_at.Goals as goal
 

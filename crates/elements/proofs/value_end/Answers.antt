@@ -1,12 +1,7 @@
 -- `elements::value_end` meets its contract. The loop's invariant: what ends the value from the start ends it from `at`. What is left
 -- of the input falls. Assumes nothing.
-use Prim.Native.Nat.{◌≤◌, ◌-◌}
-use mathlib.Core.Path.{◌≡◌, refl, sym, ◌∙◌}
+use mathlib.Core.Path.{refl, sym, ◌∙◌}
 use native.Mathlib.Omega.{arith}
-use lib.ListN.{length}
-use borrow.Author.Rules.{rules}
-use Rattle.values.specs.Tokens.{tokens_at}
-use Rattle.elements.specs.Values.{value_end}
 use Rattle.elements.proofs.Values.{next_as}
 use Rattle.elements.proofs.value_end.Goals as goal
 
