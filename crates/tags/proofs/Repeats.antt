@@ -3,7 +3,6 @@ use Prim.Native.Nat.{ℕ, ◌≤◌, ◌<◌}
 use mathlib.Core.Path.{◌≡◌, refl, sym, ap, ap₂, ◌∙◌}
 use mathlib.Core.Bool.{Bool, true, false, true≢false}
 use mathlib.Core.List.{List, [], ◌∷◌}
-use native.Mathlib.Omega.{arith}
 use lib.Dec.{leb, lit≤}
 use borrow.Author.Tests.{le-leb, lt-leb}
 use Rattle.lists.specs.Lists.{if◌then◌else◌, through, last_or, beyond}
@@ -17,7 +16,7 @@ use Rattle.values.proofs.Steps.{ends_yes, ends_no}
 use Rattle.scanner.specs.declared.Lexed.TheVariants.{Byte, Separator, Stray, End}
 use Rattle.scanner.proofs.Lexing.{Lexes}
 use Rattle.tags.specs.declared.Word.{Word}
-use Rattle.tags.specs.Words.{piece_at, repeat_at, Words}
+use Rattle.tags.specs.Words.{repeat_at, Words}
 use Rattle.tags.proofs.Reading.{through_hit, through_miss}
 
 -- a token that does not end one thing ends no larger thing

@@ -1,7 +1,6 @@
 -- `tags::begins_as_user` meets its contract: no tag of a service segment begins with another byte than `U`. Assumes nothing.
 use mathlib.Core.Bool.{false≢true}
 use lib.Dec.{eqb}
-use borrow.Author.Rules.{rules}
 use borrow.Author.Tests.{eqb-false, not-true}
 use Rattle.scanner.proofs.Lexing.{lexes_as}
 use Rattle.tags.proofs.Tagging.{kind_begun}

@@ -1,13 +1,9 @@
 -- `tags::ends_unrepeated` meets its contract. The loop's invariant: whether the element ends with its repeat is told from `at` on.
 -- What is left of the input falls. Assumes nothing.
-use Prim.Native.Nat.{◌-◌}
-use mathlib.Core.Path.{◌≡◌, refl, sym, ◌∙◌}
+use mathlib.Core.Path.{refl, sym, ◌∙◌}
 use native.Mathlib.Omega.{arith}
-use lib.ListN.{length}
 use borrow.Author.Rules.{rules}
-use Rattle.values.specs.Values.{ended_by}
 use Rattle.scanner.proofs.Lexing.{lexes_as}
-use Rattle.tags.specs.Words.{repeat_at}
 use Rattle.tags.proofs.Repeats.{repeat_byte, repeat_stray, repeat_component, repeat_separator, repeat_end}
 use Rattle.tags.proofs.ends_unrepeated.Goals as goal
 

@@ -4,7 +4,6 @@ use mathlib.Core.Bool.{and-true}
 use borrow.Author.Tests.{not-true, not-false}
 use Rattle.lists.specs.Lists.{all}
 use Rattle.segments.specs.Tags.{is_tag}
-use borrow.Author.Rules.{rules}
 use Rattle.tags.proofs.is_tag.Goals as goal
 
 pub returns-then-not-tag_byte : goal.returns-then-not-tag_byte

@@ -1,7 +1,6 @@
 -- `tags::kind_at` meets its contract: the first byte tells a user segment, or the value that begins with the segment is its tag. Assumes
 -- nothing.
 use mathlib.Core.Path.{◌∙◌}
-use borrow.Author.Rules.{rules}
 use Rattle.tags.proofs.Tagging.{kind_three, kind_other}
 use Rattle.tags.proofs.kind_at.Goals as goal
 

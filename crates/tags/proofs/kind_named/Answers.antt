@@ -1,4 +1,5 @@
 -- `tags::kind_named` meets its contract: it asks for the bytes of the seven tags. Assumes nothing.
+use native.Mathlib.Omega.{arith}
 use borrow.Author.Tests.{eq-eqb, ne_eqb}
 use Rattle.lists.specs.Lists.{same}
 use Rattle.segments.specs.Kinds.{kind_named}
@@ -47,11 +48,11 @@ returns-in_default c =
     simp (
       eq-eqb _ _ c.if-first-ne85.false,
       eq-eqb _ _ c.if-second-ne78.false,
-      ne_eqb c.args.third 66 c.in_default.rest.0.0.0.0.0.0.1,
-      ne_eqb c.args.third 71 c.in_default.rest.0.0.0.0.0.1,
-      ne_eqb c.args.third 72 c.in_default.rest.0.0.0.0.1,
-      ne_eqb c.args.third 83 c.in_default.rest.0.0.0.1,
-      ne_eqb c.args.third 84 c.in_default.rest.0.0.1,
-      ne_eqb c.args.third 69 c.in_default.rest.0.1,
-      ne_eqb c.args.third 90 c.in_default.rest.1,
+      ne_eqb c.args.third 66 (omega arith),
+      ne_eqb c.args.third 71 (omega arith),
+      ne_eqb c.args.third 72 (omega arith),
+      ne_eqb c.args.third 83 (omega arith),
+      ne_eqb c.args.third 84 (omega arith),
+      ne_eqb c.args.third 69 (omega arith),
+      ne_eqb c.args.third 90 (omega arith),
     )

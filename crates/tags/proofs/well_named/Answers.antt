@@ -5,7 +5,6 @@ use Rattle.lists.specs.Lists.{begins}
 use Rattle.segments.specs.declared.Kind.TheVariants.{User}
 use Rattle.segments.specs.Kinds.{is}
 use Rattle.tags.specs.Naming.{well_named}
-use borrow.Author.Rules.{rules}
 use Rattle.tags.proofs.Tagging.{user_is}
 use Rattle.tags.proofs.well_named.Goals as goal
 

@@ -1,10 +1,7 @@
 -- `tags::word_at` meets its contract. The loop's invariant: what was read and what stands from `word.next` on make the whole value.
 -- What is left of the input falls. Assumes nothing.
-use Prim.Native.Nat.{◌-◌}
 use mathlib.Core.Path.{sym, ap, subst}
 use native.Mathlib.Omega.{arith}
-use lib.ListN.{length}
-use borrow.Author.Rules.{rules}
 use Rattle.scanner.proofs.Lexing.{lexes_as}
 use Rattle.tags.specs.declared.Word.{Word}
 use Rattle.tags.specs.Words.{Words}
