@@ -1,7 +1,6 @@
 -- `trimmed_values::is_alone` meets its contract: no byte stands from the value's end on. Assumes nothing.
 use mathlib.Core.Path.{ap, ◌∙◌}
 use mathlib.Core.Bool.{not}
-use borrow.Author.Rules.{rules}
 use Rattle.elements.specs.Elements.{holds_byte}
 use Rattle.trimmed_values.specs.Trimmed.{is_alone}
 use Rattle.trimmed_values.proofs.is_alone.Goals as goal

@@ -1,14 +1,9 @@
 -- `trimmed_values::is_text` meets its contract. The loop's invariant: the value is the text if from `at` on it is what the text has
 -- from `i` on. What is left of the input falls. Assumes nothing.
-use Prim.Native.Nat.{◌-◌, ◌≤◌}
-use mathlib.Core.Path.{◌≡◌, refl, sym, ◌∙◌}
+use mathlib.Core.Path.{refl, sym, ◌∙◌}
 use native.Mathlib.Omega.{arith}
-use lib.ListN.{length, drop, drop_of_length-le}
-use borrow.Author.Rules.{rules}
-use Rattle.lists.specs.Lists.{same}
+use lib.ListN.{drop_of_length-le}
 use Rattle.lists.proofs.Numbers.{drop_next}
-use Rattle.values.specs.Tokens.{tokens_at}
-use Rattle.elements.specs.Values.{value_in}
 use Rattle.elements.proofs.Values.{next_as}
 use Rattle.trimmed_values.proofs.Same.{same_longer, same_byte, same_not, text_ended}
 use Rattle.trimmed_values.proofs.is_text.Goals as goal

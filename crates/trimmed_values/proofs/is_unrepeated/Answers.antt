@@ -1,7 +1,6 @@
 -- `trimmed_values::is_unrepeated` meets its contract: no byte stands from the second repeat on. Assumes nothing.
 use mathlib.Core.Path.{ap, ◌∙◌}
 use mathlib.Core.Bool.{not}
-use borrow.Author.Rules.{rules}
 use Rattle.elements.specs.Elements.{holds_byte}
 use Rattle.trimmed_values.specs.Trimmed.{is_unrepeated}
 use Rattle.trimmed_values.proofs.is_unrepeated.Goals as goal

@@ -1,13 +1,7 @@
 -- `trimmed_values::same_value` meets its contract. The loop's invariant: the values are the same from the starts if they are from `a` and `b`.
 -- What is left of the input after `a` falls. Assumes nothing.
-use Prim.Native.Nat.{◌-◌}
-use mathlib.Core.Path.{◌≡◌, refl, sym, ◌∙◌}
+use mathlib.Core.Path.{refl, sym, ◌∙◌}
 use native.Mathlib.Omega.{arith}
-use lib.ListN.{length}
-use borrow.Author.Rules.{rules}
-use Rattle.lists.specs.Lists.{same}
-use Rattle.values.specs.Tokens.{tokens_at}
-use Rattle.elements.specs.Values.{value_in}
 use Rattle.elements.proofs.Values.{next_as}
 use Rattle.trimmed_values.proofs.Same.{same_ended, same_longer, same_byte, same_not}
 use Rattle.trimmed_values.proofs.same_value.Goals as goal

@@ -1,6 +1,5 @@
 -- `trimmed_values::stays` meets its contract: the first piece, or another one. Assumes nothing.
 use mathlib.Core.Path.{◌∙◌}
-use borrow.Author.Rules.{rules}
 use Rattle.trimmed_values.proofs.Places.{stays_first, stays_later}
 use Rattle.trimmed_values.proofs.stays.Goals as goal
 

@@ -1,5 +1,4 @@
 -- `trimmed_values::value_at` meets its contract: the element, the repeat or the component is gone, or the value is found. Assumes nothing.
-use borrow.Author.Rules.{rules}
 use Rattle.trimmed_values.proofs.Places.{element_gone, repeat_gone, component_gone, value_found}
 use Rattle.trimmed_values.proofs.value_at.Goals as goal
 
