@@ -1,12 +1,8 @@
 -- `control_fields::field_at` meets its contract. The loop's invariant: what was read from the start is what the field so far makes of the
 -- value from `at` on, and there is room for one byte more. What is left of the input falls. Assumes nothing.
 use Prim.Native.Nat.{◌-◌}
-use mathlib.Core.Path.{refl}
-use native.Mathlib.Omega.{arith}
 use lib.ListN.{length}
-use borrow.Author.Rules.{rules}
-use Rattle.elements.proofs.Values.{next_as}
-use Rattle.control_fields.proofs.Loops.{Reads, reads_byte, reads_end}
+use Rattle.control_fields.proofs.Loops.{Reads}
 use Rattle.control_fields.proofs.field_at.Given as goal
 
 abbrev pub invariant-loop-byte : goal.invariant-loop-byte

@@ -1,7 +1,6 @@
 -- `control_fields::is_count` meets its contract: it asks the three tests. Assumes nothing.
 use mathlib.Core.Path.{ap₂, ◌∙◌}
 use mathlib.Core.Bool.{◌&&◌}
-use borrow.Author.Rules.{rules}
 use Rattle.control_fields.specs.Fields.{spells_count}
 use Rattle.control_fields.proofs.is_count.Goals as goal
 

@@ -1,7 +1,6 @@
 -- `control_fields::is_reference` meets its contract: it asks both tests. Assumes nothing.
 use mathlib.Core.Path.{ap, ◌∙◌}
 use mathlib.Core.Bool.{Bool, ◌&&◌}
-use borrow.Author.Rules.{rules}
 use Rattle.control_fields.specs.Fields.{spells_reference}
 use Rattle.control_fields.proofs.is_reference.Goals as goal
 

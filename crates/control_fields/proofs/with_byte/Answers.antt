@@ -1,7 +1,6 @@
 -- `control_fields::with_byte` meets its contract: each part of the field is what its function gives. Assumes nothing.
 use mathlib.Core.Path.{refl, ap, ◌∙◌}
 use mathlib.Core.Bool.{Bool, ◌&&◌}
-use borrow.Author.Rules.{rules}
 use Rattle.characters.specs.Characters.{digit}
 use Rattle.control_fields.specs.Reading.{with_byte}
 use Rattle.control_fields.proofs.Bytes.{field_same}

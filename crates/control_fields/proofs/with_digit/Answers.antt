@@ -1,5 +1,4 @@
 -- `control_fields::with_digit` meets its contract: five bytes spell too little for the sixth to be too much. Assumes nothing.
-use borrow.Author.Rules.{rules}
 use native.Mathlib.Omega.{arith}
 use borrow.Author.Tests.{le-ltb, lt-ltb}
 use Rattle.control_fields.specs.Reading.{with_digit}
