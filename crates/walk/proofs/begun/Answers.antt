@@ -1,5 +1,4 @@
 -- `walk::begun` meets its contract: what the call ensures of the section, put into the walk. Assumes nothing.
-use borrow.Author.Rules.{rules}
 use Rattle.walk.proofs.begun.Goals as goal
 
 pub returns : goal.returns

@@ -1,6 +1,5 @@
 -- `walk::fits` meets its contract: two tests in turn. Assumes nothing.
 use mathlib.Core.Path.{sym, ◌∙◌}
-use borrow.Author.Rules.{rules}
 use Rattle.walk.proofs.fits.Goals as goal
 
 pub returns-then-allowed : goal.returns-then-allowed

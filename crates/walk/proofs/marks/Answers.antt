@@ -1,6 +1,5 @@
 -- `walk::marks` meets its contract: the test of sections is made where the segment is a UNS. Assumes nothing.
 use mathlib.Core.Path.{sym, ◌∙◌}
-use borrow.Author.Rules.{rules}
 use Rattle.walk.proofs.marks.Goals as goal
 
 pub returns-then-is_marker : goal.returns-then-is_marker

@@ -1,7 +1,6 @@
 -- `walk::may_follow` meets its contract: the turns of the two sections, compared. Assumes nothing.
 use mathlib.Core.Path.{ap₂}
 use lib.Dec.{ltb}
-use borrow.Author.Rules.{rules}
 use Rattle.walk.proofs.may_follow.Goals as goal
 
 pub returns : goal.returns

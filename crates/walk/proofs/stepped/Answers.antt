@@ -1,6 +1,5 @@
 -- `walk::stepped` meets its contract: what the calls ensure of the place and of each counter, put into one walk. Assumes nothing.
 use Prim.Native.Nat.{◌+◌}
-use borrow.Author.Rules.{rules}
 use Rattle.walk.proofs.stepped.Goals as goal
 
 pub returns : goal.returns
