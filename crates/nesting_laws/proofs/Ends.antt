@@ -37,7 +37,7 @@ more_equal t idle h _ _ (one_more x xs) = ap (λ (l : List _). x ∷ l) (sym (dr
 
 -- one more in a list is one more in what a map gives
 more_map : {A B : Type 0} (f : A → B) {idle : A} {xs ys : List A} → OneMore idle xs ys → OneMore (f idle) (map f xs) (map f ys)
-more_map f {idle} (one_more x xs) = rw map-append (one_more (f x) (map f xs))
+more_map f {idle} (one_more x xs) = rw (map-append f xs (idle ∷ [])) (one_more (f x) (map f xs))
 
 -- ---- a list differs from what trimming leaves of it by empty ends alone
 
