@@ -9,7 +9,6 @@ use lib.ListN.{length, get_or, drop, drop_of_length-le}
 use borrow.Author.Tests.{lt-ltb, le-ltb}
 use Rattle.lists.specs.Lists.{if◌then◌else◌}
 use Rattle.lists.proofs.Numbers.{drop_next}
-use Rattle.inputs.specs.declared.number.Number.{Number}
 use Rattle.inputs.specs.declared.number.Number.TheVariants.{Is, NotOne}
 use Rattle.inputs.specs.Number.{number_from, number_of}
 

@@ -1,16 +1,25 @@
+#![tactic(auto)]
+
 // The inputs of a program: standard input, or a file that an argument names, read into a lent buffer;
-// and the number that an argument spells. It promises that what was read lies within the buffer, and
-// which number a text is. Where an input cannot be read, standard error says why. What is done with the
-// bytes is left to the programs.
+// the arguments; and the number that an argument spells. It promises that what was read lies within the
+// buffer, and which number a text is. Where an input cannot be read, standard error says why. What is done
+// with the bytes is left to the programs.
 mod number;
 
-ghost use Rattle.io.specs.Counts.{IsPrefixLen};
+ghost use Rattle.inputs.specs.Counts.{IsPrefixLen};
 
-use libc::STDIN_FILENO;
 pub use number::{Number, number_of};
+use std::env::FillError;
+use std::fs::File;
+use std::io;
+use std::io::{Error, ErrorKind, Read};
+use std::rt::Env;
 
 // A byte more than the longest interchange, which is enough to see that an input is longer.
 pub const ROOM: usize = 32001;
+
+// Bytes enough for the name of any file.
+const NAME_ROOM: usize = 4096;
 
 // Where an input comes from; an argument is known by its number.
 #[derive(Clone, Copy)]
@@ -26,28 +35,57 @@ pub struct Input {
     pub count: usize,
 }
 
+// How many arguments the program was started with, its own name among them.
+pub fn argument_count(rt: &HostRuntime) -> usize {
+    for i in 0..usize::MAX {
+        if !is_argument(rt, i) {
+            return i;
+        }
+    }
+    usize::MAX
+}
+
+fn is_argument(rt: &HostRuntime, i: usize) -> bool {
+    match rt.arg(i, &mut []) {
+        Ok(_) => true,
+        Err(FillError::TooLong) => true,
+        Err(FillError::NotPresent) => false,
+    }
+}
+
+// Puts an argument at the start of the buffer and answers its length, or 0 where it is missing or longer
+// than the buffer.
+pub fn argument(rt: &HostRuntime, i: usize, buf: &mut [u8]) -> usize
+    ensures { IsPrefixLen result buf.new }
+{
+    match rt.arg(i, buf) {
+        Ok(n) => n,
+        Err(_) => 0,
+    }
+}
+
 // Reads until the input ends or the buffer is full.
-fn read_open(fd: i32, name: &[u8], buf: &mut [u8]) -> Input
+fn read_open<R: Read>(rt: &HostRuntime, reader: &mut R, name: &[u8], buf: &mut [u8]) -> Input
     ensures { IsPrefixLen result.count buf.new }
 {
     let mut done = 0;
     while done < buf.len() {
-        let got = libc::read(fd, &mut buf[done..]);
-        if got < 0 {
-            os::fail(name);
-            return Input {
-                is_read: false,
-                count: 0,
-            };
+        match reader.read(&mut buf[done..]) {
+            Ok(0) => {
+                return Input {
+                    is_read: true,
+                    count: done,
+                };
+            }
+            Ok(more) => done += more,
+            Err(error) => {
+                printing::fail(&rt.stderr(), name, error);
+                return Input {
+                    is_read: false,
+                    count: 0,
+                };
+            }
         }
-        let more = io::count(got, &buf[done..]);
-        if more == 0 {
-            return Input {
-                is_read: true,
-                count: done,
-            };
-        }
-        done += more;
     }
     Input {
         is_read: true,
@@ -55,37 +93,54 @@ fn read_open(fd: i32, name: &[u8], buf: &mut [u8]) -> Input
     }
 }
 
-fn read_argument(i: usize, buf: &mut [u8]) -> Input
-    ensures { IsPrefixLen result.count buf.new }
-{
-    let mut name = io::buffer();
-    let n = os::arg(i, &mut name);
-    if os::errno() != 0 {
-        // Longer than the name of any file: its first bytes are there.
-        os::fail(&name);
-        return Input {
-            is_read: false,
-            count: 0,
-        };
+// std opens a file by a name that is text.
+fn open_file(rt: &HostRuntime, name: &[u8]) -> io::Result<File> {
+    match str::from_utf8(name) {
+        Ok(text) => File::open(rt, text),
+        Err(_) => Err(Error::from(ErrorKind::InvalidFilename)),
     }
-    let fd = os::open_read(&name[..n]);
-    if fd < 0 {
-        os::fail(&name[..n]);
-        return Input {
-            is_read: false,
-            count: 0,
-        };
-    }
-    let input = read_open(fd, &name[..n], buf);
-    libc::close(fd);
-    input
 }
 
-pub fn read(source: Source, buf: &mut [u8]) -> Input
+// What std says of an argument that does not fit a buffer, as the system says it of a file's name.
+fn missing(why: FillError) -> Error {
+    match why {
+        FillError::NotPresent => Error::from_raw_os_error(22),
+        FillError::TooLong => Error::from_raw_os_error(36),
+    }
+}
+
+fn read_argument(rt: &HostRuntime, i: usize, buf: &mut [u8]) -> Input
+    ensures { IsPrefixLen result.count buf.new }
+{
+    let mut name = [0u8; NAME_ROOM];
+    let n = match rt.arg(i, &mut name) {
+        Ok(n) => n,
+        Err(why) => {
+            // Longer than the name of any file: its first bytes are there.
+            printing::fail(&rt.stderr(), &name, missing(why));
+            return Input {
+                is_read: false,
+                count: 0,
+            };
+        }
+    };
+    match open_file(rt, &name[..n]) {
+        Ok(mut file) => read_open(rt, &mut file, &name[..n], buf),
+        Err(error) => {
+            printing::fail(&rt.stderr(), &name[..n], error);
+            Input {
+                is_read: false,
+                count: 0,
+            }
+        }
+    }
+}
+
+pub fn read(rt: &HostRuntime, source: Source, buf: &mut [u8]) -> Input
     ensures { IsPrefixLen result.count buf.new }
 {
     match source {
-        Source::StandardInput => read_open(STDIN_FILENO, b"standard input", buf),
-        Source::Argument(i) => read_argument(i, buf),
+        Source::StandardInput => read_open(rt, &mut rt.stdin(), b"standard input", buf),
+        Source::Argument(i) => read_argument(rt, i, buf),
     }
 }

@@ -9,6 +9,9 @@ pub enum Number {
     NotOne,
 }
 
+// The byte of the digit 9.
+const NINE: u8 = 57;
+
 // Digits only, at least one of them; what 64 bits do not hold is no number of ours.
 pub fn number_of(text: &[u8]) -> Number
     ensures { result ≡ number_of text.now }
@@ -23,7 +26,7 @@ pub fn number_of(text: &[u8]) -> Number
         if b < 48 {
             return Number::NotOne;
         }
-        if 57 < b {
+        if NINE < b {
             return Number::NotOne;
         }
         let digit = b as usize - 48;

@@ -184,7 +184,7 @@ value_lists : ValueLists
 value_lists =
     record {
       kinds = listed_on;
-      bytes = values.bytes-are;
+      bytes = values.bytes_are;
       table = values.table_is;
       table_length = list_table_length;
       read_list_lem = values.read_list_lem;

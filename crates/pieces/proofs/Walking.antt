@@ -46,7 +46,7 @@ use Rattle.stage_opening.proofs.Runs.{refused_is, passed_is}
 use Rattle.tags.proofs.Reading.{through_hit, through_miss}
 use Rattle.pieces.specs.declared.Ending.{Ending}
 use Rattle.pieces.specs.declared.Ending.TheVariants.{AfterUnz, Stopped, FileEnd}
-use Rattle.pieces.specs.Walk.{ending, ending_of, ending_from, end_in, is_unz}
+use Rattle.pieces.specs.Walk.{ending, ending_of, ending_from, end_in, end_from, is_unz}
 
 -- UNZ, kind by kind
 unz_told : (kind : Kind) → is_unz kind ≡ is Unz kind
@@ -241,11 +241,41 @@ module _ (s : List ℕ) (some_byte : length s ≡ 0 → ⊥) {answer : Progress}
 
 -- ---- where it ends
 
-pub end_is : (s : List ℕ) → end_in s (ending_of s) ≡ piece_end s
-unfolding ending_of piece_end ending end_in maybe
-end_is s = step (unz_of s) (stop_of s)
-  where
-    step : (unz : Option Segment) (stop : Option Refusal) → end_in s (ending s unz stop) ≡ maybe (length s) (end_behind s) unz
-    step none none = refl
-    step none (some r) = refl
-    step (some g) stop = refl
+-- where a piece ends, by the first UNZ and by what stops the walk
+end_by : (s : List ℕ) (unz : Option Segment) (stop : Option Refusal) → end_in s (ending s unz stop) ≡ maybe (length s) (end_behind s) unz
+unfolding ending end_in maybe
+end_by s none none = refl
+end_by s none (some r) = refl
+end_by s (some g) stop = refl
+
+-- where the walk from a place ends, by how it ends
+pub end_walked : (c : Characters) (s : List ℕ) (at : ℕ) → end_in s (ending_from c s at) ≡ end_from c s at
+unfolding ending_from end_from
+end_walked c s at = end_by s (first_unz (segments (tokens_at c s at))) (worded (length s) (tokens_at c s at))
+
+module _ (s : List ℕ) {answer : Progress} (e : answer ≡ progress 2 3 s) where
+  -- 2 or 3 is met: the rest is one piece
+  pub end_unopened : {r : Refusal} → answer ≡ Refused r → length s ≡ piece_end s
+  unfolding piece_end unz_of is_unopened maybe
+  end_unopened {r} d = step (bad_advice s) (opens s) refl refl
+    where
+      step : (a b : Bool) → bad_advice s ≡ a → opens s ≡ b
+          → length s ≡ maybe (length s) (end_behind s) (if a || not b then none else first_unz (segments_of s))
+      step true b h k = refl
+      step false false h k = refl
+      step false true h k =
+          let z : ◌≡◌ {A = ℕ} 0 1 = cc (opening_passed s h k refl refl refl) in
+          absurd (omega arith)
+
+  -- neither is: the walk begins with the body
+  pub end_opened : {found : Found} → answer ≡ Passed found → end_from found.characters s found.start ≡ piece_end s
+  unfolding piece_end unz_of is_unopened end_from segments_of body_tokens tokens_at body found_by
+  end_opened {found} d = step (bad_advice s) (opens s) refl refl
+    where
+      step : (a b : Bool) → bad_advice s ≡ a → opens s ≡ b
+          → end_from found.characters s found.start
+          ≡ maybe (length s) (end_behind s) (if a || not b then none else first_unz (segments_of s))
+      step true b h k = let z : ◌≡◌ {A = ℕ} 0 1 = cc (opening_unusable s h) in absurd (omega arith)
+      step false false h k = let z : ◌≡◌ {A = ℕ} 0 1 = cc (opening_missing s h k refl) in absurd (omega arith)
+      step false true h k =
+          ap (λ (f : Found). end_from f.characters s f.start) (passed_is s 2 3 e d).1

@@ -25,6 +25,10 @@ ending_of rest = ending rest (unz_of rest) (stop_of rest)
 unfoldable pub ending_from : Characters → List ℕ → ℕ → Ending
 ending_from c rest at = ending rest (first_unz (segments (tokens_at c rest at))) (worded (length rest) (tokens_at c rest at))
 
+-- where the piece ends, of which a segment begins at the place
+unfoldable pub end_from : Characters → List ℕ → ℕ → ℕ
+end_from c rest at = maybe (length rest) (end_behind rest) (first_unz (segments (tokens_at c rest at)))
+
 -- where it ends
 unfoldable pub end_in : List ℕ → Ending → ℕ
 end_in rest (AfterUnz end) = end

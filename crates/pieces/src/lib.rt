@@ -5,7 +5,7 @@
 
 ghost use Rattle.std.specs.Prelude.{◌≡◌};
 ghost use Rattle.mailbox_files.specs.Pieces.{piece_end};
-ghost use Rattle.pieces.specs.Walk.{ending_of, ending_from, end_in, is_unz};
+ghost use Rattle.pieces.specs.Walk.{ending_of, ending_from, end_in, end_from, is_unz};
 
 use characters::Characters;
 use refusals::{Fault, Refusal};
@@ -45,7 +45,7 @@ fn is_unz(kind: Kind) -> bool
 }
 
 // How the piece ends of which a segment begins at `start`.
-fn unz_end(rest: &[u8], c: Characters, start: usize) -> Ending
+fn unz_ending(rest: &[u8], c: Characters, start: usize) -> Ending
     ensures { result ≡ ending_from c rest.now start }
 {
     let mut at = start;
@@ -82,7 +82,7 @@ pub fn first_piece(rest: &[u8]) -> Ending
         Progress::Refused(refusal) => Ending::Stopped(refusal),
         Progress::Passed(found) => {
             let c = found.characters;
-            unz_end(rest, c, found.start)
+            unz_ending(rest, c, found.start)
         }
     }
 }
@@ -98,9 +98,23 @@ pub fn end_in(rest: &[u8], ending: Ending) -> usize
     }
 }
 
+// The place behind the first UNZ from a segment's start on, and behind its breaks; the end of the rest
+// where a segment before it, or it, meets a fault 4 to 6, or where there is none.
+fn unz_end(rest: &[u8], c: Characters, start: usize) -> usize
+    ensures { result ≡ end_from c rest.now start }
+{
+    end_in(rest, unz_ending(rest, c, start))
+}
+
 // Where the first piece of the rest of a file ends.
 pub fn piece_end(rest: &[u8]) -> usize
     ensures { result ≡ piece_end rest.now }
 {
-    end_in(rest, first_piece(rest))
+    match stage_opening::opening_of(rest) {
+        Progress::Refused(_) => rest.len(),
+        Progress::Passed(found) => {
+            let c = found.characters;
+            unz_end(rest, c, found.start)
+        }
+    }
 }

@@ -1,40 +1,66 @@
-// What the programs print of an answer: words, the paper's number of a refusal and its place, one line
-// an answer. It promises nothing of what is written, which no contract can say; where standard output
-// fails, standard error says why.
-use answers::Compared;
-use libc::STDOUT_FILENO;
-use refusals::Refusal;
+#![tactic(auto)]
 
-pub fn print_line(words: &[u8]) -> bool {
-    io::write_all(STDOUT_FILENO, words) && io::write_all(STDOUT_FILENO, b"\n")
+// What the programs print of an answer: words, the paper's number of a refusal and its place, one line
+// an answer; and what they say on standard error where something fails. It promises nothing of what is
+// written, which no contract can say.
+use answers::Compared;
+use refusals::Refusal;
+use std::io;
+use std::io::{Cursor, Print, Write};
+
+pub fn print_line(rt: &impl Print, words: &[u8]) -> io::Result<()> {
+    rt.write_all(words)?;
+    rt.write_all(b"\n")
 }
 
 // A space and a number.
-pub fn print_value(value: u64) -> bool {
-    io::write_all(STDOUT_FILENO, b" ") && io::print_decimal(STDOUT_FILENO, value)
+pub fn print_value(rt: &impl Print, value: u64) -> io::Result<()> {
+    print!(rt; " {value}")
 }
 
 // The line of a refusal, after the words that it begins with.
-pub fn print_refused(words: &[u8], refusal: Refusal) -> bool {
+pub fn print_refused(rt: &impl Print, words: &[u8], refusal: Refusal) -> io::Result<()> {
     let fault = refusal.fault;
-    io::write_all(STDOUT_FILENO, words)
-        && print_value(refusing::number_of(fault) as u64)
-        && print_value(refusal.place as u64)
-        && io::write_all(STDOUT_FILENO, b"\n")
+    rt.write_all(words)?;
+    print_value(rt, refusing::number_of(fault) as u64)?;
+    print_value(rt, refusal.place as u64)?;
+    rt.write_all(b"\n")
 }
 
 // "same, different, or refusal with 1st or 2nd input"
-pub fn print_compared(compared: Compared) -> bool {
+pub fn print_compared(rt: &impl Print, compared: Compared) -> io::Result<()> {
     match compared {
-        Compared::Same => print_line(b"same"),
-        Compared::Different => print_line(b"different"),
-        Compared::FirstRefused(refusal) => print_refused(b"refused 1", refusal),
-        Compared::SecondRefused(refusal) => print_refused(b"refused 2", refusal),
+        Compared::Same => print_line(rt, b"same"),
+        Compared::Different => print_line(rt, b"different"),
+        Compared::FirstRefused(refusal) => print_refused(rt, b"refused 1", refusal),
+        Compared::SecondRefused(refusal) => print_refused(rt, b"refused 2", refusal),
     }
 }
 
-pub fn report(is_printed: bool) {
-    if !is_printed {
-        os::fail(b"standard output");
+// Where standard output failed, standard error says why.
+pub fn report(errors: &impl Print, printed: io::Result<()>) {
+    if let Err(error) = printed {
+        fail(errors, b"standard output", error);
+    }
+}
+
+// A line of what failed, as the caller names it, a colon and why. What cannot be said there is lost.
+pub fn fail(errors: &impl Print, what: &[u8], error: io::Error) {
+    let _ = errors.write_all(what);
+    let _ = errors.write_all(b": ");
+    let _ = print_reason(errors, error);
+    let _ = errors.write_all(b"\n");
+}
+
+// The error's words, without the number of the system's that std puts after them.
+fn print_reason(errors: &impl Print, error: io::Error) -> io::Result<()> {
+    let mut said = Cursor::new([0u8; 128]);
+    let _ = write!(said, "{error}");
+    let n = (said.position() as usize).min(128);
+    let all = said.into_inner();
+    let text = str::from_utf8(&all[..n]).unwrap_or("");
+    match text.split_once(" (os error ") {
+        Some((reason, _)) => errors.write_all(reason.as_bytes()),
+        None => errors.write_all(text.as_bytes()),
     }
 }

@@ -105,10 +105,10 @@ module _ (c : Characters) (u : usable c ≡ true) (s : List ℕ) where
   lexed_rest : {after : Bool} {p : ℕ} {body : Bytes} (before rest : List Token) → Lexed c after p body (before ++ rest) → drop p s ≡ body
       → (q : ℕ) × (more : Bytes) × Lexed c false q more rest × (drop q s ≡ more)
   lexed_rest [] rest l e = at_first l e
-  lexed_rest (t ∷ before) rest l e =
+  lexed_rest {after = after} {p = p} {body = body} (t ∷ before) rest l e =
       let first = at_first l e in
       let others = past_first first.2 refl first.3 in
-      lexed_rest before rest others.2 others.3
+      lexed_rest {after = ends 0 t} {p = others.0} {body = others.1} before rest others.2 others.3
 
   ended_rest : (before rest : List Token) → is_empty rest ≡ false → ends_inside (before ++ rest) ≡ false → ended_by 0 rest ≡ true
   unfolding ends_inside ended_by last_or is_empty

@@ -1,3 +1,5 @@
+#![tactic(auto)]
+
 // Acknowledges interchanges (request 2026-11): each file that an argument names, in order, or standard
 // input where there is no argument. What a caller lends is fixed here: the date and time `260106:0800`,
 // the control reference `A1` and the message identification `CONTRL:2:2:UN`. It prints a line for each:
@@ -8,6 +10,8 @@ ghost use Rattle.run_acknowledge.specs.Told.{Fitting};
 use answers::Stored;
 use inputs::{ROOM, Source};
 use printing::{print_line, print_refused};
+use std::io;
+use std::io::Print;
 
 // The acknowledgement with the lent values of this program.
 fn acknowledge_into(input: &[u8], output: &mut [u8]) -> Stored
@@ -26,38 +30,38 @@ fn acknowledge_into(input: &[u8], output: &mut [u8]) -> Stored
 }
 
 // No text is longer than 32,000 bytes, so that this buffer is never too short.
-fn acknowledge_bytes(input: &[u8]) -> bool {
+fn acknowledge_bytes(rt: &impl Print, input: &[u8]) -> io::Result<()> {
     let mut output = [0u8; refusals::MOST_BYTES];
     match acknowledge_into(input, &mut output) {
-        Stored::Length(n) => print_line(&output[..n]),
-        Stored::Refused(refusal) => print_refused(b"refused", refusal),
+        Stored::Length(n) => print_line(rt, &output[..n]),
+        Stored::Refused(refusal) => print_refused(rt, b"refused", refusal),
     }
 }
 
-fn acknowledge_input(source: Source) {
+fn acknowledge_input(rt: &HostRuntime, source: Source) {
     let mut buf = [0u8; ROOM];
-    let input = inputs::read(source, &mut buf);
+    let input = inputs::read(rt, source, &mut buf);
     if !input.is_read {
-        printing::report(print_line(b"unreadable"));
+        printing::report(&rt.stderr(), print_line(rt, b"unreadable"));
         return;
     }
     let n = input.count;
-    printing::report(acknowledge_bytes(&buf[..n]));
+    printing::report(&rt.stderr(), acknowledge_bytes(rt, &buf[..n]));
 }
 
-fn acknowledge_arguments(count: usize) {
+fn acknowledge_arguments(rt: &HostRuntime, count: usize) {
     let mut i = 1;
     while i < count {
-        acknowledge_input(Source::Argument(i));
+        acknowledge_input(rt, Source::Argument(i));
         i += 1;
     }
 }
 
-fn main() {
-    let count = os::arg_count();
+fn main(rt: HostRuntime) {
+    let count = inputs::argument_count(&rt);
     if count < 2 {
-        acknowledge_input(Source::StandardInput);
+        acknowledge_input(&rt, Source::StandardInput);
         return;
     }
-    acknowledge_arguments(count);
+    acknowledge_arguments(&rt, count);
 }

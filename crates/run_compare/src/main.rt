@@ -1,3 +1,5 @@
+#![tactic(auto)]
+
 // Compares interchanges: the files that its arguments name, two by two. It prints a line for each two,
 // `same KEPT` where KEPT is 1 or 2, the one that Keep hands back; `different`; or
 // `refused INPUT NUMBER PLACE` where INPUT is 1 or 2. The line of two of which one cannot be read is
@@ -7,62 +9,63 @@ ghost use Rattle.std.specs.Prelude.{◌*◌, ◌<◌, ◌^◌};
 
 use answers::Compared;
 use inputs::{ROOM, Source};
-use libc::STDERR_FILENO;
 use printing::{print_compared, print_line};
+use std::io;
+use std::io::Print;
 
 // Keep hands back the second only where it is shorter, so that the length tells which it is.
-fn print_kept<'a>(first: &'a [u8], second: &'a [u8]) -> bool {
+fn print_kept<'a>(rt: &impl Print, first: &'a [u8], second: &'a [u8]) -> io::Result<()> {
     let kept = compare::keep(first, second);
     if kept.len() < first.len() {
-        return print_line(b"same 2");
+        return print_line(rt, b"same 2");
     }
-    print_line(b"same 1")
+    print_line(rt, b"same 1")
 }
 
-fn print_pair<'a>(first: &'a [u8], second: &'a [u8]) -> bool {
+fn print_pair<'a>(rt: &impl Print, first: &'a [u8], second: &'a [u8]) -> io::Result<()> {
     let compared = compare::compare(first, second);
     match compared {
-        Compared::Same => print_kept(first, second),
-        Compared::Different => print_compared(compared),
-        Compared::FirstRefused(_) => print_compared(compared),
-        Compared::SecondRefused(_) => print_compared(compared),
+        Compared::Same => print_kept(rt, first, second),
+        Compared::Different => print_compared(rt, compared),
+        Compared::FirstRefused(_) => print_compared(rt, compared),
+        Compared::SecondRefused(_) => print_compared(rt, compared),
     }
 }
 
-fn compare_arguments(first: usize, second: usize) {
+fn compare_arguments(rt: &HostRuntime, first: usize, second: usize) {
     let mut a = [0u8; ROOM];
     let mut b = [0u8; ROOM];
-    let one = inputs::read(Source::Argument(first), &mut a);
+    let one = inputs::read(rt, Source::Argument(first), &mut a);
     if !one.is_read {
-        printing::report(print_line(b"unreadable 1"));
+        printing::report(&rt.stderr(), print_line(rt, b"unreadable 1"));
         return;
     }
-    let two = inputs::read(Source::Argument(second), &mut b);
+    let two = inputs::read(rt, Source::Argument(second), &mut b);
     if !two.is_read {
-        printing::report(print_line(b"unreadable 2"));
+        printing::report(&rt.stderr(), print_line(rt, b"unreadable 2"));
         return;
     }
     let n = one.count;
     let m = two.count;
-    printing::report(print_pair(&a[..n], &b[..m]));
+    printing::report(&rt.stderr(), print_pair(rt, &a[..n], &b[..m]));
 }
 
-fn compare_pairs(count: usize)
+fn compare_pairs(rt: &HostRuntime, count: usize)
     requires { 2 * count < 2 ^ 64 }
 {
     let mut pair = 0;
     while pair < count {
-        compare_arguments(2 * pair + 1, 2 * pair + 2);
+        compare_arguments(rt, 2 * pair + 1, 2 * pair + 2);
         pair += 1;
     }
 }
 
 // The first argument is the program's name.
-fn main() {
-    let count = os::arg_count();
+fn main(rt: HostRuntime) {
+    let count = inputs::argument_count(&rt);
     if count < 3 || count % 2 == 0 {
-        io::write_all(STDERR_FILENO, b"usage: run_compare FIRST SECOND ..\n");
+        let _ = rt.stderr().write_all(b"usage: run_compare FIRST SECOND ..\n");
         return;
     }
-    compare_pairs(count / 2);
+    compare_pairs(&rt, count / 2);
 }

@@ -1,55 +1,58 @@
+#![tactic(auto)]
+
 // Judges interchanges: each file that an argument names, in order, or standard input where there is
 // no argument. It prints a line for each, `accepted SEGMENTS MESSAGES GROUPS LENGTH` with the length
 // of the normal form, or `refused NUMBER PLACE`. The line of an input that cannot be read is
 // `unreadable`, and standard error says why. A program in Rattle ends with status 0 whatever it says.
 use answers::{Figures, Judged};
 use inputs::{ROOM, Source};
-use libc::STDOUT_FILENO;
 use printing::{print_line, print_refused, print_value};
+use std::io;
+use std::io::Print;
 
-fn print_accepted(figures: Figures) -> bool {
+fn print_accepted(rt: &impl Print, figures: Figures) -> io::Result<()> {
     let segments = figures.segments;
     let messages = figures.messages;
     let groups = figures.groups;
-    io::write_all(STDOUT_FILENO, b"accepted")
-        && print_value(segments.0 as u64)
-        && print_value(messages.0 as u64)
-        && print_value(groups.0 as u64)
-        && print_value(figures.length as u64)
-        && io::write_all(STDOUT_FILENO, b"\n")
+    rt.write_all(b"accepted")?;
+    print_value(rt, segments.0 as u64)?;
+    print_value(rt, messages.0 as u64)?;
+    print_value(rt, groups.0 as u64)?;
+    print_value(rt, figures.length as u64)?;
+    rt.write_all(b"\n")
 }
 
-fn print_judged(judged: Judged) -> bool {
+fn print_judged(rt: &impl Print, judged: Judged) -> io::Result<()> {
     match judged {
-        Judged::Accepted(interchange) => print_accepted(interchange),
-        Judged::Refused(refusal) => print_refused(b"refused", refusal),
+        Judged::Accepted(interchange) => print_accepted(rt, interchange),
+        Judged::Refused(refusal) => print_refused(rt, b"refused", refusal),
     }
 }
 
-fn judge_input(source: Source) {
+fn judge_input(rt: &HostRuntime, source: Source) {
     let mut buf = [0u8; ROOM];
-    let input = inputs::read(source, &mut buf);
+    let input = inputs::read(rt, source, &mut buf);
     if !input.is_read {
-        printing::report(print_line(b"unreadable"));
+        printing::report(&rt.stderr(), print_line(rt, b"unreadable"));
         return;
     }
     let n = input.count;
-    printing::report(print_judged(judge::judge(&buf[..n])));
+    printing::report(&rt.stderr(), print_judged(rt, judge::judge(&buf[..n])));
 }
 
-fn judge_arguments(count: usize) {
+fn judge_arguments(rt: &HostRuntime, count: usize) {
     let mut i = 1;
     while i < count {
-        judge_input(Source::Argument(i));
+        judge_input(rt, Source::Argument(i));
         i += 1;
     }
 }
 
-fn main() {
-    let count = os::arg_count();
+fn main(rt: HostRuntime) {
+    let count = inputs::argument_count(&rt);
     if count < 2 {
-        judge_input(Source::StandardInput);
+        judge_input(&rt, Source::StandardInput);
         return;
     }
-    judge_arguments(count);
+    judge_arguments(&rt, count);
 }

@@ -1,3 +1,5 @@
+#![tactic(auto)]
+
 // Locates a value: `locate SEGMENT ELEMENT REPEAT COMPONENT [FILE ..]` looks in each file, or in standard input
 // where none is named, for the value with these numbers, each from 0 in the contents (element 0 is the
 // tag). It prints a line for each, `at OFFSET LENGTH VALUE` with the value as it is spelled there;
@@ -6,8 +8,9 @@
 // to nine digits. A program in Rattle ends with status 0 whatever it says.
 use answers::Located;
 use inputs::{Number, ROOM, Source};
-use libc::{STDERR_FILENO, STDOUT_FILENO};
 use printing::{print_line, print_refused, print_value};
+use std::io;
+use std::io::Print;
 
 // The numbers of a segment, an element, a repeat and a component.
 #[derive(Clone, Copy)]
@@ -18,75 +21,75 @@ struct Numbers {
     component: usize,
 }
 
-fn print_at(offset: usize, value: &[u8]) -> bool {
-    io::write_all(STDOUT_FILENO, b"at")
-        && print_value(offset as u64)
-        && print_value(value.len() as u64)
-        && io::write_all(STDOUT_FILENO, b" ")
-        && print_line(value)
+fn print_at(rt: &impl Print, offset: usize, value: &[u8]) -> io::Result<()> {
+    rt.write_all(b"at")?;
+    print_value(rt, offset as u64)?;
+    print_value(rt, value.len() as u64)?;
+    rt.write_all(b" ")?;
+    print_line(rt, value)
 }
 
-fn print_located(input: &[u8], v: Numbers) -> bool {
+fn print_located(rt: &impl Print, input: &[u8], v: Numbers) -> io::Result<()> {
     match locate::locate(input, v.segment, v.element, v.repeat, v.component) {
         Located::At { offset, length: _ } => {
             print_at(
+                rt,
                 offset,
                 locate::part(input, v.segment, v.element, v.repeat, v.component),
             )
         }
-        Located::Absent => print_line(b"absent"),
-        Located::Refused(refusal) => print_refused(b"refused", refusal),
+        Located::Absent => print_line(rt, b"absent"),
+        Located::Refused(refusal) => print_refused(rt, b"refused", refusal),
     }
 }
 
-fn locate_input(v: Numbers, source: Source) {
+fn locate_input(rt: &HostRuntime, v: Numbers, source: Source) {
     let mut buf = [0u8; ROOM];
-    let input = inputs::read(source, &mut buf);
+    let input = inputs::read(rt, source, &mut buf);
     if !input.is_read {
-        printing::report(print_line(b"unreadable"));
+        printing::report(&rt.stderr(), print_line(rt, b"unreadable"));
         return;
     }
     let n = input.count;
-    printing::report(print_located(&buf[..n], v));
+    printing::report(&rt.stderr(), print_located(rt, &buf[..n], v));
 }
 
-fn locate_arguments(v: Numbers, count: usize) {
+fn locate_arguments(rt: &HostRuntime, v: Numbers, count: usize) {
     let mut i = 5;
     while i < count {
-        locate_input(v, Source::Argument(i));
+        locate_input(rt, v, Source::Argument(i));
         i += 1;
     }
 }
 
 // An argument that is missing, or longer than this buffer, is cut to no byte, and is no number either.
-fn argument(i: usize) -> Number {
+fn argument(rt: &HostRuntime, i: usize) -> Number {
     let mut text = [0u8; 32];
-    let n = os::arg(i, &mut text);
+    let n = inputs::argument(rt, i, &mut text);
     inputs::number_of(&text[..n])
 }
 
-fn say_usage() {
-    io::write_all(
-        STDERR_FILENO,
-        b"usage: run_locate SEGMENT ELEMENT REPEAT COMPONENT [FILE ..]\n",
-    );
+fn say_usage(rt: &HostRuntime) {
+    let _ = rt
+        .stderr()
+        .write_all(b"usage: run_locate SEGMENT ELEMENT REPEAT COMPONENT [FILE ..]\n");
 }
 
-fn main() {
-    let Number::Is(segment) = argument(1) else {
-        say_usage();
+fn main(rt: HostRuntime) {
+    let Number::Is(segment) = argument(&rt, 1) else {
+        say_usage(&rt);
         return;
     };
-    let Number::Is(element) = argument(2) else {
-        say_usage();
+    let Number::Is(element) = argument(&rt, 2) else {
+        say_usage(&rt);
         return;
     };
-    let Number::Is(repeat) = argument(3) else {
-        say_usage();
+    let Number::Is(repeat) = argument(&rt, 3) else {
+        say_usage(&rt);
         return;
     };
-    let Number::Is(component) = argument(4) else {
-        say_usage();
+    let Number::Is(component) = argument(&rt, 4) else {
+        say_usage(&rt);
         return;
     };
     let v = Numbers {
@@ -95,10 +98,10 @@ fn main() {
         repeat,
         component,
     };
-    let count = os::arg_count();
+    let count = inputs::argument_count(&rt);
     if count < 6 {
-        locate_input(v, Source::StandardInput);
+        locate_input(&rt, v, Source::StandardInput);
         return;
     }
-    locate_arguments(v, count);
+    locate_arguments(&rt, v, count);
 }

@@ -1,3 +1,5 @@
+#![tactic(auto)]
+
 // Respells interchanges: `respell SERVICE [FILE ..]` reads the values of each file, or of standard input
 // where none is named, and writes them under the six bytes SERVICE, as an advice has them: `;*.! ~`.
 // It prints the text written, and on the next line what Compare says of the input and that text: `same`,
@@ -9,9 +11,10 @@ ghost use Rattle.run_respell.specs.Respelled.{Fitting};
 
 use answers::{Compared, Listed, Stored};
 use inputs::{ROOM, Source};
-use libc::{STDERR_FILENO, STDOUT_FILENO};
 use printing::{print_compared, print_line, print_refused};
 use refusals::Refusal;
+use std::io;
+use std::io::Print;
 
 // How long the text is that was written, or what refused the input or the text.
 #[derive(Clone, Copy)]
@@ -48,8 +51,15 @@ fn same_forms(first: &[u8], second: &[u8]) -> Compared {
     Compared::Different
 }
 
-fn print_text(text: &[u8], buf: &mut [u8], count: usize, spare: &mut [u8]) -> bool {
-    print_line(text) && print_compared(compare_in_place(buf, count, spare, text))
+fn print_text(
+    rt: &impl Print,
+    text: &[u8],
+    buf: &mut [u8],
+    count: usize,
+    spare: &mut [u8],
+) -> io::Result<()> {
+    print_line(rt, text)?;
+    print_compared(rt, compare_in_place(buf, count, spare, text))
 }
 
 fn write_values(service: &[u8], bytes: &[u8], table: &[u32], output: &mut [u8]) -> Respelled
@@ -80,34 +90,34 @@ fn respell_into(service: &[u8], input: &[u8], bytes: &mut [u8], output: &mut [u8
 // needs besides: the input, the table, the text, and one that has the values first and then a normal
 // form, 480,001 bytes in all. No text is longer than 32,000 bytes, so that Write never finds its buffer
 // too short.
-fn respell(service: &[u8], buf: &mut [u8], count: usize) -> bool {
+fn respell(rt: &impl Print, service: &[u8], buf: &mut [u8], count: usize) -> io::Result<()> {
     let mut output = [0u8; refusals::MOST_BYTES];
     let mut spare = [0u8; refusals::MOST_BYTES];
     if buf.len() < count {
-        return false;
+        return Err(io::Error::from(io::ErrorKind::InvalidInput));
     }
     match respell_into(service, &buf[..count], &mut spare, &mut output) {
-        Respelled::Text(n) => print_text(&output[..n], buf, count, &mut spare),
-        Respelled::InputRefused(refusal) => print_refused(b"refused input", refusal),
-        Respelled::TextRefused(refusal) => print_refused(b"refused text", refusal),
+        Respelled::Text(n) => print_text(rt, &output[..n], buf, count, &mut spare),
+        Respelled::InputRefused(refusal) => print_refused(rt, b"refused input", refusal),
+        Respelled::TextRefused(refusal) => print_refused(rt, b"refused text", refusal),
     }
 }
 
-fn respell_input(service: &[u8], source: Source) {
+fn respell_input(rt: &HostRuntime, service: &[u8], source: Source) {
     let mut buf = [0u8; ROOM];
-    let input = inputs::read(source, &mut buf);
+    let input = inputs::read(rt, source, &mut buf);
     if !input.is_read {
-        printing::report(print_line(b"unreadable"));
+        printing::report(&rt.stderr(), print_line(rt, b"unreadable"));
         return;
     }
     let n = input.count;
-    printing::report(respell(service, &mut buf, n));
+    printing::report(&rt.stderr(), respell(rt, service, &mut buf, n));
 }
 
-fn respell_arguments(service: &[u8], count: usize) {
+fn respell_arguments(rt: &HostRuntime, service: &[u8], count: usize) {
     let mut i = 2;
     while i < count {
-        respell_input(service, Source::Argument(i));
+        respell_input(rt, service, Source::Argument(i));
         i += 1;
     }
 }
@@ -124,21 +134,20 @@ fn are_usable(service: &[u8]) -> bool {
     }
 }
 
-fn main() {
+fn main(rt: HostRuntime) {
     // An argument that is longer is cut to no byte, and is no service either.
     let mut service = [0u8; 8];
-    let n = os::arg(1, &mut service);
+    let n = inputs::argument(&rt, 1, &mut service);
     if !are_usable(&service[..n]) {
-        io::write_all(
-            STDERR_FILENO,
+        let _ = rt.stderr().write_all(
             b"usage: run_respell SERVICE [FILE ..], where SERVICE is six usable bytes as ';*.! ~'\n",
         );
         return;
     }
-    let count = os::arg_count();
+    let count = inputs::argument_count(&rt);
     if count < 3 {
-        respell_input(&service[..n], Source::StandardInput);
+        respell_input(&rt, &service[..n], Source::StandardInput);
         return;
     }
-    respell_arguments(&service[..n], count);
+    respell_arguments(&rt, &service[..n], count);
 }

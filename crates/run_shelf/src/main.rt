@@ -1,3 +1,5 @@
+#![tactic(auto)]
+
 // Plays a history of a shelf: `run_shelf SIZE [put FILE | get SLOT | remove SLOT | slots - | sums - | carry - |
 // back -] ..` starts an empty shelf of SIZE bytes and does what the arguments say, in order. Where one of them is
 // no such word, or a word has no operand that it can use, nothing is done, and standard error says how the program
@@ -6,87 +8,90 @@
 // is `unreadable`, and standard error says why. A program in Rattle ends with status 0 whatever it says.
 use answers::Stored;
 use inputs::{Number, ROOM, Source};
-use libc::{STDERR_FILENO, STDOUT_FILENO};
 use printing::{print_line, print_refused, print_value};
 use refusals::Outcome;
 use shelves::{Shelved, Slots, TwoSums};
+use std::io;
+use std::io::Print;
 
 // A word, and a number after it.
-fn print_number(word: &[u8], value: usize) -> bool {
-    io::write_all(STDOUT_FILENO, word) && print_value(value as u64) && print_line(b"")
+fn print_number(rt: &impl Print, word: &[u8], value: usize) -> io::Result<()> {
+    rt.write_all(word)?;
+    print_value(rt, value as u64)?;
+    print_line(rt, b"")
 }
 
-fn print_shelved(shelved: Shelved) -> bool {
+fn print_shelved(rt: &impl Print, shelved: Shelved) -> io::Result<()> {
     match shelved {
-        Shelved::New(slot) => print_number(b"new", slot),
-        Shelved::Copy(slot) => print_number(b"copy", slot),
-        Shelved::Refused(refusal) => print_refused(b"refused", refusal),
+        Shelved::New(slot) => print_number(rt, b"new", slot),
+        Shelved::Copy(slot) => print_number(rt, b"copy", slot),
+        Shelved::Refused(refusal) => print_refused(rt, b"refused", refusal),
     }
 }
 
-fn print_slots(slots: Slots) -> bool {
+fn print_slots(rt: &impl Print, slots: Slots) -> io::Result<()> {
     match slots {
         Slots::Numbers {
             occupied,
             lowest_free,
         } => {
-            io::write_all(STDOUT_FILENO, b"slots")
-                && print_value(occupied as u64)
-                && print_value(lowest_free as u64)
-                && print_line(b"")
+            rt.write_all(b"slots")?;
+            print_value(rt, occupied as u64)?;
+            print_value(rt, lowest_free as u64)?;
+            print_line(rt, b"")
         }
-        Slots::Refused(refusal) => print_refused(b"refused", refusal),
+        Slots::Refused(refusal) => print_refused(rt, b"refused", refusal),
     }
 }
 
-fn print_sums(sums: TwoSums) -> bool {
+fn print_sums(rt: &impl Print, sums: TwoSums) -> io::Result<()> {
     match sums {
         TwoSums::Numbers { held, duplicates } => {
-            io::write_all(STDOUT_FILENO, b"sums")
-                && print_value(held as u64)
-                && print_value(duplicates as u64)
-                && print_line(b"")
+            rt.write_all(b"sums")?;
+            print_value(rt, held as u64)?;
+            print_value(rt, duplicates as u64)?;
+            print_line(rt, b"")
         }
-        TwoSums::Refused(refusal) => print_refused(b"refused", refusal),
+        TwoSums::Refused(refusal) => print_refused(rt, b"refused", refusal),
     }
 }
 
-fn print_removed(stored: Stored) -> bool {
+fn print_removed(rt: &impl Print, stored: Stored) -> io::Result<()> {
     match stored {
-        Stored::Length(n) => print_number(b"removed", n),
-        Stored::Refused(refusal) => print_refused(b"refused", refusal),
+        Stored::Length(n) => print_number(rt, b"removed", n),
+        Stored::Refused(refusal) => print_refused(rt, b"refused", refusal),
     }
 }
 
-fn print_got(s: &[u8], slot: usize) -> bool {
+fn print_got(rt: &impl Print, s: &[u8], slot: usize) -> io::Result<()> {
     match shelf::measure(s, slot) {
-        Stored::Length(_) => print_line(shelf::get(s, slot)),
-        Stored::Refused(refusal) => print_refused(b"refused", refusal),
+        Stored::Length(_) => print_line(rt, shelf::get(s, slot)),
+        Stored::Refused(refusal) => print_refused(rt, b"refused", refusal),
     }
 }
 
-fn put_file(s: &mut [u8], argument: usize) -> bool {
+fn put_file(rt: &HostRuntime, s: &mut [u8], argument: usize) -> io::Result<()> {
     let mut buf = [0u8; ROOM];
-    let input = inputs::read(Source::Argument(argument), &mut buf);
+    let input = inputs::read(rt, Source::Argument(argument), &mut buf);
     if !input.is_read {
-        return print_line(b"unreadable");
+        return print_line(rt, b"unreadable");
     }
     let n = input.count;
-    print_shelved(shelf::put(s, &buf[..n]))
+    print_shelved(rt, shelf::put(s, &buf[..n]))
 }
 
 // The number that an argument spells. One that is missing, or longer than this buffer, is cut to no byte, and is
 // no number either.
-fn number_at(argument: usize) -> Number {
+fn number_at(rt: &HostRuntime, argument: usize) -> Number {
     let mut word = [0u8; 32];
-    let n = os::arg(argument, &mut word);
+    let n = inputs::argument(rt, argument, &mut word);
     inputs::number_of(&word[..n])
 }
 
-fn print_done(outcome: Outcome, done: &[u8]) -> bool {
+fn print_done(rt: &impl Print, outcome: Outcome, done: &[u8]) -> io::Result<()> {
     match outcome {
-        Outcome::Passed => print_line(done),
-        Outcome::Failed(refusal) => print_refused(b"refused", refusal),
+        Outcome::Passed => print_line(rt, done),
+        Outcome::Failed(refusal) => print_refused(rt, b"refused", refusal),
     }
 }
 
@@ -103,15 +108,15 @@ enum Step {
     NotOne,
 }
 
-fn get_at(argument: usize) -> Step {
-    match number_at(argument) {
+fn get_at(rt: &HostRuntime, argument: usize) -> Step {
+    match number_at(rt, argument) {
         Number::Is(slot) => Step::Get(slot),
         Number::NotOne => Step::NotOne,
     }
 }
 
-fn remove_at(argument: usize) -> Step {
-    match number_at(argument) {
+fn remove_at(rt: &HostRuntime, argument: usize) -> Step {
+    match number_at(rt, argument) {
         Number::Is(slot) => Step::Remove(slot),
         Number::NotOne => Step::NotOne,
     }
@@ -134,23 +139,23 @@ fn plain_step(word: &[u8]) -> Step {
     Step::NotOne
 }
 
-fn is_dash(argument: usize) -> bool {
+fn is_dash(rt: &HostRuntime, argument: usize) -> bool {
     let mut operand = [0u8; 2];
-    let n = os::arg(argument, &mut operand);
+    let n = inputs::argument(rt, argument, &mut operand);
     texts::equal(&operand[..n], b"-")
 }
 
-fn step_of(word: &[u8], argument: usize) -> Step {
+fn step_of(rt: &HostRuntime, word: &[u8], argument: usize) -> Step {
     if texts::equal(word, b"put") {
         return Step::Put(argument);
     }
     if texts::equal(word, b"get") {
-        return get_at(argument);
+        return get_at(rt, argument);
     }
     if texts::equal(word, b"remove") {
-        return remove_at(argument);
+        return remove_at(rt, argument);
     }
-    if is_dash(argument) {
+    if is_dash(rt, argument) {
         return plain_step(word);
     }
     Step::NotOne
@@ -158,14 +163,14 @@ fn step_of(word: &[u8], argument: usize) -> Step {
 
 // The step of a word and of the argument after it. A word that is longer than this buffer is cut to no byte, and
 // is none of ours.
-fn step_at(word: usize, argument: usize) -> Step {
+fn step_at(rt: &HostRuntime, word: usize, argument: usize) -> Step {
     let mut letters = [0u8; 8];
-    let n = os::arg(word, &mut letters);
-    step_of(&letters[..n], argument)
+    let n = inputs::argument(rt, word, &mut letters);
+    step_of(rt, &letters[..n], argument)
 }
 
-fn is_step(word: usize, argument: usize) -> bool {
-    match step_at(word, argument) {
+fn is_step(rt: &HostRuntime, word: usize, argument: usize) -> bool {
+    match step_at(rt, word, argument) {
         Step::Put(_) => true,
         Step::Get(_) => true,
         Step::Remove(_) => true,
@@ -177,28 +182,28 @@ fn is_step(word: usize, argument: usize) -> bool {
     }
 }
 
-fn do_step(s: &mut [u8], step: Step) -> bool {
+fn do_step(rt: &HostRuntime, s: &mut [u8], step: Step) -> io::Result<()> {
     match step {
-        Step::Put(argument) => put_file(s, argument),
-        Step::Get(slot) => print_got(s, slot),
-        Step::Remove(slot) => print_removed(shelf::remove(s, slot)),
-        Step::Slots => print_slots(shelf::slots(s)),
-        Step::Sums => print_sums(shelf::sums(s)),
-        Step::Carry => print_done(shelf_carrying::carry(s), b"carried"),
-        Step::Back => print_done(shelf_carrying::carry_back(s), b"carried back"),
-        Step::NotOne => true,
+        Step::Put(argument) => put_file(rt, s, argument),
+        Step::Get(slot) => print_got(rt, s, slot),
+        Step::Remove(slot) => print_removed(rt, shelf::remove(s, slot)),
+        Step::Slots => print_slots(rt, shelf::slots(s)),
+        Step::Sums => print_sums(rt, shelf::sums(s)),
+        Step::Carry => print_done(rt, shelf_carrying::carry(s), b"carried"),
+        Step::Back => print_done(rt, shelf_carrying::carry_back(s), b"carried back"),
+        Step::NotOne => Ok(()),
     }
 }
 
 // Every word from the second argument on is a step's, and has its operand.
-fn are_steps(count: usize) -> bool {
+fn are_steps(rt: &HostRuntime, count: usize) -> bool {
     let mut i = 2;
     while i < count {
         let next = i + 1;
         if count <= next {
             return false;
         }
-        if !is_step(i, next) {
+        if !is_step(rt, i, next) {
             return false;
         }
         i = next + 1;
@@ -206,43 +211,42 @@ fn are_steps(count: usize) -> bool {
     true
 }
 
-fn do_arguments(s: &mut [u8], count: usize) {
+fn do_arguments(rt: &HostRuntime, s: &mut [u8], count: usize) {
     let mut i = 2;
     while i < count {
         let next = i + 1;
         if count <= next {
             return;
         }
-        printing::report(do_step(s, step_at(i, next)));
+        printing::report(&rt.stderr(), do_step(rt, s, step_at(rt, i, next)));
         i = next + 1;
     }
 }
 
-fn play(s: &mut [u8]) {
-    printing::report(print_done(shelf::start(s), b"started"));
-    do_arguments(s, os::arg_count());
+fn play(rt: &HostRuntime, s: &mut [u8]) {
+    printing::report(&rt.stderr(), print_done(rt, shelf::start(s), b"started"));
+    do_arguments(rt, s, inputs::argument_count(rt));
 }
 
-fn say_usage() {
-    io::write_all(
-        STDERR_FILENO,
+fn say_usage(rt: &HostRuntime) {
+    let _ = rt.stderr().write_all(
         b"usage: run_shelf SIZE [put FILE | get SLOT | remove SLOT | slots - | sums - | carry - | back -] ..\n",
     );
 }
 
-fn main() {
+fn main(rt: HostRuntime) {
     let mut buf = [0u8; 65537];
-    let Number::Is(size) = number_at(1) else {
-        say_usage();
+    let Number::Is(size) = number_at(&rt, 1) else {
+        say_usage(&rt);
         return;
     };
     if 65537 < size {
-        say_usage();
+        say_usage(&rt);
         return;
     }
-    if !are_steps(os::arg_count()) {
-        say_usage();
+    if !are_steps(&rt, inputs::argument_count(&rt)) {
+        say_usage(&rt);
         return;
     }
-    play(&mut buf[..size]);
+    play(&rt, &mut buf[..size]);
 }

@@ -37,7 +37,7 @@ pub struct Span {
 // ---- Start
 
 // An empty shelf over a lent buffer.
-fn start_as(s: &mut [u8], l: Layout) -> Outcome
+pub fn start_as(s: &mut [u8], l: Layout) -> Outcome
     requires { l.pairs ≤ 65536 }
     ensures { Starts (laid l) s.old result s.new }
 {
@@ -58,7 +58,7 @@ pub fn start(s: &mut [u8]) -> Outcome
 
 // ---- the two numbers read off the map
 
-fn slots_of(s: &[u8], l: Layout) -> Slots
+pub fn slots_of(s: &[u8], l: Layout) -> Slots
     requires { l.pairs ≤ 65536 }
     ensures { Counts (laid l) s.now result }
 {
@@ -138,7 +138,7 @@ pub fn put(s: &mut [u8], input: &[u8]) -> Shelved
 // ---- Get
 
 // What get or remove of a slot is refused by.
-fn slot_refusal(s: &[u8], l: Layout, slot: usize) -> Outcome
+pub fn slot_refusal(s: &[u8], l: Layout, slot: usize) -> Outcome
     requires { l.pairs ≤ 65536 }
     ensures { result ≡ outcome (slot_refusal (laid l) s.now slot) }
 {
@@ -155,7 +155,7 @@ fn slot_refusal(s: &[u8], l: Layout, slot: usize) -> Outcome
 }
 
 // Which part of the shelf Get hands back; zero bytes at its start where refused.
-fn got_from(s: &[u8], l: Layout, slot: usize) -> Span
+pub fn got_from(s: &[u8], l: Layout, slot: usize) -> Span
     requires { l.pairs ≤ 65536 }
     ensures value { result ≡ got_span (laid l) s.now slot }
     ensures inside { result.offset + result.length ≤ length s.now }
@@ -172,7 +172,7 @@ fn got_from(s: &[u8], l: Layout, slot: usize) -> Span
     }
 }
 
-fn got(s: &[u8], slot: usize) -> Span
+pub fn got(s: &[u8], slot: usize) -> Span
     ensures value { result ≡ got_span version_two s.now slot }
     ensures inside { result.offset + result.length ≤ length s.now }
 {
@@ -190,7 +190,7 @@ pub fn get<'a>(s: &'a [u8], slot: usize) -> &'a [u8]
 }
 
 // Get's companion: how long the kept text is, or what Get was refused by.
-fn measure_in(s: &[u8], l: Layout, slot: usize) -> Stored
+pub fn measure_in(s: &[u8], l: Layout, slot: usize) -> Stored
     requires { l.pairs ≤ 65536 }
     ensures { Measures (laid l) s.now slot result }
 {

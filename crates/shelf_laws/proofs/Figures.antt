@@ -47,7 +47,7 @@ module _ (l : Layout) (sums : 21 ≤ l.pairs) (s : List ℕ) where
   raises input c = c.copies.duplicates sums (omega (arith, c.was.least))
 
   pub put_raises : (input : List ℕ) (slot : ℕ) → put l s input ≡ copy_at slot → duplicates_of (put_shelf l s input) ≡ min (duplicates_of s + 1) 4294967295
-  put_raises input slot e = raises input (put_laws.copy-case l head s input slot e).0
+  put_raises input slot e = raises input (put_laws.copy_case l head s input slot e).0
 
   -- a refused put or a new text leaves it
   pub put_leaves : (input : List ℕ) → ((k : ℕ) → put l s input ≡ copy_at k → ⊥) → duplicates_of (put_shelf l s input) ≡ duplicates_of s
@@ -55,13 +55,13 @@ module _ (l : Layout) (sums : 21 ≤ l.pairs) (s : List ℕ) where
       ⊎_elim (λ (c : put.Refusing l s input). ap duplicates_of c.stays)
       (⊎_elim (λ (c : put.Copying l s input). absurd (other c.slot c.answer))
       (λ (c : put.Storing l s input). c.adds.duplicates sums))
-      (put.put-cases l s input head)
+      (put.put_cases l s input head)
 
   -- so does Remove
   pub remove_leaves : (slot : ℕ) → duplicates_of (remove_shelf l s slot) ≡ duplicates_of s
   remove_leaves slot =
       ⊎_elim (λ (c : remove.Refusing l s slot). ap duplicates_of c.stays) (λ (c : remove.Taking l s slot). c.takes.duplicates sums)
-      (remove.remove-cases l s slot head)
+      (remove.remove_cases l s slot head)
 
   -- one put: by what it answers
   put_counts : (input : List ℕ) → duplicates_of s ≤ 4294967295
@@ -70,7 +70,7 @@ module _ (l : Layout) (sums : 21 ≤ l.pairs) (s : List ℕ) where
       ⊎_elim (λ (c : put.Refusing l s input). left (ap is_copy c.answer ∙ refused_not_copy c.refusal) (ap duplicates_of c.stays))
       (⊎_elim (λ (c : put.Copying l s input). more (ap is_copy c.answer ∙ copy_is_copy c.slot) (raises input c))
       (λ (c : put.Storing l s input). left (ap is_copy c.answer ∙ new_not_copy (lowest_free l s)) (c.adds.duplicates sums)))
-      (put.put-cases l s input head)
+      (put.put_cases l s input head)
     where
       left : is_copy (put l s input) ≡ false → duplicates_of (put_shelf l s input) ≡ duplicates_of s
           → duplicates_of (put_shelf l s input) ≡ min (duplicates_of s + counted (is_copy (put l s input))) 4294967295

@@ -59,7 +59,7 @@ module _ (l : Layout) (head : 13 ≤ l.pairs) (s : List ℕ) where
         let e = ap is_new c.answer ∙ new_is_new (lowest_free l s) in
         let n : counted (put l s input) ≡ length (normal_form input) = ap (λ (b : Bool). if b then length (normal_form input) else 0) e in
         omega (arith, c.adds.end)))
-        (put.put-cases l s input head)
+        (put.put_cases l s input head)
       where
         nothing_new : held l (put_shelf l s input) ≡ held l s → is_new (put l s input) ≡ false → held l (put_shelf l s input) ≡ held l s + counted (put l s input)
         nothing_new stays e =
@@ -82,14 +82,14 @@ module _ (l : Layout) (head : 13 ≤ l.pairs) (s : List ℕ) where
         (λ (c : remove.Taking l s slot).
         let n : told (remove l s slot) ≡ length_of l s slot = ap told c.answer in
         omega (arith, c.takes.end))
-        (remove.remove-cases l s slot head)
+        (remove.remove_cases l s slot head)
 
   -- one operation: a sound shelf stays sound, and the lengths add up
   pub step : (o : Operation) → Sound l s → Sound l (after l s o) × (held l s + newly_put l s o ≡ held l (after l s o) + taken l s o)
   unfolding after newly_put taken
-  step (puts input) was = (put_laws.keeps-sound l head s input was, omega (arith, put_adds input))
+  step (puts input) was = (put_laws.keeps_sound l head s input was, omega (arith, put_adds input))
   step (gets slot) was = (was, omega arith)
-  step (removes slot) was = (remove_laws.keeps-sound l head s slot was, omega (arith, remove_takes slot))
+  step (removes slot) was = (remove_laws.keeps_sound l head s slot was, omega (arith, remove_takes slot))
 
 -- all of them
 pub history : (l : Layout) → 13 ≤ l.pairs → (os : List Operation) (s : List ℕ) → Sound l s

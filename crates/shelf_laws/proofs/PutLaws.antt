@@ -131,6 +131,6 @@ module _ (l : Layout) (head : 13 ≤ l.pairs) (s input : List ℕ) where
       → (slots_of l s ≡ given (length (occupied s) ∷ slot ∷ [])) × (length (occupied after) ≡ length (occupied s) + 1)
   slots_say slot e =
       let (c, at) = new_case slot e in (
-        answered.slots-given l s ((says_sound l s).1 c.was) ∙ ap (λ (k : ℕ). given (length (occupied s) ∷ k ∷ [])) at,
+        answered.slots_given l s ((says_sound l s).1 c.was) ∙ ap (λ (k : ℕ). given (length (occupied s) ∷ k ∷ [])) at,
         one_more s after (lowest_free l s) c.lowest.is_free.0 c.adds.occupied_other c.lowest.is_free.1 c.adds.occupied_this,
       )

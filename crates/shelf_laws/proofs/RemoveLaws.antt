@@ -102,7 +102,7 @@ module _ (l : Layout) (head : 13 ≤ l.pairs) (s : List ℕ) (slot : ℕ) where
       step : (o : Option ℕ) → copy_of l after (normal_form input) ≡ o
           → (k : ℕ) × Keeps l after input k × (put l after input ≡ newAt k → k ≤ slot)
       step none q =
-          let d = answered.put-new l after input sane accepted q (some_free l after slot free) room in
+          let d = answered.put_new_lem l after input sane accepted q (some_free l after slot free) room in
           (lowest_free l after, inl d.0, λ p. lowest_least l after slot free)
       step (some k) q =
           let d = answered.put_copy l after input sane accepted q in

@@ -35,7 +35,7 @@ use Rattle.shelf_laws.proofs.Figures as figures
 module _ (l : Layout) (head : 13 ≤ l.pairs) where
   -- a sound shelf stays sound, by the test
   put_sound : (s input : List ℕ) → Sound l s → Sound l (put_shelf l s input)
-  put_sound s input e = (says_sound l (put_shelf l s input)).1 (put_laws.keeps-sound l head s input ((says_sound l s).0 e))
+  put_sound s input e = (says_sound l (put_shelf l s input)).1 (put_laws.keeps_sound l head s input ((says_sound l s).0 e))
 
   -- ---- Start
 
@@ -91,7 +91,7 @@ module _ (l : Layout) (head : 13 ≤ l.pairs) where
       → Free s slot × ((k : ℕ) → k < slot → is_occupied s k ≡ true) × (start_of l (put_shelf l s input) slot ≡ end_of l s)
       × (end_of l (put_shelf l s input) ≡ end_of l s + length (normal_form input))
   new_place s input slot e =
-      let (c, at) = put_laws.new-case l head s input slot e in (
+      let (c, at) = put_laws.new_case l head s input slot e in (
         subst (Free s) at c.lowest.is_free,
         subst (λ (n : ℕ). (k : ℕ) → k < n → is_occupied s k ≡ true) at c.lowest.lower,
         ap (start_of l (put_shelf l s input)) (sym at) ∙ c.adds.start_this,
@@ -103,42 +103,42 @@ module _ (l : Layout) (head : 13 ≤ l.pairs) where
     sound_words = sound_exactly l;
     start_nineteen = order.start_nineteen l;
     put_nineteen = order.put_nineteen l;
-    get_nineteen = order.length-nineteen l;
+    get_nineteen = order.length_nineteen l;
     remove_nineteen = order.remove_nineteen l;
     slots_nineteen = order.slots_nineteen l;
     sums_nineteen = order.sums_nineteen l;
-    put_judged = order.then-judged l;
+    put_judged = order.then_judged l;
     put_there = λ s other k e. put_laws.there l s other k ((says_sound l s).0 e);
-    put_full = order.then-full l;
-    put_roomless = λ s input k new. order.then-roomless l s input new k;
-    put_kept = λ s input k new. order.then-kept l s input new k;
-    not_occupied = order.then-free l;
+    put_full = order.then_full l;
+    put_roomless = λ s input k new. order.then_roomless l s input new k;
+    put_kept = λ s input k new. order.then_kept l s input new k;
+    not_occupied = order.then_free l;
     start_refused = start_stays;
-    put_refused = λ s input. put_laws.refused-stays l head s input;
-    remove_refused = λ s slot. remove_laws.refused-stays l head s slot;
-    get_refused = λ s slot. remove_laws.refused-nothing l head s slot;
+    put_refused = λ s input. put_laws.refused_stays l head s input;
+    remove_refused = λ s slot. remove_laws.refused_stays l head s slot;
+    get_refused = λ s slot. remove_laws.refused_nothing l head s slot;
     start_sound = λ buffer z. ((says_sound l (start_shelf l buffer)).1 (empty_sound buffer z), empty_occupied buffer z);
     put_sound = put_sound;
     remove_sound =
-        λ s slot e. (says_sound l _).1 (remove_laws.keeps-sound l head s slot ((says_sound l s).0 e));
-    put_get = λ s input slot. put_laws.got-back l head s input slot;
-    put_others = λ s input k e. put_laws.others-stay l head s input k ((says_sound l s).0 e);
-    remove_others = λ s slot k e. remove_laws.others-stay l head s slot k ((says_sound l s).0 e);
+        λ s slot e. (says_sound l _).1 (remove_laws.keeps_sound l head s slot ((says_sound l s).0 e));
+    put_get = λ s input slot. put_laws.got_back l head s input slot;
+    put_others = λ s input k e. put_laws.others_stay l head s input k ((says_sound l s).0 e);
+    remove_others = λ s slot k e. remove_laws.others_stay l head s slot k ((says_sound l s).0 e);
     put_place = new_place;
-    put_slots = λ s input slot. put_laws.slots-say l head s input slot;
-    put_again = λ s input other slot. put_laws.there-again l head s input other slot;
+    put_slots = λ s input slot. put_laws.slots_say l head s input slot;
+    put_again = λ s input other slot. put_laws.there_again l head s input other slot;
     remove_frees = λ s slot. remove_laws.frees l head s slot;
     remove_moves = λ s slot n k. remove_laws.moves l head s slot n k;
-    remove_slots = λ s slot. remove_laws.slots-say l head s slot;
+    remove_slots = λ s slot. remove_laws.slots_say l head s slot;
     remove_gone = λ s slot n input. remove_laws.gone l head s slot n input;
-    remove_put = λ s slot n input. remove_laws.room-again l head s slot n input;
+    remove_put = λ s slot n input. remove_laws.room_again l head s slot n input;
     histories = from_empty;
     histories_on = from_sound;
     sums_given = λ s sums e. (sums_given l s e, ((says_sound l s).0 e).summed sums);
     start_figure = λ buffer sums z. no_duplicates buffer z;
     put_raises = λ s input slot sums. figures.put_raises l sums s input slot;
-    put_figure = λ s input sums. figures.put-leaves l sums s input;
-    remove_figure = λ s slot sums. figures.remove-leaves l sums s slot;
+    put_figure = λ s input sums. figures.put_leaves l sums s input;
+    remove_figure = λ s slot sums. figures.remove_leaves l sums s slot;
     copy_stays = copy_stays l;
     figures = λ s os sums e. figures.figures l sums os s ((says_sound l s).0 e);
     figures_started = from_start;

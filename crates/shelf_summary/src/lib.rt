@@ -49,7 +49,7 @@ pub fn store_head(s: &mut [u8], u: Summary)
 // ---- the core: what a put or a removal does to the summary
 
 // A new text: its bit, and its bytes.
-fn put_new(u: Summary, slot: usize, size: u32) -> Summary
+pub fn put_new(u: Summary, slot: usize, size: u32) -> Summary
     requires { ((slot < 64) × (bit u.map slot ≡ false)) × (u.held + size < 4294967296) }
     ensures { result ≡ put_new u slot size }
 {
@@ -61,7 +61,7 @@ fn put_new(u: Summary, slot: usize, size: u32) -> Summary
 }
 
 // A copy: one duplicate more, up to the ceiling.
-fn put_copy(u: Summary) -> Summary
+pub fn put_copy(u: Summary) -> Summary
     ensures { result ≡ put_copy u }
 {
     if u.duplicates == 4294967295 {
@@ -75,7 +75,7 @@ fn put_copy(u: Summary) -> Summary
 }
 
 // A text taken out of its slot.
-fn removed(u: Summary, slot: usize, size: u32) -> Summary
+pub fn removed(u: Summary, slot: usize, size: u32) -> Summary
     requires { ((slot < 64) × (bit u.map slot ≡ true)) × (size ≤ u.held) }
     ensures { result ≡ removed_of u slot size }
 {
@@ -86,7 +86,7 @@ fn removed(u: Summary, slot: usize, size: u32) -> Summary
     }
 }
 
-fn after_put(u: Summary, placed: Placed) -> Summary
+pub fn after_put(u: Summary, placed: Placed) -> Summary
     requires { PutFits u placed }
     ensures { result ≡ after_put u placed }
 {
@@ -97,7 +97,7 @@ fn after_put(u: Summary, placed: Placed) -> Summary
     }
 }
 
-fn after_remove(u: Summary, slot: usize, taken: Stored) -> Summary
+pub fn after_remove(u: Summary, slot: usize, taken: Stored) -> Summary
     requires { RemoveFits u slot taken }
     ensures { result ≡ after_remove u slot taken }
 {

@@ -7,17 +7,15 @@ use mathlib.Core.Option.{Option, none, some}
 use Rattle.lists.specs.Lists.{if◌then◌else◌, all, those, maybe}
 use Rattle.characters.specs.declared.Characters.{Characters}
 use Rattle.characters.specs.Characters.{characters_of, body_start, bad_advice, opens}
-use Rattle.refusals.specs.declared.Fault.{Fault}
 use Rattle.refusals.specs.declared.Fault.TheVariants.{UnusableAdvice, NoOpening}
 use Rattle.refusals.specs.declared.Refusal.{Refusal}
-use Rattle.refusals.specs.Refusals.{number, met, answering}
+use Rattle.refusals.specs.Refusals.{met, answering}
 use Rattle.refusals.proofs.Stages.{one_place}
 use Rattle.segments.specs.declared.Section.TheVariants.{None}
 use Rattle.segments.specs.declared.Walk.{Walk}
 use Rattle.segments.specs.Order.{walk_over}
 use Rattle.stages.specs.Places.{unusable_advice, no_opening}
 use Rattle.stages.specs.Stages.{places_of, brackets, brackets_in, bracketed, stages_in}
-use Rattle.stage_opening.specs.declared.Progress.{Progress}
 use Rattle.stage_opening.specs.declared.Progress.TheVariants.{Passed, Refused}
 use Rattle.stage_opening.specs.Runs.{found_by, progress}
 

@@ -207,44 +207,38 @@ pub struct SumNumbers {
 }
 
 // Which rules the answers follow: a caller holds it against the number of the header that it was built with.
-#[unsafe(no_mangle)]
-pub extern "C" fn hverolda_rules() -> u32
+pub fn hverolda_rules() -> u32
     ensures { result ≡ rules }
 {
     5
 }
 
-#[unsafe(no_mangle)]
-pub extern "C" fn hverolda_judge(input: &[u8]) -> Verdict
+pub fn hverolda_judge(input: &[u8]) -> Verdict
     ensures { result ≡ verdict_of (judge_of input.now) }
 {
     verdict_of(judge::judge(input))
 }
 
-#[unsafe(no_mangle)]
-pub extern "C" fn hverolda_judge_by_table(table: &[u8], input: &[u8]) -> Verdict
+pub fn hverolda_judge_by_table(table: &[u8], input: &[u8]) -> Verdict
     ensures { result ≡ verdict_of (judge_by_table table.now input.now) }
 {
     verdict_of(judge_by_table::judge_by_table(table, input))
 }
 
-#[unsafe(no_mangle)]
-pub extern "C" fn hverolda_normalise(buffer: &mut [u8], input: &[u8]) -> Written
+pub fn hverolda_normalise(buffer: &mut [u8], input: &[u8]) -> Written
     ensures { (result ≡ written_of (normalise_of buffer.old input.now)) × (buffer.new ≡ normalise_buffer buffer.old input.now) }
 {
     written_of(normalise::normalise(buffer, input))
 }
 
-#[unsafe(no_mangle)]
-pub extern "C" fn hverolda_compare(first: &[u8], second: &[u8]) -> Comparison
+pub fn hverolda_compare(first: &[u8], second: &[u8]) -> Comparison
     ensures { result ≡ comparison_of (compare_of first.now second.now) }
 {
     comparison_of(compare::compare(first, second))
 }
 
 // A slice that is handed back cannot cross, so the part is named.
-#[unsafe(no_mangle)]
-pub extern "C" fn hverolda_keep(first: &[u8], second: &[u8]) -> Kept
+pub fn hverolda_keep(first: &[u8], second: &[u8]) -> Kept
     ensures { result ≡ kept_of (keep_of first.now second.now) }
 {
     match compare::kept_part(first, second) {
@@ -261,8 +255,7 @@ pub extern "C" fn hverolda_keep(first: &[u8], second: &[u8]) -> Kept
     }
 }
 
-#[unsafe(no_mangle)]
-pub extern "C" fn hverolda_locate_value(
+pub fn hverolda_locate_value(
     input: &[u8],
     segment: usize,
     element: usize,
@@ -275,8 +268,7 @@ pub extern "C" fn hverolda_locate_value(
 }
 
 // A slice that is handed back cannot cross, so the part is named: `run_locate::part` hands back the same.
-#[unsafe(no_mangle)]
-pub extern "C" fn hverolda_value_part(
+pub fn hverolda_value_part(
     input: &[u8],
     segment: usize,
     element: usize,
@@ -292,35 +284,26 @@ pub extern "C" fn hverolda_value_part(
     }
 }
 
-#[unsafe(no_mangle)]
-pub extern "C" fn hverolda_parties(input: &[u8]) -> Parties
+pub fn hverolda_parties(input: &[u8]) -> Parties
     ensures { result ≡ parties_of input.now }
 {
     parties_laid(parties::parties_of(input))
 }
 
-#[unsafe(no_mangle)]
-pub extern "C" fn hverolda_read(bytes: &mut [u8], table: &mut [u32], input: &[u8]) -> Listing
+pub fn hverolda_read(bytes: &mut [u8], table: &mut [u32], input: &[u8]) -> Listing
     ensures { ReadsOut bytes.old table.old input.now result bytes.new table.new }
 {
     listing_of(read::read(bytes, table, input))
 }
 
-#[unsafe(no_mangle)]
-pub extern "C" fn hverolda_write(
-    service: &[u8],
-    bytes: &[u8],
-    table: &[u32],
-    output: &mut [u8],
-) -> Written
+pub fn hverolda_write(service: &[u8], bytes: &[u8], table: &[u32], output: &mut [u8]) -> Written
     ensures { WritesOut service.now bytes.now table.now output.old result output.new }
 {
     written_of(write::write(service, bytes, table, output))
 }
 
 // The three lists are lent as Write's is: values and a table of three numbers a value.
-#[unsafe(no_mangle)]
-pub extern "C" fn hverolda_acknowledge(
+pub fn hverolda_acknowledge(
     received: &[u8],
     date: &[u8],
     datetable: &[u32],
@@ -344,29 +327,25 @@ pub extern "C" fn hverolda_acknowledge(
     ))
 }
 
-#[unsafe(no_mangle)]
-pub extern "C" fn hverolda_export(buffer: &mut [u8], input: &[u8]) -> Written
+pub fn hverolda_export(buffer: &mut [u8], input: &[u8]) -> Written
     ensures { (result ≡ written_of (exports buffer.old input.now)) × (buffer.new ≡ export_buffer buffer.old input.now) }
 {
     written_of(export_columns::export_columns(buffer, input))
 }
 
-#[unsafe(no_mangle)]
-pub extern "C" fn hverolda_import(service: &[u8], columns: &[u8], output: &mut [u8]) -> Written
+pub fn hverolda_import(service: &[u8], columns: &[u8], output: &mut [u8]) -> Written
     ensures { (result ≡ written_of (imports service.now columns.now output.old)) × (output.new ≡ import_output service.now columns.now output.old) }
 {
     written_of(import_columns::import_columns(service, columns, output))
 }
 
-#[unsafe(no_mangle)]
-pub extern "C" fn hverolda_shelf_start(shelf: &mut [u8]) -> Started
+pub fn hverolda_shelf_start(shelf: &mut [u8]) -> Started
     ensures { (result ≡ started_of (start_of version_two shelf.old)) × (shelf.new ≡ start_shelf version_two shelf.old) }
 {
     started_of(shelf::start(shelf))
 }
 
-#[unsafe(no_mangle)]
-pub extern "C" fn hverolda_shelf_put(shelf: &mut [u8], input: &[u8]) -> Shelving
+pub fn hverolda_shelf_put(shelf: &mut [u8], input: &[u8]) -> Shelving
     ensures { (result ≡ shelving_of (put_of version_two shelf.old input.now)) × (shelf.new ≡ put_shelf version_two shelf.old input.now) }
 {
     shelving_of(shelf::put(shelf, input))
@@ -374,8 +353,7 @@ pub extern "C" fn hverolda_shelf_put(shelf: &mut [u8], input: &[u8]) -> Shelving
 
 // A slice that is handed back cannot cross, so the part is named: `shelf::get` hands back the same. What
 // it was refused by is said with it.
-#[unsafe(no_mangle)]
-pub extern "C" fn hverolda_shelf_get(shelf: &[u8], slot: usize) -> Got
+pub fn hverolda_shelf_get(shelf: &[u8], slot: usize) -> Got
     ensures { result ≡ got_of (length_answer version_two shelf.now slot) (got_offset version_two shelf.now slot) (got_length version_two shelf.now slot) }
 {
     match shelf::measure(shelf, slot) {
@@ -387,50 +365,43 @@ pub extern "C" fn hverolda_shelf_get(shelf: &[u8], slot: usize) -> Got
     }
 }
 
-#[unsafe(no_mangle)]
-pub extern "C" fn hverolda_shelf_remove(shelf: &mut [u8], slot: usize) -> Written
+pub fn hverolda_shelf_remove(shelf: &mut [u8], slot: usize) -> Written
     ensures { (result ≡ written_of (remove_of version_two shelf.old slot)) × (shelf.new ≡ remove_shelf version_two shelf.old slot) }
 {
     written_of(shelf::remove(shelf, slot))
 }
 
-#[unsafe(no_mangle)]
-pub extern "C" fn hverolda_shelf_slots(shelf: &[u8]) -> SlotNumbers
+pub fn hverolda_shelf_slots(shelf: &[u8]) -> SlotNumbers
     ensures { result ≡ slot_numbers_of (slots_of version_two shelf.now) }
 {
     slot_numbers_of(shelf::slots(shelf))
 }
 
-#[unsafe(no_mangle)]
-pub extern "C" fn hverolda_report(file: &[u8]) -> MorningFigures
+pub fn hverolda_report(file: &[u8]) -> MorningFigures
     ensures { result ≡ morning_of (report_of file.now) }
 {
     morning_of(report::report(file))
 }
 
-#[unsafe(no_mangle)]
-pub extern "C" fn hverolda_piece(file: &[u8]) -> PieceEnd
+pub fn hverolda_piece(file: &[u8]) -> PieceEnd
     ensures { result ≡ piece_end_of file.now }
 {
     piece_laid(pieces::first_piece(file), file.len())
 }
 
-#[unsafe(no_mangle)]
-pub extern "C" fn hverolda_shelf_sums(shelf: &[u8]) -> SumNumbers
+pub fn hverolda_shelf_sums(shelf: &[u8]) -> SumNumbers
     ensures { result ≡ sum_numbers_of (sums_of version_two shelf.now) }
 {
     sum_numbers_of(shelf::sums(shelf))
 }
 
-#[unsafe(no_mangle)]
-pub extern "C" fn hverolda_shelf_carry(shelf: &mut [u8]) -> Started
+pub fn hverolda_shelf_carry(shelf: &mut [u8]) -> Started
     ensures { (result ≡ started_of (carry_of shelf.old)) × (shelf.new ≡ carry_shelf shelf.old) }
 {
     started_of(shelf_carrying::carry(shelf))
 }
 
-#[unsafe(no_mangle)]
-pub extern "C" fn hverolda_shelf_carry_back(shelf: &mut [u8]) -> Started
+pub fn hverolda_shelf_carry_back(shelf: &mut [u8]) -> Started
     ensures { (result ≡ started_of (carry_back_of shelf.old)) × (shelf.new ≡ carry_back_shelf shelf.old) }
 {
     started_of(shelf_carrying::carry_back(shelf))

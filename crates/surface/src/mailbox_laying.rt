@@ -53,12 +53,16 @@ pub fn piece_laid(ending: Ending, length: usize) -> PieceEnd
             place: 0,
             end,
         },
-        Ending::Stopped(refusal) => PieceEnd {
-            number: refusal_number(refusal),
-            ended: 0,
-            place: refusal.place,
-            end: length,
-        },
+        Ending::Stopped(refusal) => {
+            let number = refusal_number(refusal);
+            let ended = 0;
+            PieceEnd {
+                number,
+                ended,
+                place: refusal.place,
+                end: length,
+            }
+        }
         Ending::FileEnd => PieceEnd {
             number: 0,
             ended: 0,

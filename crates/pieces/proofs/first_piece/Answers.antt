@@ -13,5 +13,5 @@ returns-in-Refused c = ending_unopened _ c.if-rest-eq0.false c.opening_of.ensure
 
 pub returns-in-Passed : goal.returns-in-Passed
 returns-in-Passed c =
-    c.unz_end.ensures
+    c.unz_ending.ensures
     ∙ ending_opened _ c.if-rest-eq0.false c.opening_of.ensures c.in-Passed.is

@@ -1,9 +1,12 @@
--- `pieces::piece_end` meets its contract: where the first piece ends, by how it ends. Assumes nothing.
-use mathlib.Core.Path.{ap, ◌∙◌}
-use borrow.Author.Rules.{rules}
-use Rattle.pieces.specs.Walk.{end_in}
-use Rattle.pieces.proofs.Walking.{end_is}
+-- `pieces::piece_end` meets its contract: what the opening answers decides whether there is a walk. Assumes nothing.
+use mathlib.Core.Path.{◌∙◌}
+use Rattle.pieces.proofs.Walking.{end_unopened, end_opened}
 use Rattle.pieces.proofs.piece_end.Goals as goal
 
-pub returns : goal.returns
-returns c = c.end_in.ensures ∙ ap (end_in _) c.first_piece.ensures ∙ end_is _
+pub returns-in-Refused : goal.returns-in-Refused
+returns-in-Refused c = end_unopened _ c.opening_of.ensures c.in-Refused.is
+
+pub returns-in-Passed : goal.returns-in-Passed
+returns-in-Passed c =
+    c.unz_end.ensures
+    ∙ end_opened _ c.opening_of.ensures c.in-Passed.is

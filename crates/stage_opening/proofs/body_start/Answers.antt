@@ -1,7 +1,6 @@
 -- `stage_opening::body_start` meets its contract: it makes the definition's test. Assumes nothing.
 use mathlib.Core.Path.{sym, ◌∙◌}
 use Rattle.stage_opening.proofs.Beginnings.{start_advised, start_plain}
-use borrow.Author.Rules.{rules}
 use Rattle.stage_opening.proofs.body_start.Goals as goal
 
 pub returns-then-is_advised : goal.returns-then-is_advised

@@ -3,7 +3,6 @@ use Prim.Native.Nat.{◌+◌}
 use mathlib.Core.Path.{sym}
 use native.Mathlib.Omega.{arith}
 use Rattle.stage_opening.proofs.Beginnings.{stands_none, stands_byte}
-use borrow.Author.Rules.{rules}
 use Rattle.stage_opening.proofs.byte_stands.Goals as goal
 
 pub returns-then-s-at : goal.returns-then-s-at

@@ -2,7 +2,6 @@
 use mathlib.Core.Path.{sym, ◌∙◌}
 use Rattle.characters.specs.Characters.{control_characters, six_bytes}
 use Rattle.stage_opening.proofs.Beginnings.{begins_plus, characters_advised, characters_plus, characters_control}
-use borrow.Author.Rules.{rules}
 use Rattle.stage_opening.proofs.characters_of.Goals as goal
 
 pub returns-then-is_advised : goal.returns-then-is_advised

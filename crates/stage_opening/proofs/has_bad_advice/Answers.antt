@@ -1,6 +1,5 @@
 -- `stage_opening::has_bad_advice` meets its contract: it makes the definition's tests. Assumes nothing.
 use Rattle.stage_opening.proofs.Beginnings.{bad_advice_tests}
-use borrow.Author.Rules.{rules}
 use Rattle.stage_opening.proofs.has_bad_advice.Goals as goal
 
 pub returns : goal.returns

@@ -1,6 +1,5 @@
 -- `stage_opening::is_advised` meets its contract: it looks for `UNA` at the start. Assumes nothing.
 use Rattle.characters.specs.Characters.{advised}
-use borrow.Author.Rules.{rules}
 use Rattle.stage_opening.proofs.is_advised.Goals as goal
 
 pub returns : goal.returns

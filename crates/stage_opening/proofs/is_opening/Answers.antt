@@ -1,6 +1,5 @@
 -- `stage_opening::is_opening` meets its contract: `UNB` stands where the body begins, and the element separator after it. Assumes nothing.
 use Rattle.stage_opening.proofs.Beginnings.{opens_tests}
-use borrow.Author.Rules.{rules}
 use Rattle.stage_opening.proofs.is_opening.Goals as goal
 
 pub returns : goal.returns

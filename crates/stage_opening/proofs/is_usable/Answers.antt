@@ -1,6 +1,5 @@
 -- `stage_opening::is_usable` meets its contract: it makes the definition's tests in the definition's order. Assumes nothing.
 use Rattle.stage_opening.proofs.Usable.{usable_tests}
-use borrow.Author.Rules.{rules}
 use Rattle.stage_opening.proofs.is_usable.Goals as goal
 
 pub returns : goal.returns

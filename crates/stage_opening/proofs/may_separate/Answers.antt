@@ -1,6 +1,5 @@
 -- `stage_opening::may_separate` meets its contract: it makes the definition's tests. Assumes nothing.
 use Rattle.stage_opening.proofs.Usable.{separates_tests}
-use borrow.Author.Rules.{rules}
 use Rattle.stage_opening.proofs.may_separate.Goals as goal
 
 pub returns : goal.returns

@@ -1,6 +1,5 @@
 -- `stage_opening::names_version4` meets its contract: each byte is asked for at its own place. Assumes nothing.
 use Rattle.stage_opening.proofs.Beginnings.{version4_tests}
-use borrow.Author.Rules.{rules}
 use Rattle.stage_opening.proofs.names_version4.Goals as goal
 
 pub returns : goal.returns

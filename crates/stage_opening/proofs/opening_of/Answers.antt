@@ -1,7 +1,6 @@
 -- `stage_opening::opening_of` meets its contract: it makes the tests of the two stages in their order. Assumes nothing.
 use mathlib.Core.Path.{sym, ◌∙◌}
 use Rattle.stage_opening.proofs.Openings.{opening_unusable, opening_missing, opening_passed}
-use borrow.Author.Rules.{rules}
 use Rattle.stage_opening.proofs.opening_of.Goals as goal
 
 pub returns-then-has_bad_advice : goal.returns-then-has_bad_advice

@@ -1,6 +1,5 @@
 -- `stage_opening::optional_separate` meets its contract: each is none or may separate. Assumes nothing.
 use Rattle.stage_opening.proofs.Usable.{optional_separate}
-use borrow.Author.Rules.{rules}
 use Rattle.stage_opening.proofs.optional_separate.Goals as goal
 
 pub returns : goal.returns

@@ -1,6 +1,5 @@
 -- `stage_opening::tag_stands` meets its contract: the three bytes stand one after another. Assumes nothing.
 use Rattle.stage_opening.proofs.Beginnings.{begins_tag}
-use borrow.Author.Rules.{rules}
 use Rattle.stage_opening.proofs.tag_stands.Goals as goal
 
 pub returns : goal.returns

@@ -1,16 +1,10 @@
 -- `stage_segments::check` meets its contract. The loop's invariant: the walk from the start answers what the walk from `at` answers.
 -- What is left of the input falls. Assumes nothing.
 use Prim.Native.Nat.{◌-◌}
-use mathlib.Core.Path.{◌≡◌, refl, sym, ap, ◌∙◌}
-use native.Mathlib.Omega.{arith}
+use mathlib.Core.Path.{◌≡◌}
 use lib.ListN.{length}
-use borrow.Author.Rules.{rules}
-use borrow.Author.Tests.{not-true, not-false}
-use Rattle.refusals.specs.Refusals.{outcome}
 use Rattle.values.specs.Tokens.{tokens_at}
 use Rattle.stage_walks.specs.Walks.{worded}
-use Rattle.scanner.proofs.Scanning.{scans_as}
-use Rattle.stage_segments.proofs.Stage.{worded_end, worded_stray, worded_unended, worded_broken, worded_next}
 use Rattle.stage_segments.proofs.check.Given as goal
 
 abbrev pub invariant-loop-at : goal.invariant-loop-at
