@@ -1,6 +1,5 @@
 -- `stage_level::is_version` meets its contract: it asks for 4, and where there is no repetition separator for 1 and 2. Assumes nothing.
 use mathlib.Core.Path.{sym, ◌∙◌}
-use borrow.Author.Rules.{rules}
 use Rattle.stage_level.proofs.Heading.{version_four, version_repeating, version_old}
 use Rattle.stage_level.proofs.is_version.Goals as goal
 
@@ -20,5 +19,5 @@ pub returns : goal.returns
 returns c =
     c.is_text-3.ensures
     ∙ sym
-    (version_old c.args.c _ (sym c.is_text.ensures ∙ c.if-c-ne32.false) c.if-c-ne32.false
+    (version_old c.args.c _ (sym c.is_text.ensures ∙ c.if-is_text.false) c.if-c-ne32.false
     ∙ simp (sym c.is_text-2.ensures ∙ c.if-is_text-2.false))

@@ -1,6 +1,5 @@
 -- `stage_level::level_named` meets its contract: it asks for the two names. Assumes nothing.
 use mathlib.Core.Path.{sym, ◌∙◌}
-use borrow.Author.Rules.{rules}
 use Rattle.lists.specs.Lists.{maybe}
 use Rattle.levels.specs.Levels.{level_named}
 use Rattle.stage_level.specs.Heading.{numbered}

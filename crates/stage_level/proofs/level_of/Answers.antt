@@ -1,7 +1,6 @@
 -- `stage_level::level_of` meets its contract: element 1 has one repeat, the name is its first value and the version its second. Assumes
 -- nothing.
 use mathlib.Core.Path.{sym, ◌∙◌}
-use borrow.Author.Rules.{rules}
 use borrow.Author.Tests.{not-true, not-false}
 use Rattle.stage_level.proofs.Heading.{level_repeated, level_other, level_ours}
 use Rattle.stage_level.proofs.level_of.Goals as goal

@@ -1,6 +1,5 @@
 -- `stage_level::normal_repetition` meets its contract: it asks for version 4 where element 1 has one repeat. Assumes nothing.
 use mathlib.Core.Path.{sym, ◌∙◌}
-use borrow.Author.Rules.{rules}
 use borrow.Author.Tests.{not-true, not-false}
 use Rattle.stage_level.proofs.Heading.{repetition_repeated, repetition_is}
 use Rattle.stage_level.proofs.normal_repetition.Goals as goal
