@@ -1,15 +1,11 @@
 -- `stage_order::check` meets its contract. The loop's invariant: the walk from its beginning over all segments answers as this walk
 -- over those from `at` on; and no counter is higher than `at`, since each segment takes a byte. What is left of the input falls. Assumes nothing.
-use Prim.Native.Nat.{◌-◌}
-use mathlib.Core.Path.{◌≡◌, sym, ap, subst⁻¹, ◌∙◌}
+use mathlib.Core.Path.{sym, ap, subst⁻¹, ◌∙◌}
 use mathlib.Core.List.{[]}
 use native.Mathlib.Omega.{arith}
-use lib.ListN.{length}
-use borrow.Author.Rules.{rules}
 use borrow.Author.Tests.{not-true, not-false}
 use Rattle.segments.specs.declared.Section.TheVariants.{None}
 use Rattle.segments.specs.declared.Walk.{Walk}
-use Rattle.segments.specs.Order.{walk_over}
 use Rattle.walk_laws.specs.Walking.{Within}
 use Rattle.walk_laws.proofs.Counts.{within_more, within_step, within_begun}
 use Rattle.walk_laws.proofs.Walks.{within_over}

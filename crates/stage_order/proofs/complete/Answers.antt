@@ -1,7 +1,6 @@
 -- `stage_order::complete` meets its contract. Assumes nothing.
 use mathlib.Core.Path.{sym, ◌∙◌}
 use Rattle.stage_order.specs.Ordering.{completed}
-use borrow.Author.Rules.{rules}
 use Rattle.stage_order.proofs.complete.Goals as goal
 
 pub returns-then-is_complete : goal.returns-then-is_complete

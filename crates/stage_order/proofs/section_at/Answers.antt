@@ -1,6 +1,5 @@
 -- `stage_order::section_at` meets its contract: a UNS is read, and no other segment. Assumes nothing.
 use mathlib.Core.Path.{sym, ◌∙◌}
-use borrow.Author.Rules.{rules}
 use Rattle.stage_order.proofs.Sections.{section_read}
 use Rattle.stage_order.proofs.section_at.Goals as goal
 

@@ -1,6 +1,5 @@
 -- `stage_order::section_named` meets its contract: it asks for one component, and for the two names. Assumes nothing.
 use mathlib.Core.Path.{sym, ◌∙◌}
-use borrow.Author.Rules.{rules}
 use borrow.Author.Tests.{not-true, not-false}
 use Rattle.control_elements.specs.Sections.{section_named}
 use Rattle.stage_order.specs.Ordering.{section_from}
