@@ -15,7 +15,7 @@ use Rattle.inputs.specs.Number.{number_from, number_of}
 module _ (text : List ℕ) (n i : ℕ) where
   next : i < length text
       → number_from n (drop i text)
-      ≡ (if ltb (get_or text i 0) 48 || ltb 57 (get_or text i 0) || ltb 18446744073709551615 (10 * n + (get_or text i 0 - 48)) then NotOne else number_from (10 * n + (get_or text i 0 - 48)) (drop (i + 1) text))
+      ≡ (if ltb (get_or text i 0) 48 || ltb 57 (get_or text i 0) || ltb 99999999 n then NotOne else number_from (10 * n + (get_or text i 0 - 48)) (drop (i + 1) text))
   unfolding number_from
   next inside = ap (number_from n) (drop_next text i inside)
 
@@ -30,16 +30,11 @@ module _ (text : List ℕ) (n i : ℕ) where
   too_high inside fits high = next inside ∙ simp (le-ltb (get_or text i 0) 48 fits, lt-ltb 57 (get_or text i 0) high)
 
   module _ (inside : i < length text) (low : 48 ≤ get_or text i 0) (high : get_or text i 0 ≤ 57) where
-    pub too_many : 18446744073709551615 < 10 * n + (get_or text i 0 - 48) → number_from n (drop i text) ≡ NotOne
-    too_many over =
-        next inside
-        ∙ simp (le-ltb (get_or text i 0) 48 low, le-ltb 57 (get_or text i 0) high, lt-ltb 18446744073709551615 (10 * n + (get_or text i 0 - 48)) over)
+    pub too_many : 99999999 < n → number_from n (drop i text) ≡ NotOne
+    too_many over = next inside ∙ simp (le-ltb (get_or text i 0) 48 low, le-ltb 57 (get_or text i 0) high, lt-ltb 99999999 n over)
 
-    pub one_more : 10 * n + (get_or text i 0 - 48) ≤ 18446744073709551615
-        → number_from n (drop i text) ≡ number_from (10 * n + (get_or text i 0 - 48)) (drop (i + 1) text)
-    one_more room =
-        next inside
-        ∙ simp (le-ltb (get_or text i 0) 48 low, le-ltb 57 (get_or text i 0) high, le-ltb 18446744073709551615 (10 * n + (get_or text i 0 - 48)) room)
+    pub one_more : n ≤ 99999999 → number_from n (drop i text) ≡ number_from (10 * n + (get_or text i 0 - 48)) (drop (i + 1) text)
+    one_more room = next inside ∙ simp (le-ltb (get_or text i 0) 48 low, le-ltb 57 (get_or text i 0) high, le-ltb 99999999 n room)
 
 -- a text of one byte or more is its number from 0 on
 pub from_none : (text : List ℕ) → 0 < length text → number_of text ≡ number_from 0 text

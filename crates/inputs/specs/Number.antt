@@ -4,11 +4,11 @@ use Rattle.lists.specs.Lists.{if◌then◌else◌}
 use Rattle.inputs.specs.declared.number.Number.{Number}
 use Rattle.inputs.specs.declared.number.Number.TheVariants.{Is, NotOne}
 
--- the number that decimal digits spell after those of n; what is above 18,446,744,073,709,551,615, or has another byte, is none
+-- the number that decimal digits spell after those of n; what is above 999,999,999, or has another byte, is none
 unfoldable pub number_from : ℕ → List ℕ → Number
 number_from n [] = Is n
 number_from n (b ∷ text) =
-    if ltb b 48 || ltb 57 b || ltb 18446744073709551615 (10 * n + (b - 48))
+    if ltb b 48 || ltb 57 b || ltb 99999999 n
     then NotOne
     else number_from (10 * n + (b - 48)) text
 

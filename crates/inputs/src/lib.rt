@@ -5,6 +5,7 @@
 // buffer, and which number a text is. Where an input cannot be read, standard error says why. What is done
 // with the bytes is left to the programs.
 mod number;
+mod wide;
 
 ghost use Rattle.inputs.specs.Counts.{IsPrefixLen};
 
@@ -14,6 +15,7 @@ use std::fs::File;
 use std::io;
 use std::io::{Error, ErrorKind, Read};
 use std::rt::Env;
+pub use wide::wide_number_of;
 
 // A byte more than the longest interchange, which is enough to see that an input is longer.
 pub const ROOM: usize = 32001;

@@ -12,7 +12,7 @@ pub enum Number {
 // The byte of the digit 9.
 const NINE: u8 = 57;
 
-// Digits only, at least one of them; what 64 bits do not hold is no number of ours.
+// Digits only, at least one of them; what is above 999,999,999 is no number of ours.
 pub fn number_of(text: &[u8]) -> Number
     ensures { result ≡ number_of text.now }
 {
@@ -29,15 +29,10 @@ pub fn number_of(text: &[u8]) -> Number
         if NINE < b {
             return Number::NotOne;
         }
-        let digit = b as usize - 48;
-        if 1844674407370955161 < n {
+        if 99999999 < n {
             return Number::NotOne;
         }
-        let tens = 10 * n;
-        if 18446744073709551615 - digit < tens {
-            return Number::NotOne;
-        }
-        n = tens + digit;
+        n = 10 * n + (b as usize - 48);
         i += 1;
     }
     Number::Is(n)

@@ -85,7 +85,7 @@ fn put_file(rt: &HostRuntime, s: &mut [u8], argument: usize) -> io::Result<()> {
 fn number_at(rt: &HostRuntime, argument: usize) -> Number {
     let mut word = [0u8; 32];
     let n = inputs::argument(rt, argument, &mut word);
-    inputs::number_of(&word[..n])
+    inputs::wide_number_of(&word[..n])
 }
 
 fn print_done(rt: &impl Print, outcome: Outcome, done: &[u8]) -> io::Result<()> {
@@ -195,6 +195,11 @@ fn do_step(rt: &HostRuntime, s: &mut [u8], step: Step) -> io::Result<()> {
     }
 }
 
+// What a word asks for, of the file or the slot that the next argument names.
+fn do_operation(rt: &HostRuntime, s: &mut [u8], word: usize, argument: usize) -> io::Result<()> {
+    do_step(rt, s, step_at(rt, word, argument))
+}
+
 // Every word from the second argument on is a step's, and has its operand.
 fn are_steps(rt: &HostRuntime, count: usize) -> bool {
     let mut i = 2;
@@ -218,7 +223,7 @@ fn do_arguments(rt: &HostRuntime, s: &mut [u8], count: usize) {
         if count <= next {
             return;
         }
-        printing::report(&rt.stderr(), do_step(rt, s, step_at(rt, i, next)));
+        printing::report(&rt.stderr(), do_operation(rt, s, i, next));
         i = next + 1;
     }
 }
