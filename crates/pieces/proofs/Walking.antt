@@ -2,7 +2,7 @@
 use Prim.Native.Nat.{ℕ, ◌+◌, ◌≤◌, ◌<◌}
 use mathlib.Core.Path.{◌≡◌, refl, sym, ap, ap₂, ◌∙◌, subst}
 use mathlib.Core.Bool.{Bool, true, false, not, ◌&&◌, ◌||◌, and-false}
-use mathlib.Core.List.{List, [], ◌∷◌, nil≢cons, head-eq_of_cons-eq}
+use mathlib.Core.List.{List, [], ◌∷◌, nil≢cons}
 use mathlib.Core.Option.{Option, none, some}
 use native.Mathlib.Omega.{arith}
 use native.Mathlib.Decide.{dec_le}
@@ -13,8 +13,8 @@ use Rattle.lists.specs.Lists.{if◌then◌else◌, begins, is_empty, all, those,
 use Rattle.lists.proofs.Texts.{if_false, and_left, and_both}
 use Rattle.values.proofs.Steps.{at_end}
 use Rattle.characters.specs.declared.Characters.{Characters}
-use Rattle.characters.specs.Characters.{advised, bad_advice, opens, characters_of, body_start, body}
-use Rattle.values.specs.Tokens.{Token, byte, separator, fault, Segment, ends, place_of, segments, start, tokens_at}
+use Rattle.characters.specs.Characters.{advised, bad_advice, opens, body_start, body}
+use Rattle.values.specs.Tokens.{Token, byte, separator, fault, Segment, ends, segments, start, tokens_at}
 use Rattle.values.specs.Values.{is_fault, ended_by, end_place, finished}
 use Rattle.values.proofs.Ends.{ended_after}
 use Rattle.segments.specs.declared.Kind.{Kind}
@@ -44,7 +44,6 @@ use Rattle.stage_opening.specs.Runs.{found_by, progress}
 use Rattle.stage_opening.proofs.Openings.{opening_unusable, opening_missing, opening_passed}
 use Rattle.stage_opening.proofs.Runs.{refused_is, passed_is}
 use Rattle.tags.proofs.Reading.{through_hit, through_miss}
-use Rattle.pieces.specs.declared.Ending.{Ending}
 use Rattle.pieces.specs.declared.Ending.TheVariants.{AfterUnz, Stopped, FileEnd}
 use Rattle.pieces.specs.Walk.{ending, ending_of, ending_from, end_in, end_from, is_unz}
 
@@ -179,7 +178,7 @@ module _ (c : Characters) (s : List ℕ) (at : ℕ) where
             let g = mailbox.ended c s at (and_left (ended_by 0 (segment_at c s at)) _ (told (ended (tokens_at c s next)) h.0)) in
             from_both {unz = some (segment_at c s at)} (first_is ∙ rw (whole, k) refl) refl
             ∙ ap AfterUnz (same_place c s (end_behind s (segment_at c s at)) next
-            (mailbox.after-within s (end_place (segment_at c s at) + 1) (omega (arith, g.within)))
+            (mailbox.after_within s (end_place (segment_at c s at) + 1) (omega (arith, g.within)))
             h.2
             (sym g.follows ∙ sym (ended_beyond (tokens_at c s at) h.0)))
 

@@ -1,6 +1,5 @@
 -- `pieces::end_in` meets its contract: after the UNZ, or with the rest. Assumes nothing.
 use mathlib.Core.Path.{sym, ap}
-use borrow.Author.Rules.{rules}
 use Rattle.pieces.specs.Walk.{end_in}
 use Rattle.pieces.proofs.end_in.Goals as goal
 

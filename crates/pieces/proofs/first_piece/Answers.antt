@@ -1,7 +1,6 @@
 -- `pieces::first_piece` meets its contract: without a byte there is no piece, and else what the opening answers decides whether there is
 -- a walk. Assumes nothing.
 use mathlib.Core.Path.{◌∙◌}
-use borrow.Author.Rules.{rules}
 use Rattle.pieces.proofs.Walking.{ending_none, ending_unopened, ending_opened}
 use Rattle.pieces.proofs.first_piece.Goals as goal
 

@@ -1,14 +1,9 @@
 -- `pieces::unz_ending` meets its contract. The loop's invariant: the walk from the start ends as the walk from `at` ends. What is left of
 -- the input falls. Assumes nothing.
 use Prim.Native.Nat.{◌-◌}
-use mathlib.Core.Path.{◌≡◌, refl, sym, ◌∙◌}
-use native.Mathlib.Omega.{arith}
+use mathlib.Core.Path.{◌≡◌}
 use lib.ListN.{length}
-use borrow.Author.Rules.{rules}
-use borrow.Author.Tests.{not-true, not-false}
-use Rattle.scanner.proofs.Scanning.{scans_as}
 use Rattle.pieces.specs.Walk.{ending_from}
-use Rattle.pieces.proofs.Walking.{unz_kind, from_end, from_stray, from_unended, from_broken, from_next, from_unz}
 use Rattle.pieces.proofs.unz_ending.Given as goal
 
 abbrev pub invariant-loop-at : goal.invariant-loop-at
