@@ -14,7 +14,7 @@ use Rattle.normal_form_text.proofs.Parts.{stored_none, as_long, rest_fits, store
 use Rattle.normal_form_text.proofs.put_contents.Given as goal
 
 abbrev pub invariant-loop-at : goal.invariant-loop-at
-invariant-loop-at l =    Stored l.c (normal_characters l.c.mark l.repetition) l.s l.initial.buffer l.buffer (record { l.total = l.from; l.at = l.start }) (record { l.total = l.total; l.at = l.at })
+invariant-loop-at l =    Stored l.c (normal_characters l.c.mark l.repetition) l.s l.initial.buffer l.buffer (record { total = l.from; at = l.start }) (record { total = l.total; at = l.at })
 
 abbrev pub decreases-loop-at : goal.decreases-loop-at
 decreases-loop-at l = length l.s - l.at

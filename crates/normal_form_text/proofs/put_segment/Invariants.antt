@@ -19,7 +19,7 @@ use Rattle.normal_form_text.proofs.put_segment.Given as goal
 
 abbrev pub invariant-loop-byte : goal.invariant-loop-byte
 invariant-loop-byte l =    Goes l.initial.buffer l.buffer l.initial.m.total l.m.total (emitted_at l.c l.n l.s l.initial.at) (emitted l.n l.m.held (tokens_at l.c l.s l.at))
-    × Passing l.c l.n l.s (record { total = l.initial.m.total; l.at = l.initial.at }) l.m l.at
+    × Passing l.c l.n l.s (record { total = l.initial.m.total; at = l.initial.at }) l.m l.at
 
 abbrev pub decreases-loop-byte : goal.decreases-loop-byte
 decreases-loop-byte l = length l.s - l.at

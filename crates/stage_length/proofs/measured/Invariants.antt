@@ -15,7 +15,7 @@ use Rattle.stage_length.proofs.Parts.{measured_none, measured_more}
 use Rattle.stage_length.proofs.measured.Given as goal
 
 abbrev pub invariant-loop-at : goal.invariant-loop-at
-invariant-loop-at l =    Measured l.c (normal_characters l.c.mark l.repetition) l.s (record { l.total = 0; l.at = l.start }) (record { l.total = l.total; l.at = l.at })
+invariant-loop-at l =    Measured l.c (normal_characters l.c.mark l.repetition) l.s (record { total = 0; at = l.start }) (record { total = l.total; at = l.at })
 
 abbrev pub decreases-loop-at : goal.decreases-loop-at
 decreases-loop-at l = length l.s - l.at

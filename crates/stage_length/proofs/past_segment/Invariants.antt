@@ -12,7 +12,7 @@ use Rattle.stage_length.proofs.Passing.{Passing, passing_none, passing_byte, pas
 use Rattle.stage_length.proofs.past_segment.Given as goal
 
 abbrev pub invariant-loop-byte : goal.invariant-loop-byte
-invariant-loop-byte l = Passing l.c l.n l.s (record { total = l.initial.m.total; l.at = l.initial.at }) l.m l.at
+invariant-loop-byte l = Passing l.c l.n l.s (record { total = l.initial.m.total; at = l.initial.at }) l.m l.at
 
 abbrev pub decreases-loop-byte : goal.decreases-loop-byte
 decreases-loop-byte l = length l.s - l.at

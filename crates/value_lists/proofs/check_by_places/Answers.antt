@@ -8,7 +8,7 @@ store_places-size-requires c = refl
 pub check_there-requires : goal.check_there-requires
 check_there-requires c =
     let asked = c.requires in
-    (asked.0, asked.1, c.type_inv.places.ensures)
+    (asked.0, asked.1, c.store_places-size.ensures)
 
 pub returns : goal.returns
 returns c = c.check_there.ensures
