@@ -153,6 +153,7 @@ module _ (Met : ℕ → ℕ → Type 0) where
             (λ p. (record { fault = g; place = q }, in_g q p, inr (refl, omega arith)))
             (λ p. (record { fault = f; place = q }, in_f q p, inr (refl, omega arith)))
             (g-back q (subst (λ (x : ℕ). Met x q) e k))
+        back m q (Memᴰ.tail (Memᴰ.tail (Memᴰ.tail j))) k = elim j [ ]
         back m q (Memᴰ.tail (Memᴰ.tail (Memᴰ.head e))) k =
             ⊎_elim
             (λ p. (record { fault = h; place = q }, in_h q p, inr (refl, omega arith)))
@@ -198,6 +199,7 @@ module _ (Met : ℕ → ℕ → Type 0) where
 
     back : (stages : List Stage) (numbers : List (List ℕ)) → Lined stages numbers → Answers Met n p numbers → Told stages n p
     unfolding answering or_else
+    back [] [] l a = elim a [ ]
     back [] (numbers ∷ rest) l a = absurd l
     back (stage ∷ stages) [] l a = absurd l
     back (stage ∷ stages) (numbers ∷ rest) (settled, on) a = step (lowest stage) refl settled a (λ h. back stages rest (on h))

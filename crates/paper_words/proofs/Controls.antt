@@ -42,10 +42,12 @@ trailers = Unt ∷ Une ∷ Unz ∷ []
 trailer_index : {kind : Kind} → Memᴰ kind trailers → (4 ≤ index kind) × (index kind ≤ 6)
 trailer_index {kind} (Memᴰ.head e) = let i = ap index e in (omega arith, omega arith)
 trailer_index {kind} (Memᴰ.tail (Memᴰ.head e)) = let i = ap index e in (omega arith, omega arith)
+trailer_index {kind = kind} (Memᴰ.tail (Memᴰ.tail (Memᴰ.tail m))) = elim m [ ]
 trailer_index {kind} (Memᴰ.tail (Memᴰ.tail (Memᴰ.head e))) = let i = ap index e in (omega arith, omega arith)
 
 opener_index : {kind : Kind} → Memᴰ kind (Unb ∷ Ung ∷ []) → index kind ≤ 1
 opener_index {kind} (Memᴰ.head e) = let i = ap index e in omega arith
+opener_index {kind = kind} (Memᴰ.tail (Memᴰ.tail m)) = elim m [ ]
 opener_index {kind} (Memᴰ.tail (Memᴰ.head e)) = let i = ap index e in omega arith
 
 -- what is asked of a segment that is of none of these, and of each that is
@@ -225,6 +227,7 @@ module _ (past : List Segment) (g : Segment) where
           subst (λ (x : Kind). Counts past x (decimal v)) (sym e)
           (subst (Counts past Une) (sym (counts_so (decimal v) (messages_in (map kind_of n.0)) (une_count past g v stands own n) h))
           (Counts.messages_since n))
+      by v stands kind k (Memᴰ.tail (Memᴰ.tail (Memᴰ.tail m))) = elim m [ ]
       by v stands kind k (Memᴰ.tail (Memᴰ.tail (Memᴰ.head e))) =
           let own : kind_of g ≡ Unz = k ∙ e in
           subst (λ (x : Kind). Counts past x (decimal v)) (sym e)

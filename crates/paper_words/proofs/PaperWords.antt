@@ -41,6 +41,7 @@ use Rattle.paper_words.proofs.Written.{write_refuses}
 
 with_star : (rest : List ℕ) (level : ℕ) → Memᴰ level (text "AB") → six (characters_of (text "UNB+UNO" ++ level ∷ text ":4" ++ rest)) ≡ text ":+.?*'"
 with_star rest level (Memᴰ.head e) = ap six ((plus_opening (text "UNO" ++ level ∷ text ":4" ++ rest)).1 (rest, inl (ap (λ (l : ℕ). text "UNO" ++ l ∷ text ":4" ++ rest) e)))
+with_star rest level (Memᴰ.tail (Memᴰ.tail m)) = elim m [ ]
 with_star rest level (Memᴰ.tail (Memᴰ.head e)) =
     ap six ((plus_opening (text "UNO" ++ level ∷ text ":4" ++ rest)).1 (rest, inr (ap (λ (l : ℕ). text "UNO" ++ l ∷ text ":4" ++ rest) e)))
 

@@ -90,6 +90,7 @@ other_kind tag n = user_kind tag (λ last m e. n (subst (λ (l : Bytes). Memᴰ 
     named last m = among (text "BGHSTEZ") m
       where
         among : (letters : Bytes) → Memᴰ last letters → Memᴰ (text "UN" ++ last ∷ []) (map (λ l. text "UN" ++ l ∷ []) letters)
+        among [] m = elim m [ ]
         among (l ∷ letters) (Memᴰ.head e) = Memᴰ.head (ap (λ (x : ℕ). text "UN" ++ x ∷ []) e)
         among (l ∷ letters) (Memᴰ.tail k) = Memᴰ.tail (among letters k)
 

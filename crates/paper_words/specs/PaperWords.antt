@@ -11,7 +11,7 @@ use Imports.*
 
 infix 40 ◌∈◌
 abbrev pub ◌∈◌ : {A : Type 0} → A → List A → Type 0
-x ∈ xs = List-Memᴰ x xs
+x ∈ xs = Memᴰ x xs
 
 -- a segment's elements, each a list of repeats, each a list of values
 abbrev pub Elements : Type 0

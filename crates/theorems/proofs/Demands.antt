@@ -40,7 +40,7 @@ use Rattle.acceptance_laws.specs.Same.{Same}
 use Rattle.acceptance_laws.specs.Breaks.{ButForBreaks}
 use Rattle.acceptance_laws.proofs.Opening.{opening_clear}
 use Rattle.acceptance_laws.proofs.Tags.{tags_clear}
-use Rattle.acceptance_laws.proofs.Acceptance.{allowed_exactly, list_read}
+use Rattle.acceptance_laws.proofs.Acceptance.{allowed_exactly, list_read_lem}
 use Rattle.acceptance_laws.proofs.Fakes.{x_allowed, empty_not_allowed}
 use Rattle.acceptance_laws.proofs.Same.{compared_same, compared_different, same_self, same_back, same_on, keep_same, keep_other}
 use Rattle.acceptance_laws.proofs.Breaks.{breaks_back, breaks_contents, breaks_mark, breaks_form, breaks_same}
@@ -68,10 +68,10 @@ body_begins s = ⊎_elim (advised_leads s) (λ h. opened_leads s ((place_none_no
 
 list_is : (s : List ℕ) (a : Allowed s) → a.spelled.list ≡ map words_of (segments_of s)
 unfolding read_list listed segments_of body_tokens
-list_is s a = list_read s a
+list_is s a = list_read_lem s a
 
 contents_are : (s : List ℕ) (a : Allowed s) → contents s ≡ trim_list a.spelled.list
-contents_are s a = contents_read s ∙ ap trim_list (sym (list_read s a))
+contents_are s a = contents_read s ∙ ap trim_list (sym (list_read_lem s a))
 
 form_is : (s : List ℕ) → normal_form s ≡ advice_of (form_characters s) ++ spell (form_characters s) (contents s)
 unfolding normal_form interchange

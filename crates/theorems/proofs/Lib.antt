@@ -1,3 +1,3 @@
 pub mod Buffers
 pub mod Demands
-pub mod Contracts
+pub mod FromContracts

@@ -1,7 +1,7 @@
 -- The names that the record uses, each from the file that declares it: first the definitions that compute, then the notions that stand beside their
 -- definitions. Assumes nothing.
 pub use Rattle.std.specs.Prelude.{ℕ, ◌+◌, ◌*◌, ◌%◌, ◌≤◌, ◌<◌, ◌≡◌, true, ◌↔◌, ◌⊎◌, length, take, drop}
-pub use mathlib.Core.List.{List, [], ◌∷◌, ◌++◌, map, reverse, Memᴰ as List-as-Memᴰ}
+pub use mathlib.Core.List.{List, [], ◌∷◌, ◌++◌, map, reverse, Memᴰ}
 pub use Rattle.std.proofs.Math.Option.{some}
 pub use Rattle.lists.specs.Lists.{text, is_empty, those, at}
 pub use Rattle.characters.specs.declared.Characters.{Characters}

@@ -1,5 +1,5 @@
 -- What follows for a caller from the contracts alone, whatever code meets them: for all answers and buffers that they allow, one
--- operation after the other. Each field of `Contracts` is a theorem; `proofs/Contracts.antt` proves the record. Assumes nothing.
+-- operation after the other. Each field of `Contracts` is a theorem; `proofs/FromContracts.antt` proves the record. Assumes nothing.
 use Rattle.std.specs.Prelude.{ℕ, ◌≤◌, ◌≡◌, true, List, ◌++◌, length, take}
 use Rattle.lists.specs.Lists.{all}
 use Rattle.characters.specs.Characters.{is_break, six_bytes, characters_of}

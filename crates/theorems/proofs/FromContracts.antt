@@ -42,7 +42,7 @@ use Rattle.acceptance_laws.proofs.Breaks.{breaks_same}
 use Rattle.acceptance_laws.proofs.Respaced.{breaks_behind}
 use Rattle.round_trip_laws.proofs.Written.{bytes_stand, table_stands}
 use Rattle.round_trip_laws.proofs.Theorems.{written_accepted, written_back, read_back}
-use Rattle.theorems.specs.Contracts.{IsAccepted, AreSame, ReadAfterWrite, WriteAfterRead, Contracts}
+use Rattle.theorems.specs.FromContracts.{IsAccepted, AreSame, ReadAfterWrite, WriteAfterRead, Contracts}
 
 -- ---- what the definitions answer is what the code answers
 
