@@ -44,4 +44,4 @@ returns c =
     let mid : Reached = record { total = x.from.total + (c.stretch_end-to.result - x.from.at); at = c.stretch_end-to.result } in
     let first = stretch_stored x.c x.n x.s.now x.buffer.now x.from mid st c.put_stretch.ensures refl in
     let (part, further) = c.put_segment.ensures in
-    (stored_more x.c x.n x.s.now first part, λ i. later i st.0 part.decreases.on further)
+    (stored_more x.c x.n x.s.now first part, λ i. later i st.0 part.measured.on further)

@@ -49,7 +49,7 @@ put_rest-requires c =
     let first = clear_stored x.c x.repetition x.s.now x.buffer.now x.from mid clear sound inside c.put_between.ensures (ap (λ (k : ℕ). x.from.total + k) c.length_between.ensures) in (
       short,
       clear.1 inside,
-      omega (arith, first.decreases.low, first.decreases.on),
+      omega (arith, first.measured.low, first.measured.on),
       calm ∙ ap (λ (n : Characters). quiet x.c && quiet n) form,
       omega (
         arith,
@@ -67,4 +67,4 @@ returns c =
     let first = clear_stored x.c x.repetition x.s.now x.buffer.now x.from mid clear sound inside c.put_between.ensures (ap (λ (k : ℕ). x.from.total + k) c.length_between.ensures) in
     let (rest, further) = c.put_rest.ensures in
     let second = stored_with x.c x.s.now c.normal_characters-n.ensures rest in
-    (stored_more x.c (normal_characters x.c.mark x.repetition) x.s.now first second, λ i. later i clear.0 second.decreases.on further)
+    (stored_more x.c (normal_characters x.c.mark x.repetition) x.s.now first second, λ i. later i clear.0 second.measured.on further)
