@@ -1,11 +1,8 @@
 -- `stage_control::check` meets its contract. The loop's invariant: some segments passed, of which the walk and the headers keep what
 -- the next one is judged by, and the stage answers what it answers from `at` on. What is left of the input falls. Assumes nothing.
-use Prim.Native.Nat.{◌-◌}
 use mathlib.Core.Path.{sym}
 use native.Mathlib.Omega.{arith}
-use lib.ListN.{length}
-use borrow.Author.Rules.{rules}
-use Rattle.stage_control.proofs.Stage.{falls, Passing, passing_begun, passing_within, passing_end, passing_failed, passing_next}
+use Rattle.stage_control.proofs.Stage.{falls, passing_begun, passing_within, passing_end, passing_failed, passing_next}
 use Rattle.stage_control.proofs.check.Goals as goal
 
 pub loop-at-init : goal.loop-at-init

@@ -3,7 +3,6 @@
 use mathlib.Core.Path.{sym, ◌∙◌}
 use borrow.Author.Tests.{not-true, not-false, eq-eqb, ne_eqb}
 use Rattle.stage_control.specs.Controlling.{controlled_by}
-use borrow.Author.Rules.{rules}
 use Rattle.stage_control.proofs.segment_control.Goals as goal
 
 pub returns-then-p-eq0 : goal.returns-then-p-eq0

@@ -2,7 +2,6 @@
 use mathlib.Core.Path.{sym, ◌∙◌}
 use borrow.Author.Tests.{not-true, not-false, eq-eqb, ne_eqb}
 use Rattle.stage_control.specs.Controlling.{trailer_by}
-use borrow.Author.Rules.{rules}
 use Rattle.stage_control.proofs.trailer_control.Goals as goal
 
 pub returns-then-not-is_count : goal.returns-then-not-is_count

@@ -1,7 +1,6 @@
 -- `stage_control::true_count` meets its contract: in each arm the kind is known. Assumes nothing.
 use mathlib.Core.Path.{sym, ap, ◌∙◌}
 use Rattle.stage_control.specs.Controlling.{count_due}
-use borrow.Author.Rules.{rules}
 use Rattle.stage_control.proofs.true_count.Goals as goal
 
 pub returns-in-Unt : goal.returns-in-Unt
