@@ -1,13 +1,10 @@
 -- `stage_bytes::all_orderly` meets its contract. The loop's invariant: all bytes are orderly just where none was found that is not, and those
 -- after the four bytes at `at` are. What is left of the input falls. Assumes nothing.
-use Prim.Native.Nat.{◌+◌, ◌-◌, ◌≤◌}
-use mathlib.Core.Path.{◌≡◌, sym, ◌∙◌}
-use mathlib.Core.Bool.{◌&&◌}
+use mathlib.Core.Path.{sym, ◌∙◌}
 use native.Mathlib.Omega.{arith}
-use lib.ListN.{length, drop, length-drop}
+use lib.ListN.{length-drop}
 use borrow.Author.Rules.{rules}
-use Rattle.stage_bytes.specs.Orderly.{all_orderly}
-use Rattle.stage_bytes.proofs.Tests.{few_orderly, window, first_four, window_next, window_end}
+use Rattle.stage_bytes.proofs.Tests.{few_orderly, first_four, window_next, window_end}
 use Rattle.stage_bytes.proofs.all_orderly.Goals as goal
 
 pub returns-then-s-start : goal.returns-then-s-start
@@ -26,30 +23,14 @@ returns-then-s-start-lt4 c =
 pub service_apart-requires : goal.service_apart-requires
 service_apart-requires c = search rules
 
-shared-slice-read-opening-is-orderly :
-    tie.Need-shared-slice-read-opening-is-orderly invariant-loop decreases-loop
-shared-slice-read-opening-is-orderly c = omega arith
-
 pub overflow_add-start : goal.overflow_add-start
 overflow_add-start c = omega arith
-
-shared-slice-read-opening-is-orderly-2 :
-    tie.Need-shared-slice-read-opening-is-orderly-2 invariant-loop decreases-loop
-shared-slice-read-opening-is-orderly-2 c = omega arith
 
 pub overflow_add-start-2 : goal.overflow_add-start-2
 overflow_add-start-2 c = omega arith
 
-shared-slice-read-opening-is-orderly-3 :
-    tie.Need-shared-slice-read-opening-is-orderly-3 invariant-loop decreases-loop
-shared-slice-read-opening-is-orderly-3 c = omega arith
-
 pub overflow_add-start-3 : goal.overflow_add-start-3
 overflow_add-start-3 c = omega arith
-
-shared-slice-read-opening-is-orderly-4 :
-    tie.Need-shared-slice-read-opening-is-orderly-4 invariant-loop decreases-loop
-shared-slice-read-opening-is-orderly-4 c = omega arith
 
 pub overflow_sub-last : goal.overflow_sub-last
 overflow_sub-last c = omega arith

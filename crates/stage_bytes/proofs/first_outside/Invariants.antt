@@ -1,16 +1,10 @@
 -- `stage_bytes::first_outside` meets its contract. The loop's invariant: what the walk answers from the start it answers from `at`.
 -- What is left of the input falls. Assumes nothing.
 use Prim.Native.Nat.{◌-◌}
-use mathlib.Core.Path.{◌≡◌, refl, sym, ap, ◌∙◌}
-use native.Mathlib.Omega.{arith}
+use mathlib.Core.Path.{◌≡◌}
 use lib.ListN.{length}
-use borrow.Author.Rules.{rules}
-use borrow.Author.Tests.{not-true, not-false}
-use Rattle.refusals.specs.Refusals.{outcome}
 use Rattle.values.specs.Tokens.{tokens_at}
 use Rattle.stage_walks.specs.Walks.{leveled}
-use Rattle.scanner.proofs.Lexing.{lexes_as}
-use Rattle.stage_bytes.proofs.Steps.{level_byte, level_separator, level_fault, level_end}
 use Rattle.stage_bytes.proofs.first_outside.Given as goal
 
 abbrev pub invariant-loop-byte : goal.invariant-loop-byte

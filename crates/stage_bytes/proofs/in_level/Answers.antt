@@ -1,10 +1,9 @@
 -- `stage_bytes::in_level` meets its contract: where every byte is in the level, or all are orderly, nothing is refused, and elsewhere the
 -- walk answers. Assumes nothing.
-use mathlib.Core.Path.{◌≡◌, sym, ap, ◌∙◌}
+use mathlib.Core.Path.{sym, ap, ◌∙◌}
 use Rattle.refusals.specs.Refusals.{outcome}
 use Rattle.stage_bytes.proofs.Inside.{all_leveled}
 use Rattle.stage_bytes.proofs.Orderly.{all_orderly_leveled}
-use borrow.Author.Rules.{rules}
 use Rattle.stage_bytes.proofs.in_level.Goals as goal
 
 pub returns-then-all_in_level : goal.returns-then-all_in_level

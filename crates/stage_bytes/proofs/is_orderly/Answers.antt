@@ -1,6 +1,5 @@
 -- `stage_bytes::is_orderly` meets its contract: it makes the definition's tests. Assumes nothing.
 use Rattle.stage_bytes.proofs.Tests.{orderly_tests}
-use borrow.Author.Rules.{rules}
 use Rattle.stage_bytes.proofs.is_orderly.Goals as goal
 
 pub returns : goal.returns

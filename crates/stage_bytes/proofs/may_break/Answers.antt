@@ -1,6 +1,5 @@
 -- `stage_bytes::may_break` meets its contract: it makes the definition's tests. Assumes nothing.
 use Rattle.stage_bytes.proofs.Tests.{may_break_tests}
-use borrow.Author.Rules.{rules}
 use Rattle.stage_bytes.proofs.may_break.Goals as goal
 
 pub returns : goal.returns

@@ -1,6 +1,5 @@
 -- `stage_bytes::opening_is_orderly` meets its contract: each byte is asked with those before it. Assumes nothing.
 use Rattle.stage_bytes.proofs.Tests.{opening_tests}
-use borrow.Author.Rules.{rules}
 use Rattle.stage_bytes.proofs.opening_is_orderly.Goals as goal
 
 pub returns : goal.returns

@@ -1,6 +1,5 @@
 -- `stage_bytes::service_apart` meets its contract: it makes the definition's tests. Assumes nothing.
 use Rattle.stage_bytes.proofs.Tests.{apart_tests}
-use borrow.Author.Rules.{rules}
 use Rattle.stage_bytes.proofs.service_apart.Goals as goal
 
 pub returns : goal.returns
