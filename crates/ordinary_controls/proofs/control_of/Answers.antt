@@ -1,5 +1,4 @@
 -- `ordinary_controls::control_of` meets its contract: a segment with a count is a trailer. Assumes nothing.
-use borrow.Author.Rules.{rules}
 use Rattle.ordinary_controls.proofs.Standing.{header_controls, trailer_controls}
 use Rattle.ordinary_controls.proofs.control_of.Goals as goal
 

@@ -1,12 +1,8 @@
 -- `ordinary_controls::count_at` meets its contract. The loop's invariant: the bytes before `at` are up to six digits, and spell the number. What is
 -- left of the input falls. Assumes nothing.
-use Prim.Native.Nat.{◌-◌, ◌≤◌}
-use mathlib.Core.Path.{sym, ◌∙◌}
-use native.Mathlib.Omega.{arith}
-use lib.ListN.{length, get_or}
-use borrow.Author.Rules.{rules}
-use borrow.Author.Tests.{not-false}
-use Rattle.ordinary_controls.proofs.Parts.{Reads, digit_least, reads_none, reads_few, reads_next}
+use Prim.Native.Nat.{◌-◌}
+use lib.ListN.{length}
+use Rattle.ordinary_controls.proofs.Parts.{Reads}
 use Rattle.ordinary_controls.proofs.count_at.Given as goal
 
 abbrev pub invariant-loop-at : goal.invariant-loop-at

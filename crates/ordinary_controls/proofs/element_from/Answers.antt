@@ -1,7 +1,6 @@
 -- `ordinary_controls::element_from` meets its contract: the first element begins after the tag, any other is looked for. Assumes nothing.
 use Prim.Native.Nat.{ℕ, ◌+◌}
 use mathlib.Core.Path.{sym, subst, ◌∙◌}
-use borrow.Author.Rules.{rules}
 use Rattle.elements.specs.Elements.{ElementAt}
 use Rattle.ordinary_controls.proofs.Standing.{first_element}
 use Rattle.ordinary_controls.proofs.element_from.Goals as goal

@@ -1,5 +1,4 @@
 -- `ordinary_controls::header_control` meets its contract: the run from the place on is the reference. Assumes nothing.
-use borrow.Author.Rules.{rules}
 use Rattle.ordinary_controls.proofs.Standing.{refers_is}
 use Rattle.ordinary_controls.proofs.header_control.Goals as goal
 

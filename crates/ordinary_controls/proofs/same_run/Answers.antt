@@ -1,12 +1,8 @@
 -- `ordinary_controls::same_run` meets its contract. The loop's invariant: the bytes before `at` are ordinary and the same from the second place
 -- up to `other`. What is left of the input falls. Assumes nothing.
-use Prim.Native.Nat.{◌+◌, ◌-◌}
-use mathlib.Core.Path.{◌≡◌, sym, ◌∙◌}
+use mathlib.Core.Path.{sym, ◌∙◌}
 use native.Mathlib.Omega.{arith}
-use lib.ListN.{length}
-use borrow.Author.Rules.{rules}
 use borrow.Author.Tests.{not-false}
-use Rattle.ordinary_controls.specs.Standing.{SameRun}
 use Rattle.ordinary_controls.proofs.Parts.{same_none, same_next}
 use Rattle.ordinary_controls.proofs.same_run.Goals as goal
 
