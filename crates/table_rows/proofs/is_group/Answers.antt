@@ -4,7 +4,6 @@ use Rattle.lists.specs.Lists.{same}
 use Rattle.message_tables.specs.Entries.{is_group}
 use Rattle.table_rows.specs.declared.Tag.{Tag}
 use Rattle.table_rows.specs.Rows.{tag_bytes}
-use borrow.Author.Rules.{rules}
 use Rattle.table_rows.proofs.is_group.Goals as goal
 
 pub returns : goal.returns

@@ -1,7 +1,6 @@
 -- `table_rows::is_mandatory` meets its contract. Assumes nothing.
 use mathlib.Core.Path.{◌≡◌, refl}
 use mathlib.Core.Bool.{Bool, true, false, ◌||◌}
-use lib.Dec.{eqb}
 use Rattle.lists.specs.Lists.{member}
 use Rattle.message_tables.specs.Entries.{is_mandatory}
 use Rattle.table_rows.proofs.is_mandatory.Goals as goal
