@@ -7,7 +7,7 @@ use native.Mathlib.Omega.{arith}
 use lib.ListN.{length, get_or}
 use lib.Dec.{eqb, leb}
 use borrow.Author.Tests.{eqb-false, ne_eqb, le-leb}
-use Rattle.lists.specs.Lists.{text, same, begins, all}
+use Rattle.lists.specs.Lists.{same, begins, all}
 use Rattle.lists.proofs.Texts.{and_left, and_right, and_both}
 use Rattle.characters.specs.declared.Characters.{Characters}
 use Rattle.characters.specs.Characters.{upper, digit}
@@ -17,7 +17,6 @@ use Rattle.segments.specs.declared.Kind.TheVariants.{Unb, Ung, Unh, Uns, Unt, Un
 use Rattle.segments.specs.Kinds.{is, kind_named}
 use Rattle.segments.specs.Tags.{is_tag, kind_of, tag_rule}
 use Rattle.control_elements.specs.Positions.{position_table, positions_of}
-use Rattle.walk_laws.proofs.Places.{each}
 use Rattle.scanner.specs.declared.Lexed.TheVariants.{Byte, Separator}
 use Rattle.scanner.specs.Scan.{segment_at}
 use Rattle.scanner.proofs.Lexing.{Lexes}

@@ -4,7 +4,7 @@ use Rattle.std.proofs.Math.Option.{none}
 use Rattle.lists.specs.Lists.{if◌then◌else◌}
 use Rattle.characters.specs.declared.Characters.{Characters}
 use Rattle.refusals.specs.declared.Outcome.TheVariants.{Passed}
-use Rattle.values.specs.Tokens.{Segment, tokens_at}
+use Rattle.values.specs.Tokens.{tokens_at}
 use Rattle.segments.specs.declared.Kind.{Kind}
 use Rattle.segments.specs.declared.Kind.TheVariants.{User}
 use Rattle.segments.specs.declared.Section.{Section}

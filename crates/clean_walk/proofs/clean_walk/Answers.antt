@@ -1,13 +1,10 @@
 -- `clean_walk::clean_walk` meets its contract. The loop's invariant: each of the three stages answers from the start what it answers from
 -- `at` on, with what the walk and the headers keep. What is left of the input falls. Assumes nothing.
-use Prim.Native.Nat.{◌-◌}
 use mathlib.Core.Path.{sym, ◌∙◌, subst}
 use native.Mathlib.Omega.{arith}
-use lib.ListN.{length}
-use borrow.Author.Rules.{rules}
 use Rattle.scanner.proofs.Scanning.{scans_as}
 use Rattle.clean_walk.specs.Clean.{Steps}
-use Rattle.clean_walk.proofs.Going.{Going, going_begun, going_within, going_next, going_end}
+use Rattle.clean_walk.proofs.Going.{going_begun, going_within, going_next, going_end}
 use Rattle.clean_walk.proofs.clean_walk.Goals as goal
 
 pub loop-at-init : goal.loop-at-init
@@ -20,12 +17,11 @@ pub returns-in_default : goal.returns-in_default
 returns-in_default c = tt
 
 pub step_at-requires : goal.step_at-requires
-step_at-requires c =
-    (
-      c.loop-at-test.true,
-      c.is_quiet-calm.ensures,
-      going_within _ _ _ c.loop-at.invariant (omega arith),
-    )
+step_at-requires c = (
+  c.loop-at-test.true,
+  c.is_quiet-calm.ensures,
+  going_within _ _ _ c.loop-at.invariant (omega arith),
+)
 
 pub returns-in_default-step_at : goal.returns-in_default-step_at
 returns-in_default-step_at c = tt

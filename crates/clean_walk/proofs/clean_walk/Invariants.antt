@@ -1,13 +1,8 @@
 -- `clean_walk::clean_walk` meets its contract. The loop's invariant: each of the three stages answers from the start what it answers from
 -- `at` on, with what the walk and the headers keep. What is left of the input falls. Assumes nothing.
 use Prim.Native.Nat.{◌-◌}
-use mathlib.Core.Path.{sym, ◌∙◌, subst}
-use native.Mathlib.Omega.{arith}
 use lib.ListN.{length}
-use borrow.Author.Rules.{rules}
-use Rattle.scanner.proofs.Scanning.{scans_as}
-use Rattle.clean_walk.specs.Clean.{Steps}
-use Rattle.clean_walk.proofs.Going.{Going, going_begun, going_within, going_next, going_end}
+use Rattle.clean_walk.proofs.Going.{Going}
 use Rattle.clean_walk.proofs.clean_walk.Given as goal
 
 abbrev pub invariant-loop-at : goal.invariant-loop-at

@@ -1,6 +1,5 @@
 -- `clean_walk::control_at` meets its contract: what the bytes do not tell is read. Assumes nothing.
 use mathlib.Core.Path.{subst}
-use borrow.Author.Rules.{rules}
 use borrow.Author.Tests.{not-false}
 use Rattle.ordinary_controls.specs.Standing.{Controls}
 use Rattle.clean_walk.proofs.Tags.{tag_tagged}

@@ -1,6 +1,5 @@
 -- `clean_walk::control_read` meets its contract: it asks what stage (10 11 12) asks. Assumes nothing.
 use mathlib.Core.Path.{sym, ◌∙◌}
-use borrow.Author.Rules.{rules}
 use Rattle.clean_walk.proofs.control_read.Goals as goal
 
 pub returns-in-Passed : goal.returns-in-Passed

@@ -1,7 +1,6 @@
 -- `clean_walk::is_user` meets its contract: the four bytes spell a tag, and the first two of them tell a user segment. Assumes nothing.
 use mathlib.Core.Bool.{false≢true}
 use native.Mathlib.Omega.{arith}
-use borrow.Author.Rules.{rules}
 use borrow.Author.Tests.{not-false}
 use Rattle.clean_walk.proofs.Tags.{tag_user}
 use Rattle.clean_walk.proofs.is_user.Goals as goal

@@ -1,7 +1,6 @@
 -- `clean_walk::spells_tag` meets its contract: the four bytes are asked one by one. Assumes nothing.
 use mathlib.Core.Bool.{false≢true}
 use native.Mathlib.Omega.{arith}
-use borrow.Author.Rules.{rules}
 use Rattle.clean_walk.proofs.Tags.{spells}
 use Rattle.clean_walk.proofs.spells_tag.Goals as goal
 

@@ -1,5 +1,4 @@
 -- `clean_walk::step_at` meets its contract: a user segment is told by its four bytes, any other by its tag. Assumes nothing.
-use borrow.Author.Rules.{rules}
 use Rattle.clean_walk.proofs.Going.{user_steps}
 use Rattle.clean_walk.proofs.step_at.Goals as goal
 

@@ -1,6 +1,5 @@
 -- `clean_walk::step_by` meets its contract: by the tag. Assumes nothing.
 use mathlib.Core.Path.{subst}
-use borrow.Author.Rules.{rules}
 use Rattle.clean_walk.specs.Clean.{Tells}
 use Rattle.clean_walk.proofs.step_by.Goals as goal
 

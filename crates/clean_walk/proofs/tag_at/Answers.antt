@@ -1,7 +1,6 @@
 -- `clean_walk::tag_at` meets its contract. Assumes nothing.
 use mathlib.Core.Path.{ap, ◌∙◌}
 use native.Mathlib.Omega.{arith}
-use borrow.Author.Rules.{rules}
 use borrow.Author.Tests.{not-false}
 use Rattle.clean_walk.proofs.Tags.{tag_service}
 use Rattle.clean_walk.proofs.tag_at.Goals as goal

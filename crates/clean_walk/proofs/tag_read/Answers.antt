@@ -1,7 +1,6 @@
 -- `clean_walk::tag_read` meets its contract. Assumes nothing.
 use mathlib.Core.Path.{sym, ◌∙◌}
 use mathlib.Core.Bool.{false≢true}
-use borrow.Author.Rules.{rules}
 use Rattle.clean_walk.proofs.tag_read.Goals as goal
 
 pub returns-then-tag_holds : goal.returns-then-tag_holds

@@ -1,6 +1,5 @@
 -- `clean_walk::user_step` meets its contract: it is the definition. Assumes nothing.
 use mathlib.Core.Path.{sym, ap, ◌∙◌}
-use borrow.Author.Rules.{rules}
 use borrow.Author.Tests.{not-true, not-false}
 use Rattle.lists.proofs.Texts.{if_true, if_false}
 use Rattle.clean_walk.specs.declared.Step.TheVariants.{Next}
