@@ -17,7 +17,7 @@ use Rattle.refusals.specs.declared.Outcome.TheVariants.{Passed, Failed}
 use Rattle.refusals.specs.Refusals.{place_if, failed_at}
 use Rattle.message_tables.specs.Entries.{Entry, entry_of, whole_entries, entries_of, is_group}
 use Rattle.message_tables.specs.Soundness.{most_entries, most_depth, is_table_tag, segment_fits, is_trigger}
-use Rattle.message_table_laws.specs.Scanning.{lower, own_room, nearest, Rises, group_fits_in, fits_in, scanned, size_fault, first_fault}
+use Rattle.message_table_laws.specs.Scanning.{lower, own_room, nearest, Rises, fits_in, scanned, size_fault, first_fault}
 use Rattle.message_table_laws.proofs.Entries.{entry_at_lem}
 use Rattle.message_table_laws.proofs.Rising.{group_nearest}
 use Rattle.message_table_laws.proofs.Scanning.{whole_entries_lem}

@@ -1,7 +1,6 @@
 -- `table_soundness::check` meets its contract: the first entry that does not fit answers, or the size does. Assumes nothing.
 use mathlib.Core.Path.{refl, ◌∙◌}
 use Rattle.message_tables.specs.Entries.{whole_entries}
-use borrow.Author.Rules.{rules}
 use Rattle.table_soundness.proofs.Scans.{entry_answers, size_answers}
 use Rattle.table_soundness.proofs.check.Goals as goal
 

@@ -2,7 +2,6 @@
 use mathlib.Core.Path.{◌∙◌}
 use Rattle.message_tables.specs.Entries.{whole_entries}
 use Rattle.table_soundness.proofs.Scans.{size_over, size_whole, size_part}
-use borrow.Author.Rules.{rules}
 use Rattle.table_soundness.proofs.check_size.Goals as goal
 
 pub returns-then-whole-gt-MOST : goal.returns-then-whole-gt-MOST

@@ -1,5 +1,5 @@
 -- `table_soundness::entries_asked` meets its contract. Assumes nothing.
-use mathlib.Core.Path.{sym, ◌∙◌}
+use mathlib.Core.Path.{sym}
 use borrow.Author.Tests.{lt-ltb, le-ltb}
 use Rattle.lists.proofs.Texts.{if_true, if_false}
 use Rattle.table_soundness.proofs.entries_asked.Goals as goal

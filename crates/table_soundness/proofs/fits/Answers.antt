@@ -1,7 +1,6 @@
 -- `table_soundness::fits` meets its contract, test by test. Assumes nothing.
 use mathlib.Core.Path.{sym, ◌∙◌}
 use borrow.Author.Tests.{not-true, not-false}
-use borrow.Author.Rules.{rules}
 use Rattle.table_soundness.proofs.Tests.{entry_unstated, entry_untriggered, entry_group, entry_segment}
 use Rattle.table_soundness.proofs.fits.Goals as goal
 

@@ -1,6 +1,5 @@
 -- `table_soundness::is_stated` meets its contract. Assumes nothing.
 use mathlib.Core.Path.{sym, ◌∙◌}
-use borrow.Author.Rules.{rules}
 use borrow.Author.Tests.{not-true, not-false}
 use Rattle.table_soundness.proofs.Tests.{status_wrong, repeats_none, repeats_decide}
 use Rattle.table_soundness.proofs.is_stated.Goals as goal

@@ -1,7 +1,6 @@
 -- `table_soundness::is_table_tag` meets its contract, byte by byte. Assumes nothing.
 use mathlib.Core.Path.{sym, ◌∙◌}
 use borrow.Author.Tests.{not-true, not-false}
-use borrow.Author.Rules.{rules}
 use Rattle.table_soundness.proofs.Tests.{tag_broken, tag_first, tag_second, tag_third}
 use Rattle.table_soundness.proofs.is_table_tag.Goals as goal
 

@@ -1,7 +1,6 @@
 -- `table_soundness::is_trigger` meets its contract. Assumes nothing.
 use mathlib.Core.Path.{sym, ◌∙◌}
 use borrow.Author.Tests.{not-true, not-false}
-use borrow.Author.Rules.{rules}
 use Rattle.table_soundness.proofs.Tests.{trigger_group, trigger_conditional, trigger_decides}
 use Rattle.table_soundness.proofs.is_trigger.Goals as goal
 

@@ -1,20 +1,16 @@
 -- `table_soundness::scan` meets its contract. The loop's invariant: the scan from the first entry on answers as it does from this one on,
 -- with the groups that hold it. What is left of the entries falls. Assumes nothing.
-use Prim.Native.Nat.{ℕ, ◌+◌, ◌-◌, ◌*◌, ◌≤◌, ◌<◌}
+use Prim.Native.Nat.{ℕ, ◌+◌, ◌-◌, ◌≤◌, ◌<◌}
 use mathlib.Core.Path.{◌≡◌, refl, sym, ap, subst, ◌∙◌}
-use mathlib.Core.Bool.{false}
-use mathlib.Core.List.{List, []}
+use mathlib.Core.List.{List}
 use native.Mathlib.Omega.{arith}
-use lib.ListN.{length, drop, get_or, length-set}
-use borrow.Author.Rules.{rules}
+use lib.ListN.{get_or, length-set}
 use borrow.Author.Tests.{not-true, not-false}
-use Rattle.message_tables.specs.Entries.{Entry, entry_of, whole_entries, entries_of, is_group}
-use Rattle.message_tables.specs.Soundness.{most_entries}
-use Rattle.message_table_laws.specs.Scanning.{scanned}
+use Rattle.message_tables.specs.Entries.{whole_entries}
 use Rattle.table_rows.proofs.Bytes.{whole_bytes}
 use Rattle.table_soundness.specs.Fitting.{asked, fits_within, found_at}
 use Rattle.table_soundness.proofs.Rooms.{reaches}
-use Rattle.table_soundness.proofs.Scans.{Kept, scans_from, scan_starts, scan_ends, below, scan_fails, scan_opens, kept_on, scan_on}
+use Rattle.table_soundness.proofs.Scans.{scan_starts, scan_ends, below, scan_fails, scan_opens, kept_on, scan_on}
 use Rattle.table_soundness.proofs.scan.Goals as goal
 
 -- the number is one of those that are asked
@@ -104,10 +100,10 @@ loop-number-preserved c =
     let still = c.still_open-depth.ensures in (
       length-set state.ends (state.depth + 1) _ ∙ state.invariant.0,
       kept_on x.table.now state.number state.after state.depth state.ends state.invariant.1 l state.invariant.0 _ row fit
-          c.still_open-depth.result still.0 still.1.0,
+          c.still_open-depth.result still.rooms still.nested,
       state.invariant.2
           ∙ scan_on x.table.now state.number state.after state.depth state.ends state.invariant.1 l state.invariant.0 _ row fit
-          c.still_open-depth.result still.0 still.1.0 c.is_group-after.ensures,
+          c.still_open-depth.result still.rooms still.nested c.is_group-after.ensures,
     )
 
 pub returns : goal.returns

@@ -4,7 +4,6 @@ use mathlib.Core.Bool.{Bool, ◌&&◌}
 use borrow.Author.Tests.{eq-eqb, ne_eqb}
 use Rattle.message_tables.specs.Soundness.{is_table_tag, segment_fits}
 use Rattle.table_rows.specs.Rows.{tag_bytes}
-use borrow.Author.Rules.{rules}
 use Rattle.table_soundness.proofs.segment_fits.Goals as goal
 
 pub returns-then-row-ne0 : goal.returns-then-row-ne0

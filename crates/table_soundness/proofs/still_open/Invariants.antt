@@ -1,7 +1,6 @@
 -- `table_soundness::still_open` meets its contract. The loop's invariant: one entry on, the rooms of all groups are those of the first `count`.
 -- What is left of them falls. Assumes nothing.
-use borrow.Author.Rules.{rules}
-use Rattle.table_soundness.proofs.Rooms.{Passing, passing_start, passing_next, passing_open, passing_end}
+use Rattle.table_soundness.proofs.Rooms.{Passing}
 use Rattle.table_soundness.proofs.still_open.Given as goal
 
 abbrev pub invariant-loop-count : goal.invariant-loop-count

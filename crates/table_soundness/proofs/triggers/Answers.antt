@@ -3,7 +3,6 @@ use mathlib.Core.Path.{sym, ap, ◌∙◌}
 use mathlib.Core.Bool.{Bool, not, ◌||◌}
 use Rattle.message_tables.specs.Soundness.{is_trigger}
 use Rattle.table_rows.specs.Rows.{entry_in}
-use borrow.Author.Rules.{rules}
 use Rattle.table_soundness.proofs.triggers.Goals as goal
 
 pub returns-then-after : goal.returns-then-after
