@@ -1,12 +1,13 @@
 -- "Contents and normal form hold no breaks": no byte of an accepted input's contents is one, and no byte of its normal form. Assumes
 -- nothing.
+use Rattle.std.specs.Prelude.{if◌then◌else◌}
 use Prim.Native.Nat.{ℕ, zero, suc, ◌≤◌}
 use mathlib.Core.Path.{◌≡◌, refl, sym, ap, ◌∙◌}
 use mathlib.Core.Bool.{Bool, true, false, not, ◌&&◌}
 use mathlib.Core.List.{List, [], ◌∷◌, ◌++◌, map}
 use mathlib.Core.Logic.{◌⊎◌, inl, inr, ⊎_elim}
 use native.Mathlib.Omega.{arith}
-use Rattle.lists.specs.Lists.{if◌then◌else◌, member, all, gather, each_led_by, joined}
+use Rattle.lists.specs.Lists.{member, all, gather, each_led_by, joined}
 use Rattle.lists.proofs.Texts.{and_left, and_right, and_both, all_append, all_map}
 use Rattle.lists.proofs.Tests.{fails}
 use Rattle.nesting.specs.Nesting.{Nest, every, spelled}

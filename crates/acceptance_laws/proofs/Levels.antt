@@ -1,5 +1,6 @@
 -- Levels: refusals 7 and 8 are not met exactly where UNB names a level and a version that are ours, and every value byte is in
 -- that level. Assumes nothing.
+use Rattle.std.specs.Prelude.{if◌then◌else◌}
 use Prim.Native.Nat.{ℕ}
 use mathlib.Core.Path.{◌≡◌, refl, sym, ap, fun_ext, ◌∙◌}
 use mathlib.Core.Logic.{◌↔◌, ⊎_elim}
@@ -7,7 +8,7 @@ use mathlib.Core.Bool.{Bool, true, false, ◌||◌}
 use mathlib.Core.List.{List, [], ◌∷◌, cons-ne-nil}
 use mathlib.Core.Option.{Option, none, some}
 use lib.Dec.{leb}
-use Rattle.lists.specs.Lists.{if◌then◌else◌, all, at, maybe}
+use Rattle.lists.specs.Lists.{all, at, maybe}
 use Rattle.characters.specs.declared.Characters.{Characters}
 use Rattle.characters.specs.Characters.{lower, characters_of}
 use Rattle.values.specs.Tokens.{Segment, start}
@@ -29,13 +30,13 @@ class_holds : (l : Level) (b : ℕ) → in_level (class l) b ≡ holds l b
 unfolding in_level class_of in_level_b
 class_holds level_a b = step (in_level_a b) (lower b)
   where
-    step : (a l : Bool) → leb 2 (if a then 2 else if a || l then 1 else 0) ≡ a
+    step : (a l : Bool) → leb 2 (if a then 2 else (if a || l then 1 else 0)) ≡ a
     step true l = refl
     step false true = refl
     step false false = refl
 class_holds level_b b = step (in_level_a b) (lower b)
   where
-    step : (a l : Bool) → leb 1 (if a then 2 else if a || l then 1 else 0) ≡ (a || l)
+    step : (a l : Bool) → leb 1 (if a then 2 else (if a || l then 1 else 0)) ≡ (a || l)
     step true l = refl
     step false true = refl
     step false false = refl

@@ -1,4 +1,5 @@
 -- The opening: refusals 2 and 3 are not met exactly where the input begins as an interchange does. Assumes nothing.
+use Rattle.std.specs.Prelude.{if◌then◌else◌}
 use Prim.Native.Nat.{ℕ, suc, ◌+◌, ◌≤◌}
 use mathlib.Core.Path.{◌≡◌, refl, sym, ap, ap₂, ◌∙◌}
 use mathlib.Core.Logic.{◌↔◌}
@@ -9,7 +10,7 @@ use lib.ListN.{length, take, drop, length-drop, take-append-drop}
 use lib.Seq.{drop-drop}
 use lib.Dec.{eqb, ltb}
 use borrow.Author.Tests.{eqb-true, eq-eqb, ltb-false, not-false}
-use Rattle.lists.specs.Lists.{if◌then◌else◌, text, begins, member, all, at, maybe}
+use Rattle.lists.specs.Lists.{text, begins, member, all, at, maybe}
 use Rattle.lists.proofs.Texts.{and_left, and_right, and_both, or_none_left, or_none_right, if_true}
 use Rattle.characters.specs.declared.Characters.{Characters}
 use Rattle.characters.specs.Characters.{usable, six_bytes, spelled_out, advised, advice_of, plus_characters, star_characters, begins_version4, control_characters, characters_of, is_break, breaks, after_breaks, body_start, body, bad_advice, opens}

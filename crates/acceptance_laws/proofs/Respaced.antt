@@ -1,5 +1,6 @@
 -- An accepted input with other line breaks: it differs from the input in nothing else, whatever breaks they are, and the input is itself
 -- such a spacing of its segments. Assumes nothing.
+use Rattle.std.specs.Prelude.{if◌then◌else◌}
 use Prim.Native.Nat.{ℕ, suc, ◌≤◌}
 use mathlib.Core.Path.{◌≡◌, refl, sym, ap, ap₂, subst, ◌∙◌}
 use mathlib.Core.Bool.{Bool, true, false, ◌||◌, true≢false}
@@ -10,7 +11,7 @@ use native.Mathlib.Omega.{arith}
 use lib.Dec.{eqb}
 use lib.ListN.{length}
 use borrow.Author.Tests.{eqb-true, eq-eqb, ne_eqb}
-use Rattle.lists.specs.Lists.{if◌then◌else◌, text, begins, member, is_empty, all, at, maybe, joined}
+use Rattle.lists.specs.Lists.{text, begins, member, is_empty, all, at, maybe, joined}
 use Rattle.lists.proofs.Texts.{and_left, and_right, and_both, or_none_left, or_none_right, all_append, if_true, if_false}
 use Rattle.lists.proofs.Tests.{says_begins}
 use Rattle.characters.specs.declared.Characters.{Characters}

@@ -1,5 +1,6 @@
 -- Compare says "same" exactly of interchanges that are the same, which is an equivalence of accepted ones; Keep hands back the
 -- whole of the shorter one, or nothing. Assumes nothing.
+use Rattle.std.specs.Prelude.{if◌then◌else◌}
 use Prim.Native.Nat.{ℕ, ◌≤◌, ◌<◌}
 use mathlib.Core.Path.{◌≡◌, refl, sym, ap, subst, ◌∙◌}
 use mathlib.Core.Logic.{◌↔◌, ◌⊎◌, inl, inr, ⊎_elim}
@@ -11,7 +12,7 @@ use lib.ListN.{length, get_or}
 use lib.Seq.{take-length}
 use lib.Dec.{ltb}
 use borrow.Author.Tests.{ltb-true, ltb-false}
-use Rattle.lists.specs.Lists.{if◌then◌else◌, maybe}
+use Rattle.lists.specs.Lists.{maybe}
 use Rattle.lists.proofs.Texts.{if_true, if_false}
 use Rattle.refusals.specs.declared.Refusal.{Refusal}
 use Rattle.stages.specs.Stages.{refusal_of}

@@ -1,4 +1,5 @@
 -- The rule for tags: the test of refusal 6, of a segment's values, is passed exactly where they are tagged. Assumes nothing.
+use Rattle.std.specs.Prelude.{if◌then◌else◌}
 use Prim.Native.Nat.{ℕ}
 use mathlib.Core.Path.{◌≡◌, refl, sym, ap, ap₂, subst, ◌∙◌}
 use mathlib.Core.Logic.{◌↔◌, ⊎_elim}
@@ -8,7 +9,7 @@ use native.Mathlib.Omega.{arith}
 use lib.ListN.{length}
 use lib.Dec.{eqb, leb}
 use borrow.Author.Tests.{eqb-true, leb-true, le-leb}
-use Rattle.lists.specs.Lists.{if◌then◌else◌, text, same, begins, member, is_empty, is_single, all}
+use Rattle.lists.specs.Lists.{text, same, begins, member, is_empty, is_single, all}
 use Rattle.lists.proofs.Texts.{and_left, and_right, and_both, or_cases}
 use Rattle.characters.specs.Characters.{between, upper, digit}
 use Rattle.values.specs.Spelling.{Bytes}
@@ -30,8 +31,8 @@ unfolding is kind_named same member
 third_byte c = step (eqb c 66) (eqb c 71) (eqb c 72) (eqb c 83) (eqb c 84) (eqb c 69) (eqb c 90)
   where
     step : (b g h s t e z : Bool)
-        → not (is User (if b && true then Unb else if g && true then Ung else if h && true then Unh else if s && true then Uns
-        else if t && true then Unt else if e && true then Une else if z && true then Unz else User))
+        → not (is User (if b && true then Unb else (if g && true then Ung else (if h && true then Unh else (if s && true then Uns
+        else (if t && true then Unt else (if e && true then Une else (if z && true then Unz else User))))))))
         ≡ (b || (g || (h || (s || (t || (e || (z || false)))))))
     step true g h s t e z = refl
     step false true h s t e z = refl

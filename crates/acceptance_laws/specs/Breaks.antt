@@ -1,6 +1,6 @@
 -- Request 2026-01, "Line breaks between segments": inputs that differ in nothing but the breaks that are passed over. Assumes nothing.
-use Rattle.std.specs.Prelude.{ℕ, ◌≡◌, true, List, ◌++◌}
-use Rattle.lists.specs.Lists.{if◌then◌else◌, all}
+use Rattle.std.specs.Prelude.{ℕ, ◌≡◌, true, List, ◌++◌, if◌then◌else◌}
+use Rattle.lists.specs.Lists.{all}
 use Rattle.characters.specs.Characters.{is_break, advised, advice_of, characters_of, body}
 use Rattle.values.specs.Spelling.{Bytes, spell_apart}
 use Rattle.spelling_laws.specs.Bodies.{Breaks, Spelled}

@@ -1,4 +1,5 @@
 -- The parts one after the other are the list put together; each of them can be counted, measured and stored. Assumes nothing.
+use Rattle.std.specs.Prelude.{if◌then◌else◌}
 use Prim.Native.Nat.{ℕ, zero, suc, ◌+◌, ◌*◌, ◌%◌, ◌≤◌, ◌<◌}
 use mathlib.Core.Path.{◌≡◌, refl, sym, ap, ap₂, subst, ◌∙◌}
 use mathlib.Core.Bool.{Bool, true, false, not, ◌||◌, false≢true}
@@ -10,7 +11,7 @@ use native.Mathlib.Omega.{arith}
 use lib.Dec.{eqb, ltb, lit≤}
 use lib.ListN.{length, take, drop, get_or, length-map}
 use borrow.Author.Tests.{eqb-true, not-false}
-use Rattle.lists.specs.Lists.{if◌then◌else◌, text, is_empty, is_single, member, all, at, gather, maybe}
+use Rattle.lists.specs.Lists.{text, is_empty, is_single, member, all, at, gather, maybe}
 use Rattle.lists.proofs.Texts.{gather_append, or_none_left, or_none_right}
 use Rattle.nesting.specs.Nesting.{shaped}
 use Rattle.characters.specs.declared.Characters.{Characters}

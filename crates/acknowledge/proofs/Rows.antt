@@ -1,4 +1,5 @@
 -- The parts one after the other: their records, and how the text goes on from each. Assumes nothing.
+use Rattle.std.specs.Prelude.{if◌then◌else◌}
 use Prim.Native.Nat.{ℕ, suc, ◌+◌, ◌≤◌, ◌<◌}
 use mathlib.Core.Path.{◌≡◌, refl, sym, ap, subst, ◌∙◌}
 use mathlib.Core.Bool.{Bool, true, false, false≢true}
@@ -11,7 +12,7 @@ use lib.Dec.{eqb, leb}
 use lib.ListN.{length, drop, length-append, drop_of_length-le}
 use lib.Seq.{sets, drop-cons}
 use borrow.Author.Tests.{le-leb}
-use Rattle.lists.specs.Lists.{if◌then◌else◌, is_empty, all, gather}
+use Rattle.lists.specs.Lists.{is_empty, all, gather}
 use Rattle.lists.proofs.Texts.{gather_append}
 use Rattle.characters.specs.declared.Characters.{Characters}
 use Rattle.refusals.specs.declared.Fault.TheVariants.{NeedsRelease}
@@ -169,7 +170,7 @@ rank_low : (kind : ℕ) → kind ≤ 1 → rank_of kind ≤ 1
 unfolding rank_of
 rank_low kind h = step (leb kind 0) (leb kind 1) (eqb kind 3) (le-leb kind 1 h)
   where
-    step : (a b d : Bool) → b ≡ true → (if a then 0 else if b then 1 else if d then 2 else 3) ≤ 1
+    step : (a b d : Bool) → b ≡ true → (if a then 0 else (if b then 1 else (if d then 2 else 3))) ≤ 1
     step true b d e = omega arith
     step false true d e = omega arith
     step false false d e = absurd (false≢true e)

@@ -1,5 +1,6 @@
 -- What is taken over from a received interchange that can be acknowledged: each piece is spelled where it begins, stands under the
 -- characters of the normal form, and is what the list put together has. Assumes nothing.
+use Rattle.std.specs.Prelude.{if◌then◌else◌}
 use Prim.Native.Nat.{ℕ, zero, suc, ◌≤◌}
 use mathlib.Core.Path.{◌≡◌, refl, sym, ap, ap₂, ◌∙◌}
 use mathlib.Core.Bool.{Bool, true, false, not, ◌||◌, or-true, true≢false, false≢true}
@@ -8,7 +9,7 @@ use mathlib.Core.Option.{Option, none}
 use lib.Dec.{lit≤}
 use lib.ListN.{length}
 use borrow.Author.Tests.{not-false}
-use Rattle.lists.specs.Lists.{if◌then◌else◌, is_empty, is_single, any, all, those, at, last_or, single, maybe}
+use Rattle.lists.specs.Lists.{is_empty, is_single, any, all, those, at, last_or, single, maybe}
 use Rattle.lists.proofs.Texts.{and_left, and_right}
 use Rattle.characters.specs.declared.Characters.{Characters}
 use Rattle.characters.specs.Characters.{between, has_release, has_repetition, usable, six_bytes, characters_of, body_start}
@@ -62,7 +63,7 @@ from_all {A} p t u (suc k) (x ∷ xs) h =
     step (t x) (u x) (from_all p t u k xs rest) (from_all p t u (suc k) xs rest)
   where
     step : (a b : Bool) → all p (piece_from t u k xs) ≡ true → all p (piece_from t u (suc k) xs) ≡ true
-        → all p (if a then [] else if b then piece_from t u k xs else piece_from t u (suc k) xs) ≡ true
+        → all p (if a then [] else (if b then piece_from t u k xs else piece_from t u (suc k) xs)) ≡ true
     step true b one more = refl
     step false true one more = one
     step false false one more = more

@@ -1,5 +1,6 @@
 -- A lent list that is not refused is one element: its records are those of the element, and it has what an element should.
 -- Assumes nothing.
+use Rattle.std.specs.Prelude.{if◌then◌else◌}
 use Prim.Native.Nat.{ℕ, ◌≤◌, ◌<◌}
 use mathlib.Core.Path.{◌≡◌, refl, sym, ap, ap₂, ◌∙◌}
 use mathlib.Core.Bool.{Bool, true, false, not, ◌&&◌, ◌||◌, true≢false, false≢true}
@@ -8,7 +9,7 @@ use lib.ListN.{drop}
 use lib.Dec.{eqb, leb}
 use native.Mathlib.Omega.{arith}
 use borrow.Author.Tests.{leb-false, lt-leb, not-true, not-false}
-use Rattle.lists.specs.Lists.{if◌then◌else◌, is_empty, any, all, onto, cut, gather}
+use Rattle.lists.specs.Lists.{is_empty, any, all, onto, cut, gather}
 use Rattle.lists.proofs.Texts.{and_left, and_right, or_none_left, or_none_right}
 use Rattle.nesting.specs.Nesting.{shaped}
 use Rattle.nesting_laws.proofs.Shape.{shaped_first}
@@ -34,7 +35,7 @@ not_closing r h l value e =
     let high : 1 < l.kind = leb-false l.kind 1 (not-true (leb l.kind 1) e) in
     step (leb l.kind 0) (leb l.kind 1) (eqb l.kind 3) (lt-leb l.kind 0 (omega arith)) (lt-leb l.kind 1 (omega arith))
   where
-    step : (a b d : Bool) → a ≡ false → b ≡ false → leb (if a then 0 else if b then 1 else if d then 2 else 3) r ≡ false
+    step : (a b d : Bool) → a ≡ false → b ≡ false → leb (if a then 0 else (if b then 1 else (if d then 2 else 3))) r ≡ false
     step true b d p q = absurd (true≢false p)
     step false true d p q = absurd (true≢false q)
     step false false true p q = lt-leb 2 r (omega arith)

@@ -1,6 +1,7 @@
 -- The theorems of this crate. What holds of a text that Write wrote holds of an acknowledgement, which is such a text; what is left is
 -- the list put together: it has the shape of a list of segments, its tags are known, and the received elements are trimmed already.
 -- Assumes nothing.
+use Rattle.std.specs.Prelude.{if◌then◌else◌}
 use Prim.Native.Nat.{ℕ, ◌≤◌}
 use Prim.Native.String.{String}
 use mathlib.Core.Path.{◌≡◌, refl, sym, ap, subst, fun_ext, ◌∙◌}
@@ -11,7 +12,7 @@ use mathlib.Core.Option.{Option, none, some, some-ne-none, some-injective}
 use native.Mathlib.Omega.{arith}
 use lib.ListN.{length, take, drop, replicate}
 use lib.Seq.{take-append_seam}
-use Rattle.lists.specs.Lists.{if◌then◌else◌, text, same, is_empty, all, those, at, trim_end, drop_end, unless_idle, maybe}
+use Rattle.lists.specs.Lists.{text, same, is_empty, all, those, at, trim_end, drop_end, unless_idle, maybe}
 use Rattle.lists.proofs.Texts.{or_none_left, or_none_right, and_both}
 use Rattle.lists.proofs.Cases.{trimmed_end}
 use Rattle.lists.proofs.Tests.{fails}
@@ -250,7 +251,7 @@ module _ (s : List ℕ) (l : Lent) (output : List ℕ) where
   -- 23, then 15, then the writer's
   pub stages_answer : {a b : Bool} → cannot_be_acknowledged s ≡ a → any_bad_lent l ≡ b
       → acknowledge_refusal s l output
-      ≡ (if a then some (record { fault = NoAcknowledgement; place = 0 }) else if b then some (record { fault = BadList; place = 0 }) else behind)
+      ≡ (if a then some (record { fault = NoAcknowledgement; place = 0 }) else (if b then some (record { fault = BadList; place = 0 }) else behind))
   unfolding acknowledge_refusal acknowledge_stages write_refusal
   stages_answer {a} {b} h k =
       one_place NoAcknowledgement 0 (met BadList (place_if (any_bad_lent l) 0) ∷ write_stages service bytes table output) h

@@ -1,5 +1,6 @@
 -- Which of a part's records cannot stand: with a release character only a next repeat, where nothing separates repeats.
 -- Assumes nothing.
+use Rattle.std.specs.Prelude.{if◌then◌else◌}
 use Prim.Native.Nat.{ℕ, ◌+◌, ◌≤◌}
 use mathlib.Core.Path.{◌≡◌, refl, sym, ap, ◌∙◌}
 use mathlib.Core.Bool.{Bool, true, false, not, ◌&&◌, ◌||◌, false≢true}
@@ -8,7 +9,7 @@ use mathlib.Core.Option.{Option, none}
 use native.Mathlib.Omega.{arith}
 use lib.Dec.{eqb}
 use borrow.Author.Tests.{ne_eqb}
-use Rattle.lists.specs.Lists.{if◌then◌else◌, is_empty, is_single, any, all, gather}
+use Rattle.lists.specs.Lists.{is_empty, is_single, any, all, gather}
 use Rattle.characters.specs.declared.Characters.{Characters}
 use Rattle.characters.specs.Characters.{has_release, has_repetition, is_service}
 use Rattle.refusals.specs.declared.Fault.TheVariants.{NeedsRelease}

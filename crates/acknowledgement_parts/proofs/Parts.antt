@@ -1,4 +1,5 @@
 -- Each part moves the text's end as its records do. Assumes nothing.
+use Rattle.std.specs.Prelude.{if◌then◌else◌}
 use Prim.Native.Nat.{ℕ, ◌+◌, ◌*◌, ◌≤◌}
 use mathlib.Core.Path.{◌≡◌, refl, sym, ap, subst, ◌∙◌}
 use mathlib.Core.Bool.{Bool, true, false}
@@ -7,7 +8,7 @@ use native.Mathlib.Omega.{arith}
 use lib.Dec.{leb}
 use lib.ListN.{length, drop, length-drop}
 use lib.Seq.{sets}
-use Rattle.lists.specs.Lists.{if◌then◌else◌, all, gather}
+use Rattle.lists.specs.Lists.{all, gather}
 use Rattle.characters.specs.declared.Characters.{Characters}
 use Rattle.values.specs.Tokens.{Token, byte, separator, fault, inside, tokens, tokens_at}
 use Rattle.storing.proofs.Stores.{Goes, stored_length}

@@ -1,4 +1,5 @@
 -- The definitions held against the request's words, on inputs that are written out and for all that is lent. Assumes nothing.
+use Rattle.std.specs.Prelude.{if◌then◌else◌}
 use Prim.Native.Nat.{ℕ, zero, suc, ◌≤◌}
 use native.Mathlib.Omega.{arith}
 use mathlib.Core.Path.{◌≡◌, refl, sym, ap, subst, ◌∙◌}
@@ -10,7 +11,7 @@ use mathlib.Core.Option.{Option, none, some, none-ne-some, some-injective}
 use lib.Dec.{eqb, leb}
 use Rattle.lists.proofs.Tests.{Says, says_eq, says_le, says_either, says_not, says_as}
 use lib.ListN.{length, replicate, drop}
-use Rattle.lists.specs.Lists.{if◌then◌else◌, text, begins, member, is_empty, any, at, last_or, onto, cut, unless_idle, drop_end, trim_end, gather, maybe}
+use Rattle.lists.specs.Lists.{text, begins, member, is_empty, any, at, last_or, onto, cut, unless_idle, drop_end, trim_end, gather, maybe}
 use Rattle.characters.specs.Characters.{spelled_out, advice_of, has_release, has_repetition, six_bytes, advised, plus_characters, begins_version4, characters_of, is_break, body_start, body, role}
 use Rattle.refusals.specs.declared.Fault.{Fault}
 use Rattle.refusals.specs.declared.Fault.TheVariants.{MisplacedSegment, BadControl, ReferenceDiffers, CountWrong, NormalTooLong}

@@ -1,7 +1,7 @@
 -- Request 2026-11: what is taken from the received interchange, and when it cannot be acknowledged. Assumes nothing.
-use Rattle.std.specs.Prelude.{ℕ, Bool, true, not, ◌||◌, List, [], ◌∷◌}
+use Rattle.std.specs.Prelude.{ℕ, Bool, true, not, ◌||◌, List, [], ◌∷◌, if◌then◌else◌}
 use Rattle.std.proofs.Math.Option.{Option, none}
-use Rattle.lists.specs.Lists.{if◌then◌else◌, text, member, is_empty, at, maybe}
+use Rattle.lists.specs.Lists.{text, member, is_empty, at, maybe}
 use Rattle.characters.specs.declared.Characters.{Characters}
 use Rattle.characters.specs.Characters.{characters_of}
 use Rattle.refusals.specs.declared.Refusal.{Refusal}

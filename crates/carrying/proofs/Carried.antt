@@ -1,5 +1,6 @@
 -- A sound shelf carried from one layout into another: what it then says of each slot, and that it is sound. One law for both directions.
 -- Assumes nothing.
+use Rattle.std.specs.Prelude.{if◌then◌else◌}
 use Prim.Native.Nat.{ℕ, ◌+◌, ◌-◌, ◌*◌, ◌^◌, ◌≤◌, ◌<◌}
 use mathlib.Core.Path.{◌≡◌, refl, sym, ap, ap₂, ◌∙◌}
 use mathlib.Core.Bool.{Bool, true, false}
@@ -10,7 +11,7 @@ use native.Mathlib.Omega.{arith}
 use lib.Dec.{eqb}
 use lib.ListN.{length, take, drop, length-append, length-drop}
 use lib.Seq.{length-take-le, take-append-le, drop-append-le, drop-append_seam, drop-drop, take_at, drop_at}
-use Rattle.lists.specs.Lists.{if◌then◌else◌, begins, all, those, gather}
+use Rattle.lists.specs.Lists.{begins, all, those, gather}
 use Rattle.lists.proofs.Texts.{decided, if_true, if_false}
 use Rattle.lists.proofs.Tests.{says_begins}
 use Rattle.numbers.specs.Numbers.{number_at, read_on}

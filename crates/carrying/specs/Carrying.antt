@@ -1,7 +1,7 @@
 -- Request 2026-07: "Turn a version 1 shelf into version 2 in its own buffer, and back." Assumes nothing.
-use Rattle.std.specs.Prelude.{ℕ, ◌+◌, ◌-◌, List, [], ◌∷◌, ◌++◌, length, take, drop, replicate, ltb}
+use Rattle.std.specs.Prelude.{ℕ, ◌+◌, ◌-◌, List, [], ◌∷◌, ◌++◌, length, take, drop, replicate, ltb, if◌then◌else◌}
 use Rattle.std.proofs.Math.Option.{Option}
-use Rattle.lists.specs.Lists.{if◌then◌else◌, gather, maybe}
+use Rattle.lists.specs.Lists.{gather, maybe}
 use Rattle.numbers.specs.Numbers.{in_bytes}
 use Rattle.refusals.specs.declared.Fault.TheVariants.{NoRoom}
 use Rattle.refusals.specs.declared.Refusal.{Refusal}

@@ -1,5 +1,6 @@
 -- A shelf that is carried into another layout and back again has the bytes that it had: heading, map, pairs and what stands behind them.
 -- Assumes nothing.
+use Rattle.std.specs.Prelude.{if◌then◌else◌}
 use Prim.Native.Nat.{ℕ, zero, suc, ◌+◌, ◌-◌, ◌*◌, ◌≤◌, ◌<◌}
 use mathlib.Core.Path.{◌≡◌, refl, sym, ap, ap₂, ◌∙◌}
 use mathlib.Core.Bool.{true, false}
@@ -10,7 +11,7 @@ use lib.Dec.{eqb}
 use lib.ListN.{length, take, drop, replicate, take-append-drop, length-drop}
 use lib.Seq.{sets, length-sets, length-take-le, take-add, take_at, drop-drop}
 use borrow.Author.Tests.{eqb-true}
-use Rattle.lists.specs.Lists.{if◌then◌else◌, begins, all, gather}
+use Rattle.lists.specs.Lists.{begins, all, gather}
 use Rattle.lists.proofs.Texts.{decided, gather_append, and_left, and_right}
 use Rattle.lists.proofs.Tests.{says_begins}
 use Rattle.numbers.specs.Numbers.{number_at, in_bytes, read_on}

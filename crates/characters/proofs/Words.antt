@@ -1,5 +1,6 @@
 -- What the definitions say in numbers: which bytes are usable, which six an input uses, where its body begins, and what part a byte
 -- plays. Assumes nothing.
+use Rattle.std.specs.Prelude.{if◌then◌else◌}
 use Prim.Native.Nat.{ℕ, suc, ◌+◌, ◌≤◌, ◌<◌}
 use mathlib.Core.Path.{◌≡◌, refl, sym, ap, ◌∙◌}
 use mathlib.Core.Bool.{Bool, true, false, not, ◌&&◌, ◌||◌, false≢true, and-false}
@@ -10,7 +11,7 @@ use lib.Dec.{eqb, leb}
 use lib.ListN.{length, drop}
 use lib.Seq.{drop-drop}
 use borrow.Author.Tests.{eq-eqb, ne_eqb, le-ltb, lt-ltb}
-use Rattle.lists.specs.Lists.{if◌then◌else◌, text, begins, member, all_differ, all}
+use Rattle.lists.specs.Lists.{text, begins, member, all_differ, all}
 use Rattle.lists.proofs.Texts.{and_left, and_both}
 use Rattle.lists.proofs.Tests.{Says, says_eq, says_le, says_both, says_either, says_not, says_as, fails, says_begins}
 use Rattle.characters.specs.declared.Characters.{Characters}
@@ -375,7 +376,7 @@ module _ (s : List ℕ) (none : (rest : List ℕ) → s ≡ 85 ∷ 78 ∷ 65 ∷
       Control = (rest : List ℕ) × (s ≡ 85 ∷ 78 ∷ 66 ∷ 29 ∷ rest)
 
       step : (v : Bool) → (v ≡ true → Plus) → (t : Bool) → Says t Plus
-          → Says (begins (text "UNB" ++ (if v then star_characters else if t then plus_characters else control_characters).element ∷ []) s)
+          → Says (begins (text "UNB" ++ (if v then star_characters else (if t then plus_characters else control_characters)).element ∷ []) s)
           (Plus ⊎ Control)
       step true v t p = (λ h. inl (v refl), λ h. (says_begins (text "UNB+") s).1 (v refl))
       step false v true p = (λ h. inl (p.0 refl), λ h. (says_begins (text "UNB+") s).1 (p.0 refl))

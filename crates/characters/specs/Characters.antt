@@ -1,7 +1,7 @@
 -- Paper 01, "Service characters"; request 2026-01, line breaks; request 2026-10, the repetition separator. A byte is a number below 256.
 -- Assumes nothing.
-use Rattle.std.specs.Prelude.{ℕ, zero, suc, ◌+◌, Bool, true, false, not, ◌&&◌, ◌||◌, List, [], ◌∷◌, ◌++◌, length, get_or, drop, eqb, leb, ltb}
-use Rattle.lists.specs.Lists.{if◌then◌else◌, text, begins, member, all_differ, all}
+use Rattle.std.specs.Prelude.{ℕ, zero, suc, ◌+◌, Bool, true, false, not, ◌&&◌, ◌||◌, List, [], ◌∷◌, ◌++◌, length, get_or, drop, eqb, leb, ltb, if◌then◌else◌}
+use Rattle.lists.specs.Lists.{text, begins, member, all_differ, all}
 use Rattle.characters.specs.declared.Characters.{Characters}
 use Rattle.characters.specs.declared.Role.{Role}
 use Rattle.characters.specs.declared.Role.TheVariants.{Separator, Release, Plain}
@@ -108,8 +108,8 @@ control_characters = six_bytes (31 ∷ 29 ∷ 46 ∷ space ∷ space ∷ 28 ∷ 
 unfoldable pub characters_of : List ℕ → Characters
 characters_of s =
     if advised s then six_bytes (drop 3 s)
-    else if begins_version4 s then star_characters
-    else if begins (text "UNB+") s then plus_characters else control_characters
+    else (if begins_version4 s then star_characters
+    else (if begins (text "UNB+") s then plus_characters else control_characters))
 
 -- "The body is all that follows the advice, or the whole input." Breaks "directly after the service string advice, are to be passed over"
 unfoldable pub body_start : List ℕ → ℕ
@@ -131,7 +131,7 @@ opens s = begins (text "UNB" ++ (characters_of s).element ∷ []) (body s)
 unfoldable pub role : Characters → ℕ → Role
 role c b =
     if eqb b c.terminator then Separator 0
-    else if eqb b c.element then Separator 1
-    else if has_repetition c && eqb b c.repetition then Separator 2
-    else if eqb b c.component then Separator 3
-    else if has_release c && eqb b c.release then Release else Plain
+    else (if eqb b c.element then Separator 1
+    else (if has_repetition c && eqb b c.repetition then Separator 2
+    else (if eqb b c.component then Separator 3
+    else (if has_release c && eqb b c.release then Release else Plain))))

@@ -1,12 +1,12 @@
 -- The three stages from a place on: they answer from the start what they answer from here, with what is kept of the segments that passed.
 -- Assumes nothing.
+use Rattle.std.specs.Prelude.{if◌then◌else◌}
 use Prim.Native.Nat.{ℕ, ◌≤◌, ◌<◌}
 use mathlib.Core.Path.{◌≡◌, refl, sym, ap, subst, subst⁻¹, ◌∙◌}
 use mathlib.Core.Bool.{Bool, true, false}
 use mathlib.Core.List.{List, []}
 use native.Mathlib.Omega.{arith}
 use lib.ListN.{length}
-use Rattle.lists.specs.Lists.{if◌then◌else◌}
 use Rattle.lists.proofs.Texts.{if_true}
 use Rattle.characters.specs.declared.Characters.{Characters}
 use Rattle.refusals.proofs.Stages.{passed_is}

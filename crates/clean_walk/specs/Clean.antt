@@ -1,7 +1,6 @@
 -- What the one walk says: that none of three stages finds anything; and on the way, of a segment's tag and of the segment. Assumes nothing.
-use Rattle.std.specs.Prelude.{ℕ, ◌+◌, ◌<◌, ◌≡◌, true, ◌||◌, List, length, get_or, eqb}
+use Rattle.std.specs.Prelude.{ℕ, ◌+◌, ◌<◌, ◌≡◌, true, ◌||◌, List, length, get_or, eqb, if◌then◌else◌}
 use Rattle.std.proofs.Math.Option.{none}
-use Rattle.lists.specs.Lists.{if◌then◌else◌}
 use Rattle.characters.specs.declared.Characters.{Characters}
 use Rattle.refusals.specs.declared.Outcome.TheVariants.{Passed}
 use Rattle.values.specs.Tokens.{tokens_at}

@@ -1,5 +1,6 @@
 -- Bytes between which nothing is idle, up to the last one of a value, are a clear part: they are emitted as they stand, without line breaks.
 -- Assumes nothing.
+use Rattle.std.specs.Prelude.{if◌then◌else◌}
 use Prim.Native.Nat.{ℕ, zero, suc, ◌+◌, ◌-◌, ◌≤◌, ◌<◌}
 use mathlib.Core.Path.{◌≡◌, refl, sym, ap, subst, ◌∙◌}
 use mathlib.Core.Bool.{Bool, true, false, not}
@@ -12,7 +13,7 @@ use lib.Dec.{leb}
 use lib.ListN.{length, get_or, take, drop}
 use lib.Seq.{slice-cons, slice_empty}
 use borrow.Author.Tests.{le-leb}
-use Rattle.lists.specs.Lists.{if◌then◌else◌, those, all}
+use Rattle.lists.specs.Lists.{those, all}
 use Rattle.lists.proofs.Numbers.{drop_next}
 use Rattle.characters.specs.declared.Characters.{Characters}
 use Rattle.characters.specs.Characters.{is_service}

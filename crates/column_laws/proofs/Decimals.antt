@@ -1,4 +1,5 @@
 -- A number in decimal holds neither a tab nor a line feed, and is `0` exactly where it is 0; how many digits it has. Assumes nothing.
+use Rattle.std.specs.Prelude.{if◌then◌else◌}
 use Prim.Native.Nat.{ℕ, zero, suc, ◌+◌, ◌*◌, ◌/◌, ◌%◌, ◌≤◌, ◌<◌}
 use mathlib.Core.Path.{◌≡◌, refl, ap, ap₂, ◌∙◌}
 use mathlib.Core.Bool.{Bool, true, false, not, ◌&&◌, ◌||◌}
@@ -7,7 +8,7 @@ use native.Mathlib.Omega.{arith}
 use lib.Dec.{eqb, ltb}
 use lib.ListN.{length, length-append}
 use borrow.Author.Tests.{ne_eqb, ltb-true, ltb-false}
-use Rattle.lists.specs.Lists.{if◌then◌else◌, text, same, all}
+use Rattle.lists.specs.Lists.{text, same, all}
 use Rattle.lists.proofs.Texts.{all_append, same_length}
 use Rattle.lists.proofs.Pieces.{None}
 use Rattle.values.specs.Spelling.{Bytes}

@@ -1,4 +1,5 @@
 -- A list is trimmed exactly where none of its values is an idle end: an empty one before what begins more than it does. Assumes nothing.
+use Rattle.std.specs.Prelude.{if◌then◌else◌}
 use Prim.Native.Nat.{ℕ, zero, suc, ◌+◌, ◌≤◌}
 use mathlib.Core.Path.{◌≡◌, refl, sym, ap, ap₂, ◌∙◌}
 use mathlib.Core.Bool.{Bool, true, false, not, ◌&&◌, and-true, true≢false, false≢true}
@@ -7,7 +8,7 @@ use mathlib.Core.Logic.{◌↔◌}
 use native.Mathlib.Omega.{arith}
 use lib.Dec.{leb, ltb, eqb}
 use borrow.Author.Tests.{lt-ltb, le-ltb, not-true}
-use Rattle.lists.specs.Lists.{if◌then◌else◌, is_empty, all, gather, unless_idle, drop_end, trim_end}
+use Rattle.lists.specs.Lists.{is_empty, all, gather, unless_idle, drop_end, trim_end}
 use Rattle.lists.proofs.Texts.{and_left, and_right, and_both}
 use Rattle.nesting.specs.Nesting.{Nest, shaped, flat, is_idle, idle, trim}
 use Rattle.nesting_laws.proofs.Shape.{trim_step, shaped_some, shaped_first, shaped_rest}

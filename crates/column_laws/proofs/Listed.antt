@@ -1,5 +1,6 @@
 -- The list that a text gives has the shape of a list of segments; it is the list whose text it is, where there is one. The contents of an
 -- accepted interchange are such a list. Assumes nothing.
+use Rattle.std.specs.Prelude.{if◌then◌else◌}
 use Prim.Native.Nat.{ℕ, ◌≤◌}
 use mathlib.Core.Path.{◌≡◌, refl, sym, ap, ap₂, subst, ◌∙◌}
 use mathlib.Core.Bool.{Bool, true, false, not, ◌&&◌, ◌||◌}
@@ -9,7 +10,7 @@ use mathlib.Core.Option.{none}
 use native.Mathlib.Omega.{arith}
 use lib.Dec.{eqb, leb}
 use borrow.Author.Tests.{ne_eqb}
-use Rattle.lists.specs.Lists.{if◌then◌else◌, same, member, all, beyond, cut}
+use Rattle.lists.specs.Lists.{same, member, all, beyond, cut}
 use Rattle.lists.proofs.Texts.{and_left, and_right, and_both, same_eq, same_refl}
 use Rattle.nesting.specs.Nesting.{every}
 use Rattle.values.specs.Spelling.{Bytes, SegmentList}

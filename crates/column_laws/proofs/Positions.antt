@@ -1,4 +1,5 @@
 -- The lines of a list of segments are those of its values, one after the other. Assumes nothing.
+use Rattle.std.specs.Prelude.{if◌then◌else◌}
 use Prim.Native.Nat.{ℕ, zero, suc, ◌+◌, ◌≤◌}
 use mathlib.Core.Path.{◌≡◌, refl, sym, ap, ap₂, ◌∙◌}
 use mathlib.Core.Bool.{Bool, true, false}
@@ -6,7 +7,7 @@ use mathlib.Core.List.{List, [], ◌∷◌, ◌++◌, map, append_assoc, append-
 use native.Mathlib.Omega.{arith}
 use native.Mathlib.Numerals.{add-one}
 use lib.Dec.{leb, eqb}
-use Rattle.lists.specs.Lists.{if◌then◌else◌, all, gather}
+use Rattle.lists.specs.Lists.{all, gather}
 use Rattle.lists.proofs.Texts.{and_left, and_right}
 use Rattle.nesting.specs.Nesting.{shaped}
 use Rattle.nesting_laws.proofs.Shape.{shaped_some, shaped_first, shaped_all}
@@ -26,9 +27,9 @@ by_component : (s e r c d kind : ℕ) → rank_of kind ≤ 2 → next_at (at s e
 unfolding next_at rank_of
 by_component s e r c d kind = step (leb kind 0) (leb kind 1) (eqb kind 3)
   where
-    step : (x y z : Bool) → (if x then 0 else if y then 1 else if z then 2 else 3) ≤ 2
-        → (if x then at (s + 1) 0 0 0 else if y then at s (e + 1) 0 0 else if z then at s e (r + 1) 0 else at s e r (c + 1))
-        ≡ (if x then at (s + 1) 0 0 0 else if y then at s (e + 1) 0 0 else if z then at s e (r + 1) 0 else at s e r (d + 1))
+    step : (x y z : Bool) → (if x then 0 else (if y then 1 else (if z then 2 else 3))) ≤ 2
+        → (if x then at (s + 1) 0 0 0 else (if y then at s (e + 1) 0 0 else (if z then at s e (r + 1) 0 else at s e r (c + 1))))
+        ≡ (if x then at (s + 1) 0 0 0 else (if y then at s (e + 1) 0 0 else (if z then at s e (r + 1) 0 else at s e r (d + 1))))
     step true y z l = refl
     step false true z l = refl
     step false false true l = refl
@@ -38,9 +39,9 @@ by_repeat : (s e r q kind : ℕ) → rank_of kind ≤ 1 → next_at (at s e r 0)
 unfolding next_at rank_of
 by_repeat s e r q kind = step (leb kind 0) (leb kind 1) (eqb kind 3)
   where
-    step : (x y z : Bool) → (if x then 0 else if y then 1 else if z then 2 else 3) ≤ 1
-        → (if x then at (s + 1) 0 0 0 else if y then at s (e + 1) 0 0 else if z then at s e (r + 1) 0 else at s e r 1)
-        ≡ (if x then at (s + 1) 0 0 0 else if y then at s (e + 1) 0 0 else if z then at s e (q + 1) 0 else at s e q 1)
+    step : (x y z : Bool) → (if x then 0 else (if y then 1 else (if z then 2 else 3))) ≤ 1
+        → (if x then at (s + 1) 0 0 0 else (if y then at s (e + 1) 0 0 else (if z then at s e (r + 1) 0 else at s e r 1)))
+        ≡ (if x then at (s + 1) 0 0 0 else (if y then at s (e + 1) 0 0 else (if z then at s e (q + 1) 0 else at s e q 1)))
     step true y z l = refl
     step false true z l = refl
     step false false true l = absurd (omega arith)
@@ -50,9 +51,9 @@ by_element : (s e f kind : ℕ) → rank_of kind ≤ 0 → next_at (at s e 0 0) 
 unfolding next_at rank_of
 by_element s e f kind = step (leb kind 0) (leb kind 1) (eqb kind 3)
   where
-    step : (x y z : Bool) → (if x then 0 else if y then 1 else if z then 2 else 3) ≤ 0
-        → (if x then at (s + 1) 0 0 0 else if y then at s (e + 1) 0 0 else if z then at s e 1 0 else at s e 0 1)
-        ≡ (if x then at (s + 1) 0 0 0 else if y then at s (f + 1) 0 0 else if z then at s f 1 0 else at s f 0 1)
+    step : (x y z : Bool) → (if x then 0 else (if y then 1 else (if z then 2 else 3))) ≤ 0
+        → (if x then at (s + 1) 0 0 0 else (if y then at s (e + 1) 0 0 else (if z then at s e 1 0 else at s e 0 1)))
+        ≡ (if x then at (s + 1) 0 0 0 else (if y then at s (f + 1) 0 0 else (if z then at s f 1 0 else at s f 0 1)))
     step true y z l = refl
     step false true z l = absurd (omega arith)
     step false false true l = absurd (omega arith)
@@ -104,7 +105,7 @@ rank_most : (kind : ℕ) → rank_of kind ≤ 3
 unfolding rank_of
 rank_most kind = step (leb kind 0) (leb kind 1) (eqb kind 3)
   where
-    step : (x y z : Bool) → (if x then 0 else if y then 1 else if z then 2 else 3) ≤ 3
+    step : (x y z : Bool) → (if x then 0 else (if y then 1 else (if z then 2 else 3))) ≤ 3
     step true y z = omega arith
     step false true z = omega arith
     step false false true = omega arith

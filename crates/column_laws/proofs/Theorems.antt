@@ -1,5 +1,6 @@
 -- The theorems of this crate. What import writes is what Write writes of the list that the text gives, so that what holds of a written text
 -- holds of it. Assumes nothing.
+use Rattle.std.specs.Prelude.{if◌then◌else◌}
 use Prim.Native.Nat.{ℕ, ◌*◌, ◌<◌}
 use mathlib.Core.Path.{◌≡◌, refl, sym, ap, ap₂, ◌∙◌}
 use mathlib.Core.Bool.{Bool, true, false, not, ◌||◌, true≢false}
@@ -11,7 +12,7 @@ use lib.Dec.{eqb, ltb}
 use lib.ListN.{length, take, drop, replicate}
 use lib.Seq.{take-append_seam}
 use borrow.Author.Tests.{lt-ltb}
-use Rattle.lists.specs.Lists.{if◌then◌else◌, at, maybe}
+use Rattle.lists.specs.Lists.{at, maybe}
 use Rattle.refusals.specs.declared.Fault.TheVariants.{BadList, NoColumns}
 use Rattle.refusals.specs.declared.Refusal.{Refusal}
 use Rattle.refusals.specs.Refusals.{Stage, met, place_if, lowest, or_else, answering}

@@ -1,7 +1,6 @@
 -- Request 2026-12: the lines of a list one after the other, each by the position of its value. A value's position follows from that of the
 -- value before it and from what it begins. Assumes nothing.
-use Rattle.std.specs.Prelude.{ℕ, suc, ◌+◌, List, [], ◌∷◌, ◌++◌, leb, eqb}
-use Rattle.lists.specs.Lists.{if◌then◌else◌}
+use Rattle.std.specs.Prelude.{ℕ, suc, ◌+◌, List, [], ◌∷◌, ◌++◌, leb, eqb, if◌then◌else◌}
 use Rattle.values.specs.Spelling.{Bytes}
 use Rattle.operations.specs.ValueList.{Item}
 use Rattle.trimming_laws.specs.Kinds.{first_kind}
@@ -15,9 +14,9 @@ at segment element repeat component = record { segment = segment; element = elem
 unfoldable pub next_at : Position → ℕ → Position
 next_at p kind =
     if leb kind 0 then at (p.segment + 1) 0 0 0
-    else if leb kind 1 then at p.segment (p.element + 1) 0 0
-    else if eqb kind 3 then at p.segment p.element (p.repeat + 1) 0
-    else at p.segment p.element p.repeat (p.component + 1)
+    else (if leb kind 1 then at p.segment (p.element + 1) 0 0
+    else (if eqb kind 3 then at p.segment p.element (p.repeat + 1) 0
+    else at p.segment p.element p.repeat (p.component + 1)))
 
 -- the line of a value at a position
 abbrev pub line_at : Position → Bytes → Bytes

@@ -1,7 +1,7 @@
 -- Request 2026-12: the four numbers in front of a value, "tab-separated, numbers from 0 in decimal without leading zeros", and the place behind
 -- given bytes, where they stand at a place of a text. Assumes nothing.
-use Rattle.std.specs.Prelude.{ℕ, ◌+◌, List, [], ◌∷◌, ◌++◌, length, drop}
-use Rattle.lists.specs.Lists.{if◌then◌else◌, begins}
+use Rattle.std.specs.Prelude.{ℕ, ◌+◌, List, [], ◌∷◌, ◌++◌, length, drop, if◌then◌else◌}
+use Rattle.lists.specs.Lists.{begins}
 use Rattle.values.specs.Spelling.{Bytes}
 use Rattle.columns.specs.Lines.{tab, in_decimal}
 use Rattle.column_laws.specs.declared.Position.{Position}

@@ -1,4 +1,5 @@
 -- A text is taken exactly where going on from line to line comes to its end. Assumes nothing.
+use Rattle.std.specs.Prelude.{if◌then◌else◌}
 use Prim.Native.Nat.{ℕ, ◌+◌, ◌-◌, ◌≤◌, ◌<◌}
 use mathlib.Core.Path.{◌≡◌, refl, sym, ap, subst, ◌∙◌}
 use mathlib.Core.Bool.{Bool, true, false, not, ◌&&◌}
@@ -7,7 +8,7 @@ use native.Mathlib.Omega.{arith}
 use lib.Dec.{eqb, ltb}
 use lib.ListN.{length, drop}
 use borrow.Author.Tests.{ltb-false, le-ltb, not-true, eq-eqb, ne_eqb}
-use Rattle.lists.specs.Lists.{if◌then◌else◌, is_empty, all}
+use Rattle.lists.specs.Lists.{is_empty, all}
 use Rattle.lists.proofs.Texts.{and_left, and_right, and_both}
 use Rattle.values.specs.Spelling.{Bytes, SegmentList}
 use Rattle.operations.specs.ValueList.{Item, rank_of, list_of, segments_listed}

@@ -1,4 +1,5 @@
 -- From line to line: at most one line stands at a place, and it is that of the next value. Assumes nothing.
+use Rattle.std.specs.Prelude.{if◌then◌else◌}
 use Prim.Native.Nat.{ℕ, zero, suc, ◌+◌, ◌-◌, ◌≤◌, ◌<◌}
 use mathlib.Core.Path.{◌≡◌, refl, sym, ap, ap₂, subst, ◌∙◌}
 use mathlib.Core.Bool.{Bool, true, false}
@@ -8,7 +9,7 @@ use lib.Dec.{eqb, leb}
 use lib.ListN.{length, drop, length-append, length-take, length-drop, drop_of_length-le}
 use lib.Seq.{drop-append_seam}
 use borrow.Author.Tests.{eqb-true, eqb-false, ne_eqb, leb-true, le-leb}
-use Rattle.lists.specs.Lists.{if◌then◌else◌, all}
+use Rattle.lists.specs.Lists.{all}
 use Rattle.lists.proofs.Texts.{and_left, and_right, and_both, if_false}
 use Rattle.values.specs.Spelling.{Bytes}
 use Rattle.operations.specs.ValueList.{Item}
@@ -57,7 +58,7 @@ unfolding next_at
 within_next p place kind w = step (leb kind 0) (leb kind 1) (eqb kind 3)
   where
     step : (a b d : Bool)
-        → Within (if a then at (p.segment + 1) 0 0 0 else if b then at p.segment (p.element + 1) 0 0 else if d then at p.segment p.element (p.repeat + 1) 0 else at p.segment p.element p.repeat (p.component + 1)) (place + 1)
+        → Within (if a then at (p.segment + 1) 0 0 0 else (if b then at p.segment (p.element + 1) 0 0 else (if d then at p.segment p.element (p.repeat + 1) 0 else at p.segment p.element p.repeat (p.component + 1)))) (place + 1)
     step true b d = record { segment = omega (arith, w.segment); element = omega arith; repeat = omega arith; component = omega arith }
     step false true d = record { segment = omega (arith, w.segment); element = omega (arith, w.element); repeat = omega arith; component = omega arith }
     step false false true = record { segment = omega (arith, w.segment); element = omega (arith, w.element); repeat = omega (arith, w.repeat); component = omega arith }

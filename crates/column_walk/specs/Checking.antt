@@ -1,6 +1,5 @@
 -- Request 2026-12: which texts are taken, told from line to line. Assumes nothing.
-use Rattle.std.specs.Prelude.{ℕ, ◌+◌, ◌≤◌, ◌≡◌, true, List, eqb, length}
-use Rattle.lists.specs.Lists.{if◌then◌else◌}
+use Rattle.std.specs.Prelude.{ℕ, ◌+◌, ◌≤◌, ◌≡◌, true, List, eqb, length, if◌then◌else◌}
 use Rattle.operations.specs.ValueList.{Item, rank_of, list_of}
 use Rattle.trimming_laws.specs.Kinds.{first_kind}
 use Rattle.columns.specs.Reading.{list_in}

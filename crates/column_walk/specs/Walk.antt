@@ -1,6 +1,6 @@
 -- Request 2026-12: a text in columns from line to line: the line at a place, and the values whose lines follow. Assumes nothing.
-use Rattle.std.specs.Prelude.{ℕ, ◌+◌, ◌-◌, ◌≤◌, ◌<◌, ◌≡◌, true, List, ◌∷◌, ◌++◌, eqb, length, take, drop}
-use Rattle.lists.specs.Lists.{if◌then◌else◌, all}
+use Rattle.std.specs.Prelude.{ℕ, ◌+◌, ◌-◌, ◌≤◌, ◌<◌, ◌≡◌, true, List, ◌∷◌, ◌++◌, eqb, length, take, drop, if◌then◌else◌}
+use Rattle.lists.specs.Lists.{all}
 use Rattle.values.specs.Spelling.{Bytes}
 use Rattle.operations.specs.ValueList.{Item}
 use Rattle.trimming_laws.specs.Kinds.{first_kind, kinds_up_to3}

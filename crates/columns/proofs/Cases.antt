@@ -1,12 +1,13 @@
 -- What the definitions give: numbers, a list of two segments in columns, and texts that are one slip away from it. In the lines a blank stands
 -- for a tab. Assumes nothing.
+use Rattle.std.specs.Prelude.{if◌then◌else◌}
 use Prim.Native.Nat.{ℕ}
 use Prim.Native.String.{String}
 use mathlib.Core.Path.{◌≡◌, refl}
 use mathlib.Core.Bool.{true, false}
 use mathlib.Core.List.{List, [], ◌∷◌, ◌++◌, map}
 use lib.Dec.{eqb}
-use Rattle.lists.specs.Lists.{if◌then◌else◌, text, same, member, is_empty, all, onto, cut, beyond, unless_idle, drop_end, trim_end, gather}
+use Rattle.lists.specs.Lists.{text, same, member, is_empty, all, onto, cut, beyond, unless_idle, drop_end, trim_end, gather}
 use Rattle.values.specs.Spelling.{Bytes, SegmentList}
 use Rattle.values.specs.Trimming.{trim_repeat, trim_element, trim_segment, is_idle}
 use Rattle.operations.specs.ValueList.{rank_of, closed, closes, segments_listed, trim_list}

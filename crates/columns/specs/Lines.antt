@@ -1,6 +1,6 @@
 -- Request 2026-12: a list of values in columns, "one line for each value, after a heading line". Assumes nothing.
-use Rattle.std.specs.Prelude.{ℕ, zero, suc, ◌+◌, ◌/◌, ◌%◌, Bool, not, List, [], ◌∷◌, ◌++◌, ltb}
-use Rattle.lists.specs.Lists.{if◌then◌else◌, text, member, all}
+use Rattle.std.specs.Prelude.{ℕ, zero, suc, ◌+◌, ◌/◌, ◌%◌, Bool, not, List, [], ◌∷◌, ◌++◌, ltb, if◌then◌else◌}
+use Rattle.lists.specs.Lists.{text, member, all}
 use Rattle.values.specs.Spelling.{Bytes, SegmentList}
 
 abbrev pub tab : ℕ

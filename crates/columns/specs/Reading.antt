@@ -1,8 +1,8 @@
 -- Request 2026-12: the list that a text in columns gives, and when there is one. The lines are read loosely: a wrong heading, wrong numbers and
 -- columns too many are not seen, and a column that is missing is read as an empty one. Then the list that was read must have this very text.
 -- Assumes nothing.
-use Rattle.std.specs.Prelude.{ℕ, zero, suc, Bool, ◌&&◌, ◌||◌, List, [], ◌∷◌, map, eqb}
-use Rattle.lists.specs.Lists.{if◌then◌else◌, text, same, beyond, cut}
+use Rattle.std.specs.Prelude.{ℕ, zero, suc, Bool, ◌&&◌, ◌||◌, List, [], ◌∷◌, map, eqb, if◌then◌else◌}
+use Rattle.lists.specs.Lists.{text, same, beyond, cut}
 use Rattle.nesting.specs.Nesting.{every}
 use Rattle.values.specs.Spelling.{Bytes, SegmentList}
 use Rattle.operations.specs.ValueList.{Item, segments_listed, trim_list}

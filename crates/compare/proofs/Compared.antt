@@ -1,4 +1,5 @@
 -- What Compare answers, from what Judge says of the two inputs and from their normal forms. Assumes nothing.
+use Rattle.std.specs.Prelude.{if◌then◌else◌}
 use Prim.Native.Nat.{ℕ, ◌+◌, ◌*◌, ◌≤◌}
 use mathlib.Core.Path.{◌≡◌, refl, sym, ap, ap₂, subst, ◌∙◌}
 use mathlib.Core.Bool.{Bool, true, false, ◌&&◌}
@@ -7,7 +8,7 @@ use mathlib.Core.Option.{Option, none, some}
 use native.Mathlib.Omega.{arith}
 use lib.ListN.{length, take, drop, get_or, replicate, length-append, length-replicate}
 use lib.Seq.{take_at, length-take-le}
-use Rattle.lists.specs.Lists.{if◌then◌else◌, same, any, maybe}
+use Rattle.lists.specs.Lists.{same, any, maybe}
 use Rattle.lists.proofs.Texts.{same_eq, same_refl}
 use Rattle.refusals.specs.declared.Fault.TheVariants.{NormalTooLong}
 use Rattle.refusals.specs.declared.Refusal.{Refusal}

@@ -1,4 +1,5 @@
 -- What Keep hands back: one of the two inputs whole, or no byte of the first; and the same as a slice. Assumes nothing.
+use Rattle.std.specs.Prelude.{if◌then◌else◌}
 use Prim.Native.Nat.{ℕ, ◌+◌, ◌≤◌, ◌<◌, zero-le}
 use mathlib.Core.Path.{◌≡◌, refl, sym, ap, subst, ◌∙◌}
 use mathlib.Core.Bool.{Bool, true, false}
@@ -9,7 +10,6 @@ use lib.ListN.{length, take}
 use lib.Seq.{length-take-le}
 use borrow.Author.Tests.{lt-ltb, le-ltb}
 use denote.Ref.{Bor}
-use Rattle.lists.specs.Lists.{if◌then◌else◌}
 use Rattle.answers.specs.declared.Compared.{Compared}
 use Rattle.answers.specs.Answers.{toldCompared}
 use Rattle.operations.specs.Compare.{Part, of_first, of_second, are_same, compare, keep}

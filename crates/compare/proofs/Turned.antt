@@ -1,10 +1,11 @@
 -- What Compare answers, from what it answers for the two inputs in the other order. Assumes nothing.
+use Rattle.std.specs.Prelude.{if◌then◌else◌}
 use Prim.Native.Nat.{ℕ}
 use mathlib.Core.Path.{◌≡◌, refl, sym, ap, ◌∙◌}
 use mathlib.Core.Bool.{Bool, true, false, false≢true}
 use mathlib.Core.List.{List, [], ◌∷◌}
 use mathlib.Core.Option.{Option, none, some}
-use Rattle.lists.specs.Lists.{if◌then◌else◌, maybe}
+use Rattle.lists.specs.Lists.{maybe}
 use Rattle.refusals.specs.declared.Refusal.{Refusal}
 use Rattle.stages.specs.Stages.{refusal_of}
 use Rattle.answers.specs.declared.Compared.{Compared}

@@ -1,7 +1,7 @@
 -- What Compare asks of the buffers for two normal forms, and what it answers once it has the first's. Assumes nothing.
-use Rattle.std.specs.Prelude.{ℕ, ◌≤◌, ◌≡◌, List, [], ◌∷◌, length}
+use Rattle.std.specs.Prelude.{ℕ, ◌≤◌, ◌≡◌, List, [], ◌∷◌, length, if◌then◌else◌}
 use Rattle.std.proofs.Math.Option.{none}
-use Rattle.lists.specs.Lists.{if◌then◌else◌, same, maybe}
+use Rattle.lists.specs.Lists.{same, maybe}
 use Rattle.stages.specs.Contents.{normal_form}
 use Rattle.stages.specs.Stages.{refusal_of}
 use Rattle.answers.specs.Answers.{Answer, given, refusedInput}

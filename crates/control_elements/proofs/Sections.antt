@@ -1,5 +1,6 @@
 -- What the rule of sections says in letters: the first element of a UNS is one component of one byte, 68 for `D` or 83 for `S`, and which of
 -- them have stood since the nearest UNH. What passed is a list of segments, the nearest first. Assumes nothing.
+use Rattle.std.specs.Prelude.{if◌then◌else◌}
 use Prim.Native.Nat.{ℕ}
 use mathlib.Core.Path.{◌≡◌, refl, sym, ap, ◌∙◌}
 use mathlib.Core.Bool.{Bool, true, false, not, false≢true, true≢false}
@@ -8,7 +9,7 @@ use mathlib.Core.List.{List, [], ◌∷◌, ◌++◌, head-eq_of_cons-eq, Memᴰ
 use mathlib.Core.Option.{Option, none, some}
 use mathlib.Core.Logic.{◌⊎◌, inl, inr, ⊎_elim, ◌↔◌}
 use native.Mathlib.Omega.{arith}
-use Rattle.lists.specs.Lists.{if◌then◌else◌, same, those, through, at, maybe}
+use Rattle.lists.specs.Lists.{same, those, through, at, maybe}
 use Rattle.lists.proofs.Texts.{and_left, and_right, and_both}
 use Rattle.lists.proofs.Tests.{Says, says_not, says_same, says_as, says_any, says_maybe, fails, through_is}
 use Rattle.values.specs.Tokens.{Segment}
@@ -40,7 +41,7 @@ pub detail_says : (g : Segment) → Says (is_section Detail (section_of g)) (Nam
 unfolding section_of section_named is_section maybe
 detail_says g = rw (step (control_element g 1)) (text_says g (68 ∷ []))
   where
-    named : (d s : Bool) → is_section Detail (if d then Detail else if s then Summary else None) ≡ d
+    named : (d s : Bool) → is_section Detail (if d then Detail else (if s then Summary else None)) ≡ d
     named true s = refl
     named false true = refl
     named false false = refl
@@ -54,7 +55,7 @@ pub summary_says : (g : Segment) → Says (is_section Summary (section_of g)) (N
 unfolding section_of section_named is_section maybe same
 summary_says g = rw (step (control_element g 1)) (text_says g (83 ∷ []))
   where
-    named : (d s : Bool) → (d ≡ true → s ≡ true → ⊥) → is_section Summary (if d then Detail else if s then Summary else None) ≡ s
+    named : (d s : Bool) → (d ≡ true → s ≡ true → ⊥) → is_section Summary (if d then Detail else (if s then Summary else None)) ≡ s
     named true true h = absurd (h refl refl)
     named true false h = refl
     named false true h = refl

@@ -1,9 +1,9 @@
 -- Paper 01, "Control elements": what a count and a reference look like, and what a trailer says of what it closes. Request 2026-10:
 -- "Control elements .. have one repeat and document 01's lengths (house)."
 -- What passed is a list of segments, the nearest first. Assumes nothing.
-use Rattle.std.specs.Prelude.{ℕ, ◌+◌, ◌*◌, ◌-◌, Bool, true, false, not, ◌&&◌, ◌||◌, List, [], ◌∷◌, map, length, eqb}
+use Rattle.std.specs.Prelude.{ℕ, ◌+◌, ◌*◌, ◌-◌, Bool, true, false, not, ◌&&◌, ◌||◌, List, [], ◌∷◌, map, length, eqb, if◌then◌else◌}
 use Rattle.std.proofs.Math.Option.{Option, none, some}
-use Rattle.lists.specs.Lists.{if◌then◌else◌, same, all, first, at, single, maybe}
+use Rattle.lists.specs.Lists.{same, all, first, at, single, maybe}
 use Rattle.characters.specs.Characters.{between, digit}
 use Rattle.values.specs.Tokens.{Segment}
 use Rattle.values.specs.Trimming.{contents_of}

@@ -1,8 +1,8 @@
 -- Change request 2026-03, "Section markers": "the standard gives it a section, D for detail or S for summary"; "UNS's first element is a
 -- single component `D` or `S`, each at most once in a message, D before S if both stand." What passed is a list of segments, the nearest
 -- first. Request 2026-10: the element has one repeat. Assumes nothing.
-use Rattle.std.specs.Prelude.{ℕ, Bool, false, not, ◌&&◌, ◌||◌, List, eqb}
-use Rattle.lists.specs.Lists.{if◌then◌else◌, text, same, any, those, through, at, maybe}
+use Rattle.std.specs.Prelude.{ℕ, Bool, false, not, ◌&&◌, ◌||◌, List, eqb, if◌then◌else◌}
+use Rattle.lists.specs.Lists.{text, same, any, those, through, at, maybe}
 use Rattle.values.specs.Tokens.{Segment}
 use Rattle.segments.specs.declared.Kind.TheVariants.{Unh, Uns}
 use Rattle.segments.specs.declared.Section.{Section}
@@ -15,7 +15,7 @@ use Rattle.control_elements.specs.Control.{control_element}
 
 -- "D for detail or S for summary"
 unfoldable pub section_named : List ℕ → Section
-section_named name = if same name (text "D") then Detail else if same name (text "S") then Summary else None
+section_named name = if same name (text "D") then Detail else (if same name (text "S") then Summary else None)
 
 -- "UNS's first element is a single component `D` or `S`", as it stands in the trimmed contents; none where it is anything else
 unfoldable pub section_of : Segment → Section

@@ -1,5 +1,6 @@
 -- What the bytes of a value make of a field, one by one, is what the field says of the value; and what they can spell at most.
 -- Assumes nothing.
+use Rattle.std.specs.Prelude.{if◌then◌else◌}
 use Prim.Native.Nat.{ℕ, zero, suc, ◌+◌, ◌*◌, ◌-◌, ◌≤◌, ◌<◌}
 use mathlib.Core.Path.{◌≡◌, refl, sym, ap, ap₂, ◌∙◌, subst}
 use mathlib.Core.Bool.{Bool, true, false, ◌&&◌, and_assoc, and-true}
@@ -10,7 +11,7 @@ use lib.ListN.{length, take}
 use lib.Seq.{take-nil}
 use lib.Dec.{ltb}
 use borrow.Author.Tests.{ltb-true, ltb-false}
-use Rattle.lists.specs.Lists.{if◌then◌else◌, all}
+use Rattle.lists.specs.Lists.{all}
 use Rattle.characters.specs.Characters.{digit}
 use Rattle.control_elements.specs.Control.{decimal_from}
 use Rattle.control_fields.specs.declared.Field.{Field}

@@ -1,4 +1,5 @@
 -- A control element of the trimmed contents is judged by the field of the element as it is spelled. Assumes nothing.
+use Rattle.std.specs.Prelude.{if◌then◌else◌}
 use Prim.Native.Nat.{ℕ, ◌≤◌}
 use mathlib.Core.Path.{◌≡◌, refl, sym, ap, ◌∙◌}
 use mathlib.Core.Bool.{Bool, true, false, ◌&&◌, and_comm}
@@ -9,7 +10,7 @@ use lib.ListN.{length}
 use lib.Seq.{take_all}
 use lib.Dec.{leb}
 use borrow.Author.Tests.{leb-true}
-use Rattle.lists.specs.Lists.{if◌then◌else◌, all, through, maybe}
+use Rattle.lists.specs.Lists.{all, through, maybe}
 use Rattle.lists.proofs.Texts.{and_left, and_right}
 use Rattle.characters.specs.declared.Characters.{Characters}
 use Rattle.characters.specs.Characters.{between, digit}

@@ -1,5 +1,6 @@
 -- There is a shelf of version 2 with room for either of two accepted interchanges and not for both: an empty one with 93 free bytes, X, and a
 -- shorter one (`shelf_cases`: `FitsEither`). Assumes nothing.
+use Rattle.std.specs.Prelude.{if◌then◌else◌}
 use Prim.Native.Nat.{ℕ, ◌≤◌}
 use mathlib.Core.Path.{◌≡◌, refl, ap, ◌∙◌}
 use mathlib.Core.Bool.{Bool, true, false, ◌||◌, false≢true}
@@ -8,7 +9,7 @@ use native.Mathlib.Omega.{arith}
 use lib.Dec.{T, eqb}
 use lib.ListN.{length}
 use borrow.Author.Tests.{eqb-true}
-use Rattle.lists.specs.Lists.{if◌then◌else◌, same, any, is_empty}
+use Rattle.lists.specs.Lists.{same, any, is_empty}
 use Rattle.lists.proofs.Texts.{same_length}
 use Rattle.stages.specs.Contents.{normal_form}
 use Rattle.operations.specs.Compare.{is_accepted}

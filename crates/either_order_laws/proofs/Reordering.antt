@@ -1,5 +1,6 @@
 -- Two lists in which everything stands as often are each other's rearrangement by swaps of neighbours; and what such swaps leave as it is.
 -- Nothing here knows of shelves. Assumes nothing.
+use Rattle.std.specs.Prelude.{if◌then◌else◌}
 use Prim.Native.Nat.{ℕ, ◌+◌, ◌≤◌}
 use mathlib.Core.Path.{◌≡◌, refl, ap, subst, ◌∙◌}
 use mathlib.Core.Bool.{Bool, true, false}
@@ -8,7 +9,7 @@ use mathlib.Core.List.{List, [], ◌∷◌, map, Permᴰ}
 use mathlib.Core.Logic.{⊎_elim}
 use native.Mathlib.Omega.{arith}
 use lib.ListN.{length}
-use Rattle.lists.specs.Lists.{if◌then◌else◌, same, those}
+use Rattle.lists.specs.Lists.{same, those}
 use Rattle.lists.proofs.Texts.{decided, same_eq, same_refl}
 use Rattle.shelves.specs.Layout.{total}
 use Rattle.either_order_laws.specs.EitherOrder.{times_in, Reordered}

@@ -1,8 +1,8 @@
 -- Request 2026-13, two networks, either order. Each field of the record is a theorem; `proofs/Theorems.antt` proves it for every layout that has
 -- the two sums, and so for version 2. Assumes nothing.
-use Rattle.std.specs.Prelude.{ℕ, ◌+◌, ◌-◌, ◌≤◌, min, ◌≡◌, true, ◌⊎◌, ◌↔◌, length}
+use Rattle.std.specs.Prelude.{ℕ, ◌+◌, ◌-◌, ◌≤◌, min, ◌≡◌, true, ◌⊎◌, ◌↔◌, length, if◌then◌else◌}
 use mathlib.Core.List.{List, [], ◌∷◌, ◌++◌, map, Memᴰ}
-use Rattle.lists.specs.Lists.{if◌then◌else◌, same, all, any, those}
+use Rattle.lists.specs.Lists.{same, all, any, those}
 use Rattle.stages.specs.Contents.{normal_form}
 use Rattle.operations.specs.Compare.{is_accepted}
 use Rattle.shelves.specs.declared.Shelved.{Shelved}

@@ -1,5 +1,6 @@
 -- What is found from left to right is the larger piece's piece of that number; and one step of the search, for each token that
 -- may stand there, and of the search for a byte. Assumes nothing.
+use Rattle.std.specs.Prelude.{if◌then◌else◌}
 use Prim.Native.Nat.{ℕ, zero, suc, ◌-◌, ◌≤◌, ◌<◌}
 use mathlib.Core.Path.{◌≡◌, refl, sym, ap, ◌∙◌}
 use mathlib.Core.Bool.{Bool, true, false, not, false≢true}
@@ -9,7 +10,7 @@ use native.Mathlib.Omega.{arith}
 use native.Mathlib.Numerals.{sub-one}
 use lib.Dec.{leb}
 use lib.ListN.{drop}
-use Rattle.lists.specs.Lists.{if◌then◌else◌, is_empty, through, at, onto, cut, gather}
+use Rattle.lists.specs.Lists.{is_empty, through, at, onto, cut, gather}
 use Rattle.lists.proofs.Texts.{if_true, if_false}
 use Rattle.lists.proofs.Numbers.{drop_nothing, at_drop}
 use Rattle.lists.proofs.Pieces.{drop_onto, cut_first, through_through}
@@ -47,7 +48,7 @@ module _ {A : Type 0} (t u : A → Bool) where
     where
       step : (a b : Bool) → cut u (through t (piece_from t u k xs)) ≡ drop k (cut u (through t xs))
           → cut u (through t (piece_from t u (suc k) xs)) ≡ drop (suc k) (cut u (through t xs))
-          → cut u (through t (if a then [] else if b then piece_from t u k xs else piece_from t u (suc k) xs))
+          → cut u (through t (if a then [] else (if b then piece_from t u k xs else piece_from t u (suc k) xs)))
           ≡ drop (suc k) (onto b x (cut u (if a then [] else through t xs)))
       step true true one more = sym (drop_nothing k)
       step true false one more = sym (drop_nothing k)

@@ -1,4 +1,5 @@
 -- The search for an element goes on past bytes that end neither its segment nor take others with them. Assumes nothing.
+use Rattle.std.specs.Prelude.{if◌then◌else◌}
 use Prim.Native.Nat.{ℕ, ◌+◌, ◌-◌, ◌≤◌, ◌<◌}
 use mathlib.Core.Path.{◌≡◌, refl, ap, ◌∙◌}
 use mathlib.Core.Bool.{Bool, true, false, ◌&&◌, ◌||◌, and-false}
@@ -7,7 +8,6 @@ use mathlib.Core.Logic.{◌⊎◌, inl, inr}
 use native.Mathlib.Omega.{arith}
 use lib.ListN.{length, get_or}
 use lib.Dec.{eqb}
-use Rattle.lists.specs.Lists.{if◌then◌else◌}
 use Rattle.characters.specs.declared.Characters.{Characters}
 use Rattle.characters.specs.declared.Role.TheVariants.{Separator, Plain}
 use Rattle.characters.specs.Characters.{role, has_repetition}
@@ -20,7 +20,7 @@ use Rattle.elements.proofs.Elements.{from_next, from_miss, from_plain}
 pub weight_most : (c : Characters) (b : ℕ) → weight c b ≤ 15
 weight_most c b = by_test (eqb b c.terminator || eqb b c.release) (eqb b c.element)
   where
-    by_test : (t e : Bool) → (if t then 15 else if e then 1 else 0) ≤ 15
+    by_test : (t e : Bool) → (if t then 15 else (if e then 1 else 0)) ≤ 15
     by_test true e = omega arith
     by_test false true = omega arith
     by_test false false = omega arith
@@ -43,9 +43,9 @@ module _ (c : Characters) (s : List ℕ) (at : ℕ) (inside : at < length s) whe
     unfolding role
     other_role e l = simp (t, e, l, and-false) (by_test (has_repetition c && eqb b c.repetition) (eqb b c.component))
       where
-        by_test : (p q : Bool) → ((if p then Separator 2 else if q then Separator 3 else Plain) ≡ Separator 2)
-            ⊎ (((if p then Separator 2 else if q then Separator 3 else Plain) ≡ Separator 3)
-            ⊎ ((if p then Separator 2 else if q then Separator 3 else Plain) ≡ Plain))
+        by_test : (p q : Bool) → ((if p then Separator 2 else (if q then Separator 3 else Plain)) ≡ Separator 2)
+            ⊎ (((if p then Separator 2 else (if q then Separator 3 else Plain)) ≡ Separator 3)
+            ⊎ ((if p then Separator 2 else (if q then Separator 3 else Plain)) ≡ Plain))
         by_test true q = inl refl
         by_test false true = inr (inl refl)
         by_test false false = inr (inr refl)
@@ -67,7 +67,7 @@ module _ (c : Characters) (s : List ℕ) (at : ℕ) (inside : at < length s) whe
   separators_next from sum h = by_test (eqb b c.terminator) (eqb b c.release) (eqb b c.element) refl refl refl
     where
       by_test : (t l e : Bool) → eqb b c.terminator ≡ t → eqb b c.release ≡ l → eqb b c.element ≡ e
-          → Separators c s from (at + 1) (sum + (if t || l then 15 else if e then 1 else 0))
+          → Separators c s from (at + 1) (sum + (if t || l then 15 else (if e then 1 else 0)))
       by_test true l e p q r k number m = absurd (omega arith)
       by_test false true e p q r k number m = absurd (omega arith)
       by_test false false true p q r k number m =

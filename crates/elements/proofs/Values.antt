@@ -1,4 +1,5 @@
 -- One step of reading a value, for each token that the scanner can find. Assumes nothing.
+use Rattle.std.specs.Prelude.{if◌then◌else◌}
 use Prim.Native.Nat.{ℕ, ◌≤◌}
 use mathlib.Core.Path.{◌≡◌, sym, ap, ◌∙◌, subst}
 use mathlib.Core.Bool.{Bool, true}
@@ -7,7 +8,7 @@ use native.Mathlib.Omega.{arith}
 use lib.Dec.{leb}
 use borrow.Author.Tests.{le-leb}
 use lib.ListN.{length}
-use Rattle.lists.specs.Lists.{if◌then◌else◌, through, gather}
+use Rattle.lists.specs.Lists.{through, gather}
 use Rattle.characters.specs.declared.Characters.{Characters}
 use Rattle.values.specs.Tokens.{separator, ends, tokens_at}
 use Rattle.values.specs.Values.{byte_of, bytes_of}

@@ -1,7 +1,7 @@
 -- The pieces of a larger piece, over the tokens from left to right. Assumes nothing.
-use Rattle.std.specs.Prelude.{ℕ, zero, suc, ◌≤◌, ◌≡◌, Bool, false, not, List, [], ◌∷◌, length}
+use Rattle.std.specs.Prelude.{ℕ, zero, suc, ◌≤◌, ◌≡◌, Bool, false, not, List, [], ◌∷◌, length, if◌then◌else◌}
 use Rattle.std.proofs.Math.Option.{Option, none, some}
-use Rattle.lists.specs.Lists.{if◌then◌else◌, is_empty, through}
+use Rattle.lists.specs.Lists.{is_empty, through}
 use Rattle.characters.specs.declared.Characters.{Characters}
 use Rattle.values.specs.Tokens.{Token, ends, tokens_at}
 use Rattle.values.specs.Values.{bytes_of}
@@ -11,7 +11,7 @@ module _ {A : Type 0} where
   unfoldable pub piece_from : (larger smaller : A → Bool) → ℕ → List A → List A
   piece_from t u zero xs = xs
   piece_from t u (suc k) [] = []
-  piece_from t u (suc k) (x ∷ xs) = if t x then [] else if u x then piece_from t u k xs else piece_from t u (suc k) xs
+  piece_from t u (suc k) (x ∷ xs) = if t x then [] else (if u x then piece_from t u k xs else piece_from t u (suc k) xs)
 
 -- what ends the larger piece, by the kind of separator that ends the smaller ones: a separator of the next lower kind, and nothing
 -- ends what segments are pieces of

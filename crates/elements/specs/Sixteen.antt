@@ -1,6 +1,5 @@
 -- The search for an element, past sixteen bytes at a time. Assumes nothing.
-use Rattle.std.specs.Prelude.{ℕ, ◌-◌, ◌≤◌, ◌<◌, ◌≡◌, ◌||◌, List, length, eqb}
-use Rattle.lists.specs.Lists.{if◌then◌else◌}
+use Rattle.std.specs.Prelude.{ℕ, ◌-◌, ◌≤◌, ◌<◌, ◌≡◌, ◌||◌, List, length, eqb, if◌then◌else◌}
 use Rattle.characters.specs.declared.Characters.{Characters}
 use Rattle.values.specs.Tokens.{tokens_at}
 use Rattle.elements.specs.Elements.{element_from}
@@ -8,7 +7,7 @@ use Rattle.elements.specs.declared.Search.{Search}
 
 -- what a byte adds to the sum of sixteen: an element separator 1, and a byte that may end the segment or take the next one with it 15
 abbrev pub weight : Characters → ℕ → ℕ
-weight c b = if eqb b c.terminator || eqb b c.release then 15 else if eqb b c.element then 1 else 0
+weight c b = if eqb b c.terminator || eqb b c.release then 15 else (if eqb b c.element then 1 else 0)
 
 -- the bytes from a place up to another pass so many elements, if fewer than 15
 abbrev pub Separators : Characters → List ℕ → ℕ → ℕ → ℕ → Type 0

@@ -1,6 +1,6 @@
 -- The value that tokens begin with: its bytes, and what ends it. Assumes nothing.
-use Rattle.std.specs.Prelude.{ℕ, ◌≤◌, ◌<◌, ◌≡◌, List, [], ◌∷◌, length}
-use Rattle.lists.specs.Lists.{if◌then◌else◌, through}
+use Rattle.std.specs.Prelude.{ℕ, ◌≤◌, ◌<◌, ◌≡◌, List, [], ◌∷◌, length, if◌then◌else◌}
+use Rattle.lists.specs.Lists.{through}
 use Rattle.characters.specs.declared.Characters.{Characters}
 use Rattle.values.specs.Tokens.{Token, ends, tokens_at}
 use Rattle.values.specs.Values.{bytes_of}

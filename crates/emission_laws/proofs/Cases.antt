@@ -1,11 +1,12 @@
 -- Case by case: how a byte is spelled, the four ranks of separators, and the tokens that a body may bring. Assumes nothing.
+use Rattle.std.specs.Prelude.{if◌then◌else◌}
 use Prim.Native.Nat.{ℕ, suc, ◌+◌}
 use mathlib.Core.Path.{◌≡◌, refl}
 use mathlib.Core.Bool.{Bool, true, false, ◌&&◌}
 use mathlib.Core.List.{List, [], ◌∷◌}
 use lib.Dec.{leb, eqb}
 use lib.ListN.{length}
-use Rattle.lists.specs.Lists.{if◌then◌else◌, all}
+use Rattle.lists.specs.Lists.{all}
 use Rattle.lists.proofs.Texts.{and_both}
 use Rattle.characters.specs.declared.Characters.{Characters}
 use Rattle.characters.specs.declared.Role.{Role}
@@ -42,7 +43,7 @@ role_known c b =
   where
     step : (t u v w x : Bool)
         → known_role
-        (if t then Separator 0 else if u then Separator 1 else if v then Separator 2 else if w then Separator 3 else if x then Release else Plain)
+        (if t then Separator 0 else (if u then Separator 1 else (if v then Separator 2 else (if w then Separator 3 else (if x then Release else Plain)))))
         ≡ true
     step true u v w x = refl
     step false true v w x = refl

@@ -1,10 +1,11 @@
 -- One level of trimming, read from the left: a list is cut into pieces, each is read and spelled, idle ones at the end go, and
 -- the others are joined by a separator. So are an element's values, and a segment's elements. Assumes nothing.
+use Rattle.std.specs.Prelude.{if◌then◌else◌}
 use Prim.Native.Nat.{ℕ}
 use mathlib.Core.Path.{◌≡◌, refl, sym, ap, ◌∙◌}
 use mathlib.Core.Bool.{Bool}
 use mathlib.Core.List.{List, [], ◌∷◌, ◌++◌, map}
-use Rattle.lists.specs.Lists.{if◌then◌else◌, is_empty, through, cut, unless_idle, drop_end, trim_end, each_led_by, joined, beyond}
+use Rattle.lists.specs.Lists.{is_empty, through, cut, unless_idle, drop_end, trim_end, each_led_by, joined, beyond}
 use Rattle.lists.proofs.Pieces.{cut_first}
 use Rattle.emission_laws.proofs.Runs.{held}
 

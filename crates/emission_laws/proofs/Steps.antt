@@ -1,4 +1,5 @@
 -- The machine's steps: tokens one after the other, how long what they spell is, and how far the measure moves. Assumes nothing.
+use Rattle.std.specs.Prelude.{if◌then◌else◌}
 use Prim.Native.Nat.{ℕ, ◌+◌, ◌*◌, ◌≤◌}
 use native.Mathlib.Omega.{arith}
 use native.Mathlib.Nat.{add-zero}
@@ -8,7 +9,6 @@ use mathlib.Core.List.{List, [], ◌∷◌, ◌++◌, append-nil, append_assoc}
 use lib.Dec.{leb}
 use borrow.Author.Tests.{le-leb, lt-leb}
 use lib.ListN.{length, replicate, length-append, length-replicate}
-use Rattle.lists.specs.Lists.{if◌then◌else◌}
 use Rattle.characters.specs.declared.Characters.{Characters}
 use Rattle.values.specs.Tokens.{Token, byte, separator, fault, Reading, inside, tokens_from, tokens}
 use Rattle.values.specs.Spelling.{spell_byte}
@@ -28,9 +28,9 @@ by_rank P h rank p q r s = step (leb rank 0) (leb rank 1) (leb rank 2)
   where
     step : (t u v : Bool)
         → P t
-        (if t then nothing else if u then record { elements = h.elements + 1; repeats = 0; components = 0 }
-        else if v then record { elements = h.elements; repeats = h.repeats + 1; components = 0 }
-        else record { elements = h.elements; repeats = h.repeats; components = h.components + 1 })
+        (if t then nothing else (if u then record { elements = h.elements + 1; repeats = 0; components = 0 }
+        else (if v then record { elements = h.elements; repeats = h.repeats + 1; components = 0 }
+        else record { elements = h.elements; repeats = h.repeats; components = h.components + 1 })))
     step true u v = p
     step false true v = q
     step false false true = r

@@ -1,7 +1,6 @@
 -- The trimmed contents of a body, spelled from left to right: a separator is held back until a value's byte follows it,
 -- and goes where what it would separate is empty to the end. Assumes nothing.
-use Rattle.std.specs.Prelude.{ℕ, ◌+◌, List, [], ◌∷◌, ◌++◌, leb, length, replicate}
-use Rattle.lists.specs.Lists.{if◌then◌else◌}
+use Rattle.std.specs.Prelude.{ℕ, ◌+◌, List, [], ◌∷◌, ◌++◌, leb, length, replicate, if◌then◌else◌}
 use Rattle.characters.specs.declared.Characters.{Characters}
 use Rattle.values.specs.Tokens.{Token, byte, separator, fault}
 use Rattle.values.specs.Spelling.{spell_byte}
@@ -23,9 +22,9 @@ waiting h = h.elements + h.repeats + h.components
 unfoldable pub separated : Held → ℕ → Held
 separated h rank =
     if leb rank 0 then nothing
-    else if leb rank 1 then record { elements = h.elements + 1; repeats = 0; components = 0 }
-    else if leb rank 2 then record { elements = h.elements; repeats = h.repeats + 1; components = 0 }
-    else record { elements = h.elements; repeats = h.repeats; components = h.components + 1 }
+    else (if leb rank 1 then record { elements = h.elements + 1; repeats = 0; components = 0 }
+    else (if leb rank 2 then record { elements = h.elements; repeats = h.repeats + 1; components = 0 }
+    else record { elements = h.elements; repeats = h.repeats; components = h.components + 1 }))
 
 -- after a token: a byte of a value lets them all out
 unfoldable pub held_next : Held → Token → Held

@@ -1,5 +1,6 @@
 -- The lines of the contents of a body are those that its tokens print. The contents are read off the text of marks that the tokens emit, value
 -- by value; each value that is read gives the line that is printed. Assumes nothing.
+use Rattle.std.specs.Prelude.{if◌then◌else◌}
 use Prim.Native.Nat.{ℕ, zero, suc, ◌≤◌}
 use mathlib.Core.Path.{◌≡◌, refl, sym, ap, ap₂, ◌∙◌}
 use mathlib.Core.Bool.{Bool, true, false, false≢true}
@@ -8,7 +9,7 @@ use native.Mathlib.Omega.{arith}
 use lib.Dec.{leb, eqb}
 use lib.ListN.{replicate}
 use borrow.Author.Tests.{not-false, leb-true}
-use Rattle.lists.specs.Lists.{if◌then◌else◌, is_empty, all, last_or}
+use Rattle.lists.specs.Lists.{is_empty, all, last_or}
 use Rattle.lists.proofs.Texts.{and_left}
 use Rattle.values.specs.Tokens.{Token, byte, separator, fault, ends, segments}
 use Rattle.values.specs.Values.{ended_by, ends_inside}
@@ -51,7 +52,7 @@ opens i false (x ∷ xs) = step (leb x 3) (eqb x 4) (λ p. refl) (opens i true x
     step : (t u : Bool) → Opens i.kind (i ∷ items_from (item_next x i) false xs) → Opens i.kind (items_from i true xs)
         → Opens i.kind (items_from (item_grow x i) false xs)
         → Opens i.kind
-        (if t then i ∷ items_from (item_next x i) false xs else if u then items_from i true xs else items_from (item_grow x i) false xs)
+        (if t then i ∷ items_from (item_next x i) false xs else (if u then items_from i true xs else items_from (item_grow x i) false xs))
     step true u p q r = p
     step false true p q r = q
     step false false p q r = r

@@ -1,4 +1,5 @@
 -- One line after the other: where each step ends, and that counting goes on. Assumes nothing.
+use Rattle.std.specs.Prelude.{if◌then◌else◌}
 use Prim.Native.Nat.{ℕ, zero, suc, ◌+◌, ◌*◌, ◌-◌, ◌≤◌, ◌<◌}
 use mathlib.Core.Path.{◌≡◌, refl, sym, ap, ap₂, subst, ◌∙◌}
 use mathlib.Core.Bool.{Bool, true, false}
@@ -8,7 +9,6 @@ use native.Mathlib.Nat.{add-zero}
 use lib.Dec.{leb, eqb}
 use lib.ListN.{length, length-append}
 use borrow.Author.Tests.{le-leb, lt-leb}
-use Rattle.lists.specs.Lists.{if◌then◌else◌}
 use Rattle.lists.proofs.Texts.{if_true, if_false}
 use Rattle.values.specs.Spelling.{Bytes}
 use Rattle.emission_laws.specs.declared.Held.{Held}
@@ -87,8 +87,8 @@ next_low p kind most s e r c = step (leb kind 0) (leb kind 1) (eqb kind 3)
     step : (x y z : Bool)
         → let q : Position =
         if x then at (p.segment + 1) 0 0 0
-        else if y then at p.segment (p.element + 1) 0 0
-        else if z then at p.segment p.element (p.repeat + 1) 0 else at p.segment p.element p.repeat (p.component + 1) in
+        else (if y then at p.segment (p.element + 1) 0 0
+        else (if z then at p.segment p.element (p.repeat + 1) 0 else at p.segment p.element p.repeat (p.component + 1))) in
         (q.segment ≤ most + 1) × (q.element ≤ most + 1) × (q.repeat ≤ most + 1) × (q.component ≤ most + 1)
     step true y z = (omega arith, omega arith, omega arith, omega arith)
     step false true z = (omega arith, omega arith, omega arith, omega arith)

@@ -1,7 +1,6 @@
 -- Request 2026-12: the lines of a body's contents, token by token. The numbers of a value are printed with the first thing after them: a byte of
 -- the value, or its end. Separators are held back until something follows them. Assumes nothing.
-use Rattle.std.specs.Prelude.{ℕ, zero, suc, ◌+◌, ◌*◌, ◌≤◌, true, false, List, [], ◌∷◌, ◌++◌, leb, length}
-use Rattle.lists.specs.Lists.{if◌then◌else◌}
+use Rattle.std.specs.Prelude.{ℕ, zero, suc, ◌+◌, ◌*◌, ◌≤◌, true, false, List, [], ◌∷◌, ◌++◌, leb, length, if◌then◌else◌}
 use Rattle.values.specs.Tokens.{Token, byte, separator, fault}
 use Rattle.values.specs.Spelling.{Bytes}
 use Rattle.emission_laws.specs.declared.Held.{Held}

@@ -1,5 +1,6 @@
 -- The tests of refusals 10 to 12 by the kind of a segment, and that they ask of a frame that its header and trailer agree.
 -- What passed is a list of segments, the nearest first. Assumes nothing.
+use Rattle.std.specs.Prelude.{if◌then◌else◌}
 use Prim.Native.Nat.{ℕ, suc}
 use native.Mathlib.Omega.{arith}
 use mathlib.Core.Path.{◌≡◌, refl, sym, ap, ◌∙◌}
@@ -10,7 +11,7 @@ use mathlib.Core.Option.{Option, none, some}
 use lib.ListN.{length, length-map, length-reverse_aux}
 use lib.Dec.{eqb}
 use borrow.Author.Tests.{eqb-true, eq-eqb, not-false}
-use Rattle.lists.specs.Lists.{if◌then◌else◌, through, first, maybe}
+use Rattle.lists.specs.Lists.{through, first, maybe}
 use Rattle.lists.proofs.Texts.{and_left, and_right, and_both, if_true, if_false, same_eq, same_refl}
 use Rattle.values.specs.Tokens.{Segment}
 use Rattle.segments.specs.declared.Kind.{Kind}

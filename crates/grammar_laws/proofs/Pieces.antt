@@ -1,5 +1,6 @@
 -- How many segments of a kind are in the grammar's pieces, and how many messages are counted after an open header.
 -- What passed is a list of segments, the nearest first. Assumes nothing.
+use Rattle.std.specs.Prelude.{if◌then◌else◌}
 use Prim.Native.Nat.{ℕ, ◌+◌, ◌<◌}
 use native.Mathlib.Omega.{arith}
 use mathlib.Core.Path.{◌≡◌, refl, sym, ap, ◌∙◌}
@@ -8,7 +9,7 @@ use mathlib.Core.Bool.{Bool, true, false}
 use mathlib.Core.List.{List, [], ◌∷◌, ◌++◌, map}
 use lib.ListN.{length}
 use borrow.Author.Tests.{eq-eqb}
-use Rattle.lists.specs.Lists.{if◌then◌else◌, all, those, through}
+use Rattle.lists.specs.Lists.{all, those, through}
 use Rattle.lists.proofs.Texts.{and_left, and_right, or_cases, if_true, if_false}
 use Rattle.values.specs.Tokens.{Segment}
 use Rattle.segments.specs.declared.Kind.{Kind}

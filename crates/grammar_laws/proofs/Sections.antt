@@ -1,9 +1,10 @@
 -- The rule that a UNS keeps where it stands, and the sections of a message as the grammar has them, each from the other. What passed is a
 -- list of segments, the nearest first. Assumes nothing.
+use Rattle.std.specs.Prelude.{if◌then◌else◌}
 use mathlib.Core.Path.{◌≡◌, refl, sym, ap, ◌∙◌}
 use mathlib.Core.Bool.{Bool, true, false, not, ◌&&◌, ◌||◌, false≢true}
 use mathlib.Core.List.{List, [], ◌∷◌, ◌++◌, map, nil≢cons, head-eq_of_cons-eq, tail-eq_of_cons-eq}
-use Rattle.lists.specs.Lists.{if◌then◌else◌, any, those}
+use Rattle.lists.specs.Lists.{any, those}
 use Rattle.values.specs.Tokens.{Segment}
 use Rattle.segments.specs.declared.Kind.{Kind}
 use Rattle.segments.specs.declared.Kind.TheVariants.{Unh, Uns, User}

@@ -1,7 +1,7 @@
 -- Paper 01, "Order of segments" and "Control elements", and change request 2026-03, "Section markers", as a grammar of a list of segments.
 -- Assumes nothing.
-use Rattle.std.specs.Prelude.{ℕ, ◌+◌, ◌≡◌, ◌⊎◌, Bool, true, ◌||◌, List, [], ◌∷◌, ◌++◌, map, reverse, length, eqb}
-use Rattle.lists.specs.Lists.{if◌then◌else◌, all, those, maybe}
+use Rattle.std.specs.Prelude.{ℕ, ◌+◌, ◌≡◌, ◌⊎◌, Bool, true, ◌||◌, List, [], ◌∷◌, ◌++◌, map, reverse, length, eqb, if◌then◌else◌}
+use Rattle.lists.specs.Lists.{all, those, maybe}
 use Rattle.values.specs.Tokens.{Segment}
 use Rattle.segments.specs.declared.Kind.{Kind}
 use Rattle.segments.specs.declared.Kind.TheVariants.{Unb, Ung, Unh, Uns, Unt, Une, Unz, User}

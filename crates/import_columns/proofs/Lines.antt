@@ -1,4 +1,5 @@
 -- A line is its four numbers, its value and a line feed: where it stands, and where none does. Assumes nothing.
+use Rattle.std.specs.Prelude.{if◌then◌else◌}
 use Prim.Native.Nat.{ℕ, ◌+◌, ◌-◌, ◌≤◌, ◌<◌}
 use mathlib.Core.Path.{◌≡◌, refl, sym, ap, ap₂, ◌∙◌}
 use mathlib.Core.Bool.{Bool, true, false, not, ◌||◌, true≢false}
@@ -7,7 +8,7 @@ use native.Mathlib.Omega.{arith}
 use lib.Dec.{eqb}
 use lib.ListN.{length, take, drop, get_or, length-append, length-drop}
 use lib.Seq.{take_at, drop-drop, drop-append_seam, get_or-drop}
-use Rattle.lists.specs.Lists.{if◌then◌else◌, member, begins, all}
+use Rattle.lists.specs.Lists.{member, begins, all}
 use Rattle.lists.proofs.Texts.{and_both, if_true, if_false}
 use Rattle.lists.proofs.Numbers.{drop_next}
 use Rattle.lists.proofs.Tests.{says_begins}

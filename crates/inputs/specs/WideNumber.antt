@@ -1,6 +1,5 @@
 -- The number that an argument spells, of any that 64 bits hold. Assumes nothing.
-use Rattle.std.specs.Prelude.{ℕ, ◌+◌, ◌*◌, ◌-◌, ◌||◌, List, [], ◌∷◌, ltb}
-use Rattle.lists.specs.Lists.{if◌then◌else◌}
+use Rattle.std.specs.Prelude.{ℕ, ◌+◌, ◌*◌, ◌-◌, ◌||◌, List, [], ◌∷◌, ltb, if◌then◌else◌}
 use Rattle.inputs.specs.declared.number.Number.{Number}
 use Rattle.inputs.specs.declared.number.Number.TheVariants.{Is, NotOne}
 

@@ -1,4 +1,5 @@
 -- What each stage of the code finds is what its stage of the paper answers. Assumes nothing.
+use Rattle.std.specs.Prelude.{if◌then◌else◌}
 use Prim.Native.Nat.{ℕ, suc, ◌+◌, ◌<◌, ◌≤◌}
 use mathlib.Core.Path.{◌≡◌, refl, sym, ap, ap₂, subst, ◌∙◌}
 use mathlib.Core.Bool.{Bool, true, false}
@@ -8,7 +9,7 @@ use native.Mathlib.Omega.{arith}
 use lib.ListN.{length, drop}
 use lib.Dec.{eqb, ltb, lit≤}
 use borrow.Author.Tests.{lt-ltb, le-ltb, eqb-false, eq-eqb, ne_eqb}
-use Rattle.lists.specs.Lists.{if◌then◌else◌, all, any, those, text, same, at, maybe, through}
+use Rattle.lists.specs.Lists.{all, any, those, text, same, at, maybe, through}
 use Rattle.lists.proofs.Pieces.{cut_first}
 use Rattle.lists.proofs.Numbers.{at_map}
 use Rattle.characters.specs.declared.Characters.{Characters}
@@ -106,8 +107,8 @@ level_known : (c : Characters) (g : Segment) → number_of (level_of c g) ≡ 0 
 unfolding level_of level_in level_named maybe
 level_known c g = by_identifier (syntax_identifier (contents_of g))
   where
-    by_name : (a b : Bool) → number_of (if a then some 2 else if b then some 1 else none) ≡ 0
-        → ◌≡◌ {A = Option ℕ} (if a then some 2 else if b then some 1 else none) none
+    by_name : (a b : Bool) → number_of (if a then some 2 else (if b then some 1 else none)) ≡ 0
+        → ◌≡◌ {A = Option ℕ} (if a then some 2 else (if b then some 1 else none)) none
     by_name true b e = absurd (omega arith)
     by_name false true e = absurd (omega arith)
     by_name false false e = refl

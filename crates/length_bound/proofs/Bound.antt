@@ -1,6 +1,7 @@
 -- What is emitted of a body has at most one byte for each of its bytes, and one more for each that is a service character of the characters
 -- that it is emitted with, and none of those that it is read with: any other byte of a value that is spelled with a release character was read
 -- after one. Assumes nothing.
+use Rattle.std.specs.Prelude.{if◌then◌else◌}
 use Prim.Native.Nat.{ℕ, zero, suc, ◌+◌, ◌-◌, ◌*◌, ◌≤◌}
 use mathlib.Core.Path.{◌≡◌, refl, ap, ◌∙◌}
 use mathlib.Core.Bool.{Bool, true, false, not, ◌&&◌, and-true, and-not_self}
@@ -9,7 +10,6 @@ use native.Mathlib.Omega.{arith}
 use lib.Dec.{leb}
 use lib.ListN.{length, drop, length-append, length-drop}
 use mir.Val.{bool_byte}
-use Rattle.lists.specs.Lists.{if◌then◌else◌}
 use Rattle.characters.specs.declared.Characters.{Characters}
 use Rattle.characters.specs.declared.Role.{Role}
 use Rattle.characters.specs.declared.Role.TheVariants.{Separator, Release, Plain}

@@ -1,4 +1,5 @@
 -- How many bytes pass a test, byte by byte; and the service characters of the normal form alone, asked for one by one. Assumes nothing.
+use Rattle.std.specs.Prelude.{if◌then◌else◌}
 use Prim.Native.Nat.{ℕ, ◌+◌, ◌≤◌, ◌<◌}
 use mathlib.Core.Path.{◌≡◌, refl, sym, ap, ◌∙◌}
 use mathlib.Core.Bool.{Bool, true, false, not, ◌&&◌, ◌||◌, and-true, and-false, and-or_distrib_right, or-false}
@@ -8,7 +9,7 @@ use lib.Dec.{eqb}
 use lib.ListN.{length, get_or, drop, drop_of_length-le}
 use borrow.Author.Tests.{eqb-true}
 use mir.Val.{bool_byte}
-use Rattle.lists.specs.Lists.{if◌then◌else◌, those, member}
+use Rattle.lists.specs.Lists.{those, member}
 use Rattle.lists.proofs.Numbers.{drop_next}
 use Rattle.storing.proofs.Stores.{bit_most}
 use Rattle.characters.specs.declared.Characters.{Characters}

@@ -1,9 +1,9 @@
 -- A mask's bits by its runs of equal ones: one law for every mask. Assumes nothing.
+use Rattle.std.specs.Prelude.{if◌then◌else◌}
 use Rattle.std.proofs.Common.{◌≡◌, ℕ, ◌+◌, ◌-◌, ◌*◌, ◌/◌, ◌%◌, ◌^◌, ◌<◌, ◌≤◌, Bool, true, false, not, eqb, ltb, ◌⊎◌, List, [], ◌∷◌, sym, refl, ap, ◌∙◌, subst, inl, inr, ⊎_elim, add_assoc, not-le_of_lt, arith, pow_pos, shr-shr}
 use mathlib.Core.Bool.{false≢true}
 use native.Mathlib.Nat.{div-eq_of_lt}
 use lib.Pow.{high, low, field, mod-mod-pow, ones_lt, ones_split}
-use Rattle.lists.specs.Lists.{if◌then◌else◌}
 use Rattle.lists.proofs.Tests.{Says, says_lt, decides}
 use Rattle.level_classes.specs.Masks.{bit_set}
 

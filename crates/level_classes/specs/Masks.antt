@@ -1,6 +1,5 @@
 -- A byte's bit in a mask, and what a level holds by what is known of a byte. Assumes nothing.
-use Rattle.std.specs.Prelude.{ℕ, ◌-◌, ◌/◌, ◌%◌, ◌^◌, Bool, ◌&&◌, ◌||◌, ◌==◌, nat_le}
-use Rattle.lists.specs.Lists.{if◌then◌else◌}
+use Rattle.std.specs.Prelude.{ℕ, ◌-◌, ◌/◌, ◌%◌, ◌^◌, Bool, ◌&&◌, ◌||◌, ◌==◌, nat_le, if◌then◌else◌}
 
 -- the bit worth 2^k of a number is set
 unfoldable pub bit_set : ℕ → ℕ → Bool
@@ -12,4 +11,4 @@ is_set mask first b = nat_le first b && bit_set mask (b - first)
 
 -- the class of a byte that is in level A or not, and one of `a` to `z` or not, is not below the level
 unfoldable pub in_class : ℕ → Bool → Bool → Bool
-in_class level in_a letter = nat_le level (if in_a then 2 else if in_a || letter then 1 else 0)
+in_class level in_a letter = nat_le level (if in_a then 2 else (if in_a || letter then 1 else 0))

@@ -1,4 +1,5 @@
 -- What the definitions say in numbers: both levels as ranges of byte values, and which level UNB names. Assumes nothing.
+use Rattle.std.specs.Prelude.{if◌then◌else◌}
 use Prim.Native.Nat.{ℕ, ◌≤◌}
 use mathlib.Core.Path.{◌≡◌, refl, sym, ap, ◌∙◌}
 use mathlib.Core.Bool.{Bool, true, false, not, ◌&&◌, ◌||◌, and-false, false≢true}
@@ -7,7 +8,7 @@ use mathlib.Core.Option.{Option, none, some, none-ne-some, some-injective}
 use mathlib.Core.Logic.{◌⊎◌, inl, inr, ⊎_elim, ◌↔◌}
 use native.Mathlib.Omega.{arith}
 use lib.Dec.{eqb, leb}
-use Rattle.lists.specs.Lists.{if◌then◌else◌, text, same, member, all, at, single, maybe}
+use Rattle.lists.specs.Lists.{text, same, member, all, at, single, maybe}
 use Rattle.lists.proofs.Texts.{if_true, if_false}
 use Rattle.lists.proofs.Tests.{Says, says_as, says_eq, says_both, says_either, says_all, says_member, says_same, all_from, tested_from}
 use Rattle.characters.specs.declared.Characters.{Characters}
@@ -56,7 +57,7 @@ unfolding in_level class_of in_level_b
 in_level_says b = step (in_level_a b) (level_a_says b) (lower b) (lower_says b)
   where
     step : (t : Bool) → Says t (LevelA b) → (l : Bool) → Says l ((97 ≤ b) × (b ≤ 122))
-        → let class : ℕ = if t then 2 else if t || l then 1 else 0 in
+        → let class : ℕ = if t then 2 else (if t || l then 1 else 0) in
         Says (leb 2 class) (LevelA b) × Says (leb 1 class) (LevelB b)
     step true a l h = (a, (λ e. inl (a.0 refl), λ e. refl))
     step false a true h = (a, (λ e. inr (h.0 refl), λ e. refl))
@@ -71,7 +72,7 @@ unfolding level_named
 named_says name l = step (same name (text "UNOA")) (says_same name (text "UNOA")) (same name (text "UNOB")) (says_same name (text "UNOB"))
   where
     step : (t : Bool) → Says t (name ≡ text "UNOA") → (v : Bool) → Says v (name ≡ text "UNOB")
-        → (if t then some 2 else if v then some 1 else none) ≡ some l
+        → (if t then some 2 else (if v then some 1 else none)) ≡ some l
         → ((l ≡ 2) × (name ≡ text "UNOA")) ⊎ ((l ≡ 1) × (name ≡ text "UNOB"))
     step true a v b e = inl (sym (some-injective 2 l e), a.0 refl)
     step false a true b e = inr (sym (some-injective 1 l e), b.0 refl)

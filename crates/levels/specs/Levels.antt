@@ -1,7 +1,7 @@
 -- Paper 01, "Levels"; request 2026-10, version 4. Assumes nothing.
-use Rattle.std.specs.Prelude.{ℕ, Bool, true, false, not, ◌&&◌, ◌||◌, List, leb}
+use Rattle.std.specs.Prelude.{ℕ, Bool, true, false, not, ◌&&◌, ◌||◌, List, leb, if◌then◌else◌}
 use Rattle.std.proofs.Math.Option.{Option, none, some}
-use Rattle.lists.specs.Lists.{if◌then◌else◌, text, same, member, at, single, maybe}
+use Rattle.lists.specs.Lists.{text, same, member, at, single, maybe}
 use Rattle.characters.specs.declared.Characters.{Characters}
 use Rattle.characters.specs.Characters.{upper, lower, digit, has_repetition}
 use Rattle.values.specs.Tokens.{Segment}
@@ -18,11 +18,11 @@ in_level_b b = in_level_a b || lower b
 
 -- A byte's class is the number of levels in which it belongs: level A holds class 2, level B classes 1 and 2.
 unfoldable pub class_of : ℕ → ℕ
-class_of b = if in_level_a b then 2 else if in_level_b b then 1 else 0
+class_of b = if in_level_a b then 2 else (if in_level_b b then 1 else 0)
 
 -- A level is known by the least class that belongs in it: 2 for `UNOA`, 1 for `UNOB`.
 unfoldable pub level_named : List ℕ → Option ℕ
-level_named name = if same name (text "UNOA") then some 2 else if same name (text "UNOB") then some 1 else none
+level_named name = if same name (text "UNOA") then some 2 else (if same name (text "UNOB") then some 1 else none)
 
 unfoldable pub in_level : ℕ → ℕ → Bool
 in_level level b = leb level (class_of b)

@@ -1,4 +1,5 @@
 -- The breaks that stand at a place, one by one. Assumes nothing.
+use Rattle.std.specs.Prelude.{if◌then◌else◌}
 use Prim.Native.Nat.{ℕ, zero, suc, ◌+◌, ◌≤◌, ◌<◌}
 use mathlib.Core.Path.{◌≡◌, sym, ap, ◌∙◌}
 use mathlib.Core.Bool.{Bool, true, false}
@@ -6,7 +7,7 @@ use mathlib.Core.List.{List, [], ◌∷◌}
 use native.Mathlib.Omega.{arith}
 use lib.ListN.{length, get_or, drop, length-drop, drop_of_length-le}
 use borrow.Author.Tests.{ne_eqb}
-use Rattle.lists.specs.Lists.{if◌then◌else◌, member}
+use Rattle.lists.specs.Lists.{member}
 use Rattle.lists.proofs.Numbers.{drop_next}
 use Rattle.characters.specs.Characters.{is_break, breaks, after_breaks}
 

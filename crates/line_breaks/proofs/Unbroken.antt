@@ -1,4 +1,5 @@
 -- A text without its control bytes, byte by byte: how long it is, and how it is stored. Assumes nothing.
+use Rattle.std.specs.Prelude.{if◌then◌else◌}
 use Prim.Native.Nat.{ℕ, suc, ◌+◌, ◌-◌, ◌≤◌, ◌<◌}
 use mathlib.Core.Path.{◌≡◌, refl, sym, ap, ◌∙◌}
 use mathlib.Core.Bool.{Bool, true, false}
@@ -10,7 +11,7 @@ use lib.Dec.{leb}
 use lib.ListN.{length, set, get_or, drop, length-drop, drop_of_length-le}
 use lib.Seq.{sets, set-set}
 use mir.Val.{bool_byte}
-use Rattle.lists.specs.Lists.{if◌then◌else◌, those}
+use Rattle.lists.specs.Lists.{those}
 use Rattle.lists.proofs.Numbers.{drop_next}
 use Rattle.storing.proofs.Stores.{sets_first}
 use Rattle.line_breaks.specs.Unbroken.{unbroken}

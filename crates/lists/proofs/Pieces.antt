@@ -1,10 +1,11 @@
 -- Laws of lists that are cut into pieces. Assumes nothing.
+use Rattle.std.specs.Prelude.{if◌then◌else◌}
 use Prim.Native.Nat.{ℕ, suc}
 use mathlib.Core.Path.{◌≡◌, refl, sym, ap, ◌∙◌}
 use mathlib.Core.Bool.{Bool, true, false, not, ◌&&◌, false≢true}
 use mathlib.Core.List.{List, [], ◌∷◌, ◌++◌, append-nil, append_assoc}
 use lib.ListN.{drop}
-use Rattle.lists.specs.Lists.{if◌then◌else◌, all, through, beyond, onto, cut, gather}
+use Rattle.lists.specs.Lists.{all, through, beyond, onto, cut, gather}
 use Rattle.lists.proofs.Texts.{and_right, if_true, if_false}
 use Rattle.lists.proofs.Numbers.{drop_nothing}
 

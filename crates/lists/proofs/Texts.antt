@@ -1,4 +1,5 @@
 -- Laws of tests and of texts. A test that passed is written `t ≡ true`. Assumes nothing.
+use Rattle.std.specs.Prelude.{if◌then◌else◌}
 use Prim.Native.Nat.{ℕ}
 use mathlib.Core.Path.{◌≡◌, refl, sym, ap, ap₂, ◌∙◌}
 use mathlib.Core.Bool.{Bool, true, false, ◌&&◌, ◌||◌, false≢true, and_assoc}
@@ -7,7 +8,7 @@ use mathlib.Core.Logic.{◌⊎◌, inl, inr}
 use lib.Dec.{eqb}
 use lib.ListN.{length}
 use borrow.Author.Tests.{eqb-true, eq-eqb}
-use Rattle.lists.specs.Lists.{if◌then◌else◌, same, all, gather}
+use Rattle.lists.specs.Lists.{same, all, gather}
 
 -- ---- tests
 
@@ -41,11 +42,11 @@ decided true = inl refl
 decided false = inr refl
 
 -- a passed test picks the first, a failed one the second
-pub if_true {ℓ} : {A : Type ℓ} (t : Bool) (a b : A) → t ≡ true → (if t then a else b) ≡ a
+pub if_true : {A : Type 0} (t : Bool) (a b : A) → t ≡ true → (if t then a else b) ≡ a
 if_true true a b h = refl
 if_true false a b h = absurd (false≢true h)
 
-pub if_false {ℓ} : {A : Type ℓ} (t : Bool) (a b : A) → t ≡ false → (if t then a else b) ≡ b
+pub if_false : {A : Type 0} (t : Bool) (a b : A) → t ≡ false → (if t then a else b) ≡ b
 if_false true a b h = absurd (false≢true (sym h))
 if_false false a b h = refl
 

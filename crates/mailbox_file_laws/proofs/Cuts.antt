@@ -1,4 +1,5 @@
 -- The pieces of a file are the only list that is cut as the request says. Assumes nothing.
+use Rattle.std.specs.Prelude.{if◌then◌else◌}
 use Prim.Native.Nat.{ℕ, zero, suc, ◌+◌, ◌≤◌, ◌<◌}
 use mathlib.Core.Path.{◌≡◌, refl, sym, ap, ap₂, ◌∙◌, subst}
 use mathlib.Core.Logic.{◌↔◌, ⊎_elim}
@@ -8,7 +9,7 @@ use mathlib.Core.Option.{Option, none, some}
 use native.Mathlib.Omega.{arith}
 use lib.ListN.{length, take, drop, length-append, length-drop, take-append-drop, drop_of_length-le}
 use lib.Seq.{take_all, take-append_seam, drop-append_seam}
-use Rattle.lists.specs.Lists.{if◌then◌else◌, gather, maybe}
+use Rattle.lists.specs.Lists.{gather, maybe}
 use Rattle.values.specs.Tokens.{Segment}
 use Rattle.values.specs.Spelling.{leads_break}
 use Rattle.stages.specs.Contents.{segments_of}

@@ -1,4 +1,5 @@
 -- A piece that ends in its UNZ: by itself, in front of others, and cut off from them. Assumes nothing.
+use Rattle.std.specs.Prelude.{if◌then◌else◌}
 use Prim.Native.Nat.{ℕ, zero, suc, ◌+◌, ◌-◌, ◌≤◌, ◌<◌}
 use mathlib.Core.Path.{◌≡◌, refl, sym, ap, ap₂, ◌∙◌, subst}
 use mathlib.Core.Logic.{◌↔◌, ⊎_elim}
@@ -10,7 +11,7 @@ use native.Mathlib.Omega.{arith}
 use lib.ListN.{length, take, drop, length-append, length-drop, take-append-drop}
 use lib.Seq.{drop-append-le, take-append-add, take-append_seam, length-take-le, take_all, drop-drop}
 use lib.Dec.{eqb}
-use Rattle.lists.specs.Lists.{if◌then◌else◌, text, begins, all, cut, maybe}
+use Rattle.lists.specs.Lists.{text, begins, all, cut, maybe}
 use Rattle.lists.proofs.Texts.{and_both, and_left, and_right, if_true}
 use Rattle.characters.specs.declared.Characters.{Characters}
 use Rattle.characters.specs.Characters.{begins_version4, is_break, breaks, after_breaks, characters_of, body_start, body}

@@ -1,4 +1,5 @@
 -- What the figures add up to: every piece is counted once, and the longest normal form is that of an accepted one. Assumes nothing.
+use Rattle.std.specs.Prelude.{if◌then◌else◌}
 use Prim.Native.Nat.{ℕ, zero, suc, ◌+◌, ◌≤◌, ◌<◌, max}
 use mathlib.Core.Path.{◌≡◌, refl, sym, ap, ap₂, ◌∙◌, subst}
 use mathlib.Core.Logic.{◌⊎◌, inl, inr, ⊎_elim}
@@ -12,7 +13,7 @@ use native.Mathlib.Nat.{lt_of_not-le}
 use lib.ListN.{length}
 use lib.Dec.{eqb}
 use borrow.Author.Tests.{eqb-true, ne_eqb}
-use Rattle.lists.specs.Lists.{if◌then◌else◌, those, maybe}
+use Rattle.lists.specs.Lists.{those, maybe}
 use Rattle.lists.proofs.Tests.{all_from, tested_from}
 use Rattle.lists.proofs.Texts.{if_true, if_false}
 use Rattle.refusals.specs.declared.Refusal.{Refusal}

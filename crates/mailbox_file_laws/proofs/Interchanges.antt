@@ -1,4 +1,5 @@
 -- Accepted interchanges end in their UNZ, so that a file of them is cut into them. Assumes nothing.
+use Rattle.std.specs.Prelude.{if◌then◌else◌}
 use Prim.Native.Nat.{ℕ, zero, suc, ◌+◌, ◌≤◌, ◌<◌}
 use mathlib.Core.Path.{◌≡◌, refl, sym, ap, ◌∙◌, subst}
 use mathlib.Core.Bool.{Bool, true, false, not, ◌&&◌, ◌||◌, false≢true}
@@ -11,7 +12,7 @@ use native.Mathlib.Decide.{dec_le}
 use native.Mathlib.Nat.{lt_of_not-le}
 use lib.ListN.{length, get_or, drop}
 use borrow.Author.Tests.{not-false}
-use Rattle.lists.specs.Lists.{if◌then◌else◌, member, all, any, cut, gather, at, maybe}
+use Rattle.lists.specs.Lists.{member, all, any, cut, gather, at, maybe}
 use Rattle.lists.proofs.Numbers.{drop_next}
 use Rattle.lists.proofs.Pieces.{cut_first}
 use Rattle.lists.proofs.Tests.{fails}

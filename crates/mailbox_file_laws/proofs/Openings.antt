@@ -1,4 +1,5 @@
 -- What a file begins with decides how its first piece opens, whatever follows. Assumes nothing.
+use Rattle.std.specs.Prelude.{if◌then◌else◌}
 use Prim.Native.Nat.{ℕ, zero, suc, ◌+◌, ◌≤◌, ◌<◌}
 use mathlib.Core.Path.{◌≡◌, refl, sym, ap, ap₂, ◌∙◌, subst}
 use mathlib.Core.Bool.{Bool, true, false, not, ◌&&◌, ◌||◌, true≢false}
@@ -10,7 +11,7 @@ use lib.Seq.{drop-append_seam}
 use lib.Dec.{eqb}
 use mathlib.Core.Logic.{◌↔◌, inl, inr}
 use borrow.Author.Tests.{eqb-true, not-false}
-use Rattle.lists.specs.Lists.{if◌then◌else◌, text, member, all, through, at, maybe, begins, all_differ}
+use Rattle.lists.specs.Lists.{text, member, all, through, at, maybe, begins, all_differ}
 use Rattle.lists.proofs.Tests.{fails}
 use Rattle.lists.proofs.Texts.{and_left, and_right, or_none_left, or_none_right}
 use Rattle.characters.specs.declared.Characters.{Characters}

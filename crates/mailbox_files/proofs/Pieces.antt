@@ -1,4 +1,5 @@
 -- The pieces of a file, one after another. Assumes nothing.
+use Rattle.std.specs.Prelude.{if◌then◌else◌}
 use Prim.Native.Nat.{ℕ, zero, suc, ◌+◌, ◌≤◌, ◌<◌}
 use mathlib.Core.Path.{◌≡◌, refl, sym, ap, ap₂, ◌∙◌}
 use mathlib.Core.Bool.{Bool, true, false}
@@ -6,7 +7,7 @@ use mathlib.Core.List.{List, [], ◌∷◌, ◌++◌}
 use mathlib.Core.Option.{Option, none, some}
 use native.Mathlib.Omega.{arith}
 use lib.ListN.{length, take, drop, length-drop, take-append-drop}
-use Rattle.lists.specs.Lists.{if◌then◌else◌, maybe, gather}
+use Rattle.lists.specs.Lists.{maybe, gather}
 use Rattle.characters.specs.Characters.{characters_of, body_start, body, after_breaks}
 use Rattle.values.specs.Tokens.{Segment, tokens_at}
 use Rattle.values.specs.Values.{end_place}

@@ -1,4 +1,5 @@
 -- What stops the cutting, against the stages of Judge. Assumes nothing.
+use Rattle.std.specs.Prelude.{if◌then◌else◌}
 use Prim.Native.Nat.{ℕ, ◌≤◌, ◌<◌}
 use mathlib.Core.Path.{◌≡◌, refl, sym, ap, ap₂, subst, ◌∙◌}
 use mathlib.Core.Bool.{Bool, true, false, ◌&&◌}
@@ -8,7 +9,7 @@ use native.Mathlib.Omega.{arith}
 use lib.ListN.{length}
 use lib.Dec.{leb}
 use borrow.Author.Tests.{leb-true}
-use Rattle.lists.specs.Lists.{if◌then◌else◌, is_empty, all, those, gather, maybe}
+use Rattle.lists.specs.Lists.{is_empty, all, those, gather, maybe}
 use Rattle.lists.proofs.Tests.{says_all, gathered}
 use Rattle.lists.proofs.Texts.{and_left, and_right}
 use Rattle.refusals.specs.declared.Fault.{Fault}

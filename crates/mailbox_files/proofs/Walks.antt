@@ -1,4 +1,5 @@
 -- The walk from segment to segment to the first UNZ, step by step. Assumes nothing.
+use Rattle.std.specs.Prelude.{if◌then◌else◌}
 use Prim.Native.Nat.{ℕ, zero, suc, ◌+◌, ◌≤◌, ◌<◌}
 use mathlib.Core.Path.{◌≡◌, refl, sym, ap, ◌∙◌}
 use mathlib.Core.Bool.{Bool, true, false, false≢true}
@@ -6,7 +7,7 @@ use mathlib.Core.List.{List, [], ◌∷◌}
 use mathlib.Core.Option.{Option, none, some}
 use native.Mathlib.Omega.{arith}
 use lib.ListN.{length}
-use Rattle.lists.specs.Lists.{if◌then◌else◌, all, cut, through, beyond}
+use Rattle.lists.specs.Lists.{all, cut, through, beyond}
 use Rattle.lists.proofs.Pieces.{cut_first}
 use Rattle.lists.proofs.Texts.{and_left}
 use Rattle.characters.specs.declared.Characters.{Characters}

@@ -1,6 +1,5 @@
 -- Request 2026-02 in words: what one piece more does to the figures. Assumes nothing.
-use Rattle.std.specs.Prelude.{ℕ, suc, ◌+◌, max, ◌≡◌, List, ◌∷◌, eqb}
-use Rattle.lists.specs.Lists.{if◌then◌else◌}
+use Rattle.std.specs.Prelude.{ℕ, suc, ◌+◌, max, ◌≡◌, List, ◌∷◌, eqb, if◌then◌else◌}
 use Rattle.refusals.specs.declared.Refusal.{Refusal}
 use Rattle.refusals.specs.Refusals.{number}
 use Rattle.answers.specs.declared.Figures.{Figures}

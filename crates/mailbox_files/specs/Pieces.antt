@@ -1,7 +1,7 @@
 -- Request 2026-02: "files .. with interchanges end to end", cut into pieces. Assumes nothing.
-use Rattle.std.specs.Prelude.{ℕ, zero, suc, ◌+◌, Bool, not, ◌&&◌, ◌||◌, List, [], ◌∷◌, length, take, drop}
+use Rattle.std.specs.Prelude.{ℕ, zero, suc, ◌+◌, Bool, not, ◌&&◌, ◌||◌, List, [], ◌∷◌, length, take, drop, if◌then◌else◌}
 use Rattle.std.proofs.Math.Option.{Option, none, some}
-use Rattle.lists.specs.Lists.{if◌then◌else◌, maybe}
+use Rattle.lists.specs.Lists.{maybe}
 use Rattle.characters.specs.Characters.{after_breaks, bad_advice, opens}
 use Rattle.values.specs.Tokens.{Segment}
 use Rattle.values.specs.Values.{end_place, finished}

@@ -1,7 +1,7 @@
 -- Request 2026-02: what stops the cutting before a UNZ. Assumes nothing.
-use Rattle.std.specs.Prelude.{ℕ, List}
+use Rattle.std.specs.Prelude.{ℕ, List, if◌then◌else◌}
 use Rattle.std.proofs.Math.Option.{Option, none}
-use Rattle.lists.specs.Lists.{if◌then◌else◌, is_empty, maybe}
+use Rattle.lists.specs.Lists.{is_empty, maybe}
 use Rattle.refusals.specs.declared.Refusal.{Refusal}
 use Rattle.refusals.specs.Refusals.{answering}
 use Rattle.stages.specs.Stages.{stages_in}

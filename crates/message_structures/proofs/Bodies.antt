@@ -1,11 +1,12 @@
 -- 22 is met exactly where the walk through a message stops; the body, and where its UNT begins. Assumes nothing.
+use Rattle.std.specs.Prelude.{if◌then◌else◌}
 use Prim.Native.Nat.{ℕ}
 use mathlib.Core.Path.{◌≡◌, refl, sym, ap, subst, ◌∙◌}
 use mathlib.Core.Bool.{Bool, true, false}
 use mathlib.Core.Logic.{◌↔◌, ⊎_elim}
 use mathlib.Core.List.{List, [], ◌∷◌, ◌++◌, head-eq_of_cons-eq, tail-eq_of_cons-eq, nil≢cons, Memᴰ}
 use mathlib.Core.Option.{Option, none, some, none-ne-some, some-injective}
-use Rattle.lists.specs.Lists.{if◌then◌else◌, first, at, maybe}
+use Rattle.lists.specs.Lists.{first, at, maybe}
 use Rattle.lists.proofs.Tests.{fails, first_is}
 use Rattle.values.specs.Tokens.{Segment, start}
 use Rattle.segments.specs.declared.Kind.TheVariants.{Unh, Unt}

@@ -1,6 +1,6 @@
 -- Request 2026-08: "The walk covers, in each message, the segments between UNH and UNT". Assumes nothing.
-use Rattle.std.specs.Prelude.{ℕ, Bool, List, [], ◌∷◌, ◌++◌}
-use Rattle.lists.specs.Lists.{if◌then◌else◌, first, at, maybe}
+use Rattle.std.specs.Prelude.{ℕ, Bool, List, [], ◌∷◌, ◌++◌, if◌then◌else◌}
+use Rattle.lists.specs.Lists.{first, at, maybe}
 use Rattle.values.specs.Tokens.{Segment, start}
 use Rattle.segments.specs.declared.Kind.TheVariants.{Unh, Unt}
 use Rattle.segments.specs.Kinds.{is}

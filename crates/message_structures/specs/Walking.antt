@@ -1,7 +1,7 @@
 -- Request 2026-08: the walk. It goes over anything that has a tag, and says before which of them it stopped. Assumes nothing.
-use Rattle.std.specs.Prelude.{ℕ, zero, suc, Bool, false, not, ◌&&◌, List, [], ◌∷◌, drop}
+use Rattle.std.specs.Prelude.{ℕ, zero, suc, Bool, false, not, ◌&&◌, List, [], ◌∷◌, drop, if◌then◌else◌}
 use Rattle.std.proofs.Math.Option.{Option, none, some}
-use Rattle.lists.specs.Lists.{if◌then◌else◌, same}
+use Rattle.lists.specs.Lists.{same}
 use Rattle.message_tables.specs.Structure.{Structure, done, entry}
 
 -- what is left where the walk stopped, or where it went through all entries

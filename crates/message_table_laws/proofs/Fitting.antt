@@ -1,4 +1,5 @@
 -- What `fits` asks of an entry, part by part. Assumes nothing.
+use Rattle.std.specs.Prelude.{if◌then◌else◌}
 use Prim.Native.Nat.{ℕ, zero, suc, ◌≤◌, ◌<◌}
 use mathlib.Core.Path.{◌≡◌, refl, sym, ap, subst, ◌∙◌}
 use mathlib.Core.Bool.{Bool, true, false, not, ◌&&◌, ◌||◌, false≢true}
@@ -7,7 +8,7 @@ use native.Mathlib.Omega.{arith}
 use lib.ListN.{length}
 use lib.Dec.{eqb, leb, ltb}
 use borrow.Author.Tests.{leb-true, ltb-true, eqb-true}
-use Rattle.lists.specs.Lists.{if◌then◌else◌, text, member, all, at, maybe}
+use Rattle.lists.specs.Lists.{text, member, all, at, maybe}
 use Rattle.lists.proofs.Texts.{and_left, and_right}
 use Rattle.lists.proofs.Tests.{says_all, says_le}
 use Rattle.characters.specs.Characters.{between}

@@ -1,4 +1,5 @@
 -- The rooms of the groups that hold an entry, from those that hold the one before it. Assumes nothing.
+use Rattle.std.specs.Prelude.{if◌then◌else◌}
 use Prim.Native.Nat.{ℕ, zero, suc, ◌+◌, ◌-◌, ◌≤◌, ◌<◌}
 use mathlib.Core.Path.{◌≡◌, refl, sym, ap, ap₂, subst, ◌∙◌}
 use mathlib.Core.Bool.{Bool, true, false, ◌&&◌}
@@ -9,7 +10,6 @@ use native.Mathlib.Omega.{arith}
 use lib.ListN.{length}
 use lib.Dec.{leb}
 use borrow.Author.Tests.{leb-true, leb-false, le-leb, lt-leb}
-use Rattle.lists.specs.Lists.{if◌then◌else◌}
 use Rattle.refusals.specs.Refusals.{place_if}
 use Rattle.message_tables.specs.Entries.{Entry, is_group}
 use Rattle.message_tables.specs.Soundness.{rooms_from, rooms}

@@ -1,4 +1,5 @@
 -- The scan finds the lowest entry at fault. Assumes nothing.
+use Rattle.std.specs.Prelude.{if◌then◌else◌}
 use Prim.Native.Nat.{ℕ, zero, suc, ◌+◌, ◌%◌, ◌≤◌, ◌<◌}
 use mathlib.Core.Path.{◌≡◌, refl, sym, ap, subst, ◌∙◌}
 use mathlib.Core.Bool.{Bool, true, false, not, ◌&&◌, false≢true}
@@ -10,7 +11,7 @@ use native.Mathlib.Omega.{arith}
 use lib.ListN.{length, drop}
 use lib.Dec.{eqb, ltb}
 use borrow.Author.Tests.{ltb-true, ltb-false, eqb-true, eqb-false}
-use Rattle.lists.specs.Lists.{if◌then◌else◌, at, is_empty, maybe}
+use Rattle.lists.specs.Lists.{at, is_empty, maybe}
 use Rattle.refusals.specs.Refusals.{place_if}
 use Rattle.message_tables.specs.Entries.{Entry, entries_in, whole_entries, entries_of, is_group}
 use Rattle.message_tables.specs.Soundness.{most_entries, rooms, rooms_from, group_fits, triggers, fits, unfit, table_faults, is_sound}
@@ -139,7 +140,7 @@ module _ (table : List ℕ) where
   size_found h = step crowded refl (eqb (length table % 8) 0) refl
     where
       step : (c : Bool) → crowded ≡ c → (b : Bool) → eqb (length table % 8) 0 ≡ b
-          → Found (if c then some most_entries else if b then none else some (whole_entries table))
+          → Found (if c then some most_entries else (if b then none else some (whole_entries table)))
       step true c b d = (
         Memᴰ.append_right own (Memᴰ.append_right (place_if broken (whole_entries table)) (placing crowded most_entries c)),
         λ q m.

@@ -1,4 +1,5 @@
 -- The tags of a sound table: those in its tree, and which tags never stand in it. Assumes nothing.
+use Rattle.std.specs.Prelude.{if◌then◌else◌}
 use Prim.Native.Nat.{ℕ, suc}
 use mathlib.Core.Path.{◌≡◌, refl, sym, subst, ◌∙◌}
 use mathlib.Core.Bool.{Bool, true, false, false≢true}
@@ -6,7 +7,6 @@ use mathlib.Core.Logic.{⊎_elim}
 use mathlib.Core.List.Memᴰ
 use mathlib.Core.List.{List, [], ◌∷◌, Memᴰ}
 use lib.ListN.{length}
-use Rattle.lists.specs.Lists.{if◌then◌else◌}
 use Rattle.message_tables.specs.Entries.{Entry, entries_of, is_group}
 use Rattle.message_tables.specs.Soundness.{most_depth, is_table_tag, fits, is_sound}
 use Rattle.message_tables.specs.Structure.{structure_of, tags_in, segment_tags}

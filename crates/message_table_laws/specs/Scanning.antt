@@ -1,8 +1,8 @@
 -- The lowest entry at fault, found from left to right: what is kept is whether the entry before is a group's own, and the rooms of the groups
 -- that hold the present one, the nearest first. Assumes nothing.
-use Rattle.std.specs.Prelude.{ℕ, zero, suc, ◌-◌, ◌%◌, ◌≤◌, Bool, false, not, ◌&&◌, ◌||◌, List, [], ◌∷◌, ◌++◌, length, eqb, leb, ltb}
+use Rattle.std.specs.Prelude.{ℕ, zero, suc, ◌-◌, ◌%◌, ◌≤◌, Bool, false, not, ◌&&◌, ◌||◌, List, [], ◌∷◌, ◌++◌, length, eqb, leb, ltb, if◌then◌else◌}
 use Rattle.std.proofs.Math.Option.{Option, none, some}
-use Rattle.lists.specs.Lists.{if◌then◌else◌, text, member, all, maybe}
+use Rattle.lists.specs.Lists.{text, member, all, maybe}
 use Rattle.characters.specs.Characters.{between}
 use Rattle.refusals.specs.Refusals.{place_if}
 use Rattle.message_tables.specs.Entries.{Entry, whole_entries, entries_of, is_group}
@@ -49,7 +49,7 @@ scanned (suc most) n after held (e ∷ es) =
 unfoldable pub size_fault : List ℕ → Option ℕ
 size_fault table =
     if ltb most_entries (whole_entries table) then some most_entries
-    else if eqb (length table % 8) 0 then none else some (whole_entries table)
+    else (if eqb (length table % 8) 0 then none else some (whole_entries table))
 
 unfoldable pub first_fault : List ℕ → Option ℕ
 first_fault table = maybe (size_fault table) some (scanned most_entries 0 false [] (entries_of table))

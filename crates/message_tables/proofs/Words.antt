@@ -1,4 +1,5 @@
 -- What the definitions say in the request's words and numbers. Assumes nothing.
+use Rattle.std.specs.Prelude.{if◌then◌else◌}
 use Prim.Native.Nat.{ℕ, zero, suc, ◌+◌, ◌*◌, ◌-◌, ◌/◌, ◌%◌, ◌≤◌, ◌<◌}
 use mathlib.Core.Path.{◌≡◌, refl, sym, ap, subst, ◌∙◌}
 use mathlib.Core.Bool.{Bool, true, false, not, ◌&&◌, ◌||◌, false≢true}
@@ -9,7 +10,7 @@ use native.Mathlib.Omega.{arith}
 use lib.ListN.{length, take, drop}
 use lib.Dec.{eqb, leb, ltb}
 use borrow.Author.Tests.{leb-true, leb-false, le-leb}
-use Rattle.lists.specs.Lists.{if◌then◌else◌, text, same, begins, member, all, at, is_empty, maybe}
+use Rattle.lists.specs.Lists.{text, same, begins, member, all, at, is_empty, maybe}
 use Rattle.lists.proofs.Tests.{Says, says_eq, says_le, says_lt, says_both, says_either, says_as, says_not, says_same, says_member, says_begins, says_all, fails, decides}
 use Rattle.characters.specs.Characters.{between}
 use Rattle.numbers.specs.Numbers.{read_on, number_at}

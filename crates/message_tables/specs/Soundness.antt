@@ -1,7 +1,7 @@
 -- Request 2026-08: when a table is sound, and which of its entries are at fault. Entries are numbered from 0. What stands before an entry is
 -- a list, the nearest first. Assumes nothing.
-use Rattle.std.specs.Prelude.{ℕ, suc, ◌-◌, ◌%◌, Bool, true, not, ◌&&◌, ◌||◌, List, [], ◌∷◌, ◌++◌, length, eqb, leb, ltb}
-use Rattle.lists.specs.Lists.{if◌then◌else◌, text, same, begins, member, all, at, is_empty, maybe}
+use Rattle.std.specs.Prelude.{ℕ, suc, ◌-◌, ◌%◌, Bool, true, not, ◌&&◌, ◌||◌, List, [], ◌∷◌, ◌++◌, length, eqb, leb, ltb, if◌then◌else◌}
+use Rattle.lists.specs.Lists.{text, same, begins, member, all, at, is_empty, maybe}
 use Rattle.characters.specs.Characters.{between}
 use Rattle.refusals.specs.Refusals.{place_if}
 use Rattle.segments.specs.Tags.{is_tag}

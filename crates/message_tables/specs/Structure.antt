@@ -1,6 +1,6 @@
 -- Request 2026-08: a table as a tree, for the walk and for the language. Assumes nothing.
-use Rattle.std.specs.Prelude.{ℕ, zero, suc, ◌-◌, Bool, List, [], ◌∷◌, ◌++◌, take, drop}
-use Rattle.lists.specs.Lists.{if◌then◌else◌, at, maybe}
+use Rattle.std.specs.Prelude.{ℕ, zero, suc, ◌-◌, Bool, List, [], ◌∷◌, ◌++◌, take, drop, if◌then◌else◌}
+use Rattle.lists.specs.Lists.{at, maybe}
 use Rattle.message_tables.specs.Entries.{Entry, entries_of, is_group, is_mandatory}
 use Rattle.message_tables.specs.Soundness.{most_depth}
 

@@ -1,5 +1,6 @@
 -- Where a value stands, at any depth: what trimming and reading do to what stands at a position, which tokens reach it, and that no two
 -- pieces stand at one. Assumes nothing.
+use Rattle.std.specs.Prelude.{if◌then◌else◌}
 use Prim.Native.Nat.{ℕ, zero, suc, ◌+◌, ◌<◌}
 use mathlib.Core.Path.{◌≡◌, refl, sym, ap, subst, ◌∙◌}
 use mathlib.Core.Bool.{Bool, true, false, not, true≢false}
@@ -9,7 +10,7 @@ use mathlib.Core.Option
 use mathlib.Core.Option.{Option, none, some, none-ne-some, some-injective}
 use native.Mathlib.Omega.{arith}
 use borrow.Author.Tests.{not-true}
-use Rattle.lists.specs.Lists.{if◌then◌else◌, is_empty, all, last_or, through, at, cut, drop_end, trim_end}
+use Rattle.lists.specs.Lists.{is_empty, all, last_or, through, at, cut, drop_end, trim_end}
 use Rattle.lists.proofs.Texts.{and_left, and_right}
 use Rattle.lists.proofs.Pieces.{None, through_through}
 use Rattle.nesting.specs.Nesting.{Nest, nested, idle, trim}

@@ -1,11 +1,12 @@
 -- Where a piece of a cut list begins: the pieces before it stand in front of it, and it is what follows up to the first that ends it;
 -- also for pieces of pieces. Assumes nothing.
+use Rattle.std.specs.Prelude.{if◌then◌else◌}
 use Prim.Native.Nat.{ℕ, zero, suc}
 use mathlib.Core.Path.{◌≡◌, refl, sym, ap, ap₂, ◌∙◌}
 use mathlib.Core.Bool.{Bool, true, false, not, true≢false}
 use mathlib.Core.List.{List, [], ◌∷◌, ◌++◌, nil≢cons, head-eq_of_cons-eq, tail-eq_of_cons-eq}
 use mathlib.Core.Option.{some, none-ne-some, some-injective}
-use Rattle.lists.specs.Lists.{if◌then◌else◌, is_empty, all, through, at, onto, cut}
+use Rattle.lists.specs.Lists.{is_empty, all, through, at, onto, cut}
 use Rattle.lists.proofs.Texts.{and_both}
 use Rattle.lists.proofs.Pieces.{None, cut_first}
 

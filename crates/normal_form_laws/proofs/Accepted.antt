@@ -1,4 +1,5 @@
 -- What it is to be accepted: each of the refusals 1 to 13 is met nowhere. Assumes nothing.
+use Rattle.std.specs.Prelude.{if◌then◌else◌}
 use Prim.Native.Nat.{ℕ}
 use mathlib.Core.Path.{◌≡◌, refl, ap}
 use mathlib.Core.Bool.{Bool, true, false, not, ◌&&◌, ◌||◌}
@@ -7,7 +8,7 @@ use mathlib.Core.Option.{none}
 use mathlib.Core.Logic.{◌↔◌}
 use lib.ListN.{length, drop}
 use lib.Dec.{ltb}
-use Rattle.lists.specs.Lists.{if◌then◌else◌, begins, text, all, any, all_differ, member}
+use Rattle.lists.specs.Lists.{begins, text, all, any, all_differ, member}
 use Rattle.lists.proofs.Texts.{or_none_right}
 use borrow.Author.Tests.{not-true, not-false}
 use Rattle.characters.specs.declared.Characters.{Characters}
@@ -116,7 +117,7 @@ module _ (s : List ℕ) where
   usable_accepted e = step (advised s) (begins_version4 s) (begins (text "UNB+") s) ((place_none (bad_advice s) 0).0 e)
     where
       step : (a v b : Bool)
-          → let c : Characters = if a then six_bytes (drop 3 s) else if v then star_characters else if b then plus_characters else control_characters in
+          → let c : Characters = if a then six_bytes (drop 3 s) else (if v then star_characters else (if b then plus_characters else control_characters)) in
           (a && (ltb (length s) 9 || not (usable c))) ≡ false → usable c ≡ true
       step true v b h =
           let test : Bool = usable (six_bytes (drop 3 s)) in

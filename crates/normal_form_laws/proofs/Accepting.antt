@@ -1,12 +1,13 @@
 -- The normal form of an accepted input is accepted: its contents are the input's, and the stages from 6 on ask of contents, the
 -- tag rule's "no component separator may follow" being asked of what is left of the tag's element. Assumes nothing.
+use Rattle.std.specs.Prelude.{if◌then◌else◌}
 use Prim.Native.Nat.{ℕ}
 use mathlib.Core.Path.{◌≡◌, refl, sym, ap, subst, ◌∙◌}
 use mathlib.Core.Bool.{Bool, true, false, not, ◌&&◌, false≢true}
 use mathlib.Core.List.{List, [], ◌∷◌, map, reverse, append-eq-nil_iff, cons≢nil}
 use mathlib.Core.Option.{none}
 use lib.ListN.{length}
-use Rattle.lists.specs.Lists.{if◌then◌else◌, is_empty, is_single, text, same, begins, member, all, at, maybe, gather, each_led_by, joined}
+use Rattle.lists.specs.Lists.{is_empty, is_single, text, same, begins, member, all, at, maybe, gather, each_led_by, joined}
 use Rattle.lists.proofs.Texts.{and_left, and_right, same_eq, all_map}
 use Rattle.characters.specs.declared.Characters.{Characters}
 use Rattle.characters.specs.Characters.{upper, digit, between, has_release, has_repetition, service_characters, is_service, six_bytes, characters_of, body_start, bad_advice, opens}
@@ -66,8 +67,8 @@ unb_tag tag h =
     (same tag (text "UNE")) (same tag (text "UNZ")) h)
   where
     step : (b g h s t e z : Bool)
-        → is Unb (if b then Unb else if g then Ung else if h then Unh else if s then Uns else if t then Unt
-        else if e then Une else if z then Unz else User)
+        → is Unb (if b then Unb else (if g then Ung else (if h then Unh else (if s then Uns else (if t then Unt
+        else (if e then Une else (if z then Unz else User)))))))
         ≡ true
         → b ≡ true
     step true g h s t e z k = refl

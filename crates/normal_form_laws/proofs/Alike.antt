@@ -1,12 +1,13 @@
 -- Two rows of segments with equal contents: what a test that goes by contents does not refuse in one row, it does not refuse in
 -- the other. Assumes nothing.
+use Rattle.std.specs.Prelude.{if◌then◌else◌}
 use Prim.Native.Nat.{ℕ}
 use mathlib.Core.Path.{◌≡◌, refl, sym, ap, ap₂, fun_ext, ◌∙◌}
 use mathlib.Core.Bool.{Bool, true, false, not, ◌&&◌, ◌||◌}
 use mathlib.Core.List.{List, [], ◌∷◌, map, map-map, append-eq-nil_iff, nil≢cons, cons≢nil, head-eq_of_cons-eq, tail-eq_of_cons-eq}
 use mathlib.Core.Option.{Option, none, some}
 use lib.Dec.{eqb}
-use Rattle.lists.specs.Lists.{if◌then◌else◌, any, those, through, first, at, maybe}
+use Rattle.lists.specs.Lists.{any, those, through, first, at, maybe}
 use Rattle.refusals.specs.Refusals.{place_if}
 use Rattle.refusals.proofs.Stages.{place_none}
 use Rattle.values.specs.Tokens.{Segment, start}

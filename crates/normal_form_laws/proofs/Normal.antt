@@ -1,4 +1,5 @@
 -- An accepted input and its normal form: how they are read, the same contents and mark, and its own normal form. Assumes nothing.
+use Rattle.std.specs.Prelude.{if◌then◌else◌}
 use Prim.Native.Nat.{ℕ, ◌-◌}
 use mathlib.Core.Path.{◌≡◌, refl, sym, ap, ap₂, ◌∙◌}
 use mathlib.Core.Bool.{Bool, true, false, ◌&&◌, ◌||◌, true≢false, or-false}
@@ -7,7 +8,7 @@ use mathlib.Core.Option.{none}
 use mathlib.Core.Logic.{◌⊎◌, inl, inr}
 use lib.Dec.{eqb}
 use borrow.Author.Tests.{eqb-true}
-use Rattle.lists.specs.Lists.{if◌then◌else◌, text, member, all, all_differ}
+use Rattle.lists.specs.Lists.{text, member, all, all_differ}
 use Rattle.lists.proofs.Texts.{and_left, or_cases}
 use Rattle.characters.specs.declared.Characters.{Characters}
 use Rattle.characters.specs.Characters.{between, upper, lower, digit, separates, has_release, has_repetition, service_characters, usable, six_bytes, characters_of, body_start, body, opens}

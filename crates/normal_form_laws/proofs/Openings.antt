@@ -1,4 +1,5 @@
 -- A text that begins with an advice: its service characters, its body, and what a spelled list is read as. Assumes nothing.
+use Rattle.std.specs.Prelude.{if◌then◌else◌}
 use Prim.Native.Nat.{ℕ, suc, ◌+◌}
 use mathlib.Core.Path.{◌≡◌, refl, sym, ap, ap₂, ◌∙◌}
 use mathlib.Core.Bool.{Bool, true, false, not, ◌||◌}
@@ -7,7 +8,7 @@ use native.Mathlib.Omega.{arith}
 use lib.ListN.{length, drop}
 use lib.Seq.{drop-drop, drop-append_seam}
 use borrow.Author.Tests.{le-ltb}
-use Rattle.lists.specs.Lists.{if◌then◌else◌, text, begins, member, all, at, maybe}
+use Rattle.lists.specs.Lists.{text, begins, member, all, at, maybe}
 use Rattle.lists.proofs.Tests.{says_begins}
 use Rattle.lists.proofs.Texts.{and_left, and_right, if_true, if_false}
 use Rattle.characters.specs.declared.Characters.{Characters}

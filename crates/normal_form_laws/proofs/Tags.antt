@@ -1,5 +1,6 @@
 -- The tag rule as a rule of a segment's values: the first value is the tag, no repetition separator follows in the tag element where that
 -- is one repeat, and no component separator follows the tag where that is one value. Assumes nothing.
+use Rattle.std.specs.Prelude.{if◌then◌else◌}
 use Prim.Native.Nat.{ℕ, ◌≤◌}
 use mathlib.Core.Path.{◌≡◌, refl, sym, ap, ◌∙◌}
 use mathlib.Core.Bool.{Bool, true, false, not, ◌&&◌, ◌||◌, false≢true, true≢false}
@@ -7,7 +8,7 @@ use mathlib.Core.List.{List, [], ◌∷◌, map}
 use mathlib.Core.Logic.{◌↔◌}
 use native.Mathlib.Omega.{arith}
 use borrow.Author.Tests.{not-false}
-use Rattle.lists.specs.Lists.{if◌then◌else◌, is_empty, is_single, all, text, begins, through, onto, cut, last_or, drop_end, trim_end, gather, beyond}
+use Rattle.lists.specs.Lists.{is_empty, is_single, all, text, begins, through, onto, cut, last_or, drop_end, trim_end, gather, beyond}
 use Rattle.lists.proofs.Texts.{and_left, and_right, and_both}
 use Rattle.lists.proofs.Pieces.{cut_first}
 use Rattle.refusals.specs.Refusals.{place_if}

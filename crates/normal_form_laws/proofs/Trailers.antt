@@ -1,8 +1,9 @@
 -- In an accepted input UNZ stands last and nowhere else. Assumes nothing.
+use Rattle.std.specs.Prelude.{if◌then◌else◌}
 use mathlib.Core.Path.{◌≡◌, refl, sym, ◌∙◌}
 use mathlib.Core.Bool.{Bool, true, false, not, ◌&&◌, ◌||◌, false≢true, true≢false, or-false}
 use mathlib.Core.List.{List, [], ◌∷◌, ◌++◌, map, reverse, reverse_aux, append-eq-nil_iff}
-use Rattle.lists.specs.Lists.{if◌then◌else◌, any}
+use Rattle.lists.specs.Lists.{any}
 use Rattle.lists.proofs.Texts.{and_left}
 use Rattle.refusals.specs.Refusals.{place_if}
 use Rattle.refusals.proofs.Stages.{place_none_not}
@@ -23,7 +24,7 @@ open_any nearer farther [] h = h
 open_any nearer farther (kind ∷ past) h = step (is nearer kind) (is farther kind) (open_any nearer farther past) h
   where
     step : (a b : Bool) → (is_open nearer farther past ≡ true → any (is nearer) past ≡ true)
-        → (if a then true else if b then false else is_open nearer farther past) ≡ true → (a || any (is nearer) past) ≡ true
+        → (if a then true else (if b then false else is_open nearer farther past)) ≡ true → (a || any (is nearer) past) ≡ true
     step true b ih h = refl
     step false true ih h = absurd (false≢true h)
     step false false ih h = ih h

@@ -1,8 +1,8 @@
 -- Paper 01, "Normal form": what is promised of it, and how a file of normal forms end to end is cut apart. Assumes nothing.
-use Rattle.std.specs.Prelude.{ℕ, zero, suc, ◌+◌, ◌*◌, ◌≤◌, ◌≡◌, true, length, take, drop}
+use Rattle.std.specs.Prelude.{ℕ, zero, suc, ◌+◌, ◌*◌, ◌≤◌, ◌≡◌, true, length, take, drop, if◌then◌else◌}
 use mathlib.Core.List.{List, [], ◌∷◌, Memᴰ}
 use Rattle.std.proofs.Math.Option.{none}
-use Rattle.lists.specs.Lists.{if◌then◌else◌, gather, at, maybe}
+use Rattle.lists.specs.Lists.{gather, at, maybe}
 use Rattle.characters.specs.declared.Characters.{Characters}
 use Rattle.characters.specs.Characters.{has_repetition, characters_of, body_start, body}
 use Rattle.values.specs.Tokens.{Segment, start}

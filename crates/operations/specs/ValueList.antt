@@ -1,7 +1,7 @@
 -- Paper 01, "Operations": a value list, "a byte buffer of values" and "a table of three 32-bit numbers a value"; request 2026-10: kind 3.
 -- Assumes nothing.
-use Rattle.std.specs.Prelude.{ℕ, ◌+◌, Bool, List, [], ◌∷◌, ◌++◌, map, length, take, drop, eqb, leb}
-use Rattle.lists.specs.Lists.{if◌then◌else◌, cut, gather, is_empty}
+use Rattle.std.specs.Prelude.{ℕ, ◌+◌, Bool, List, [], ◌∷◌, ◌++◌, map, length, take, drop, eqb, leb, if◌then◌else◌}
+use Rattle.lists.specs.Lists.{cut, gather, is_empty}
 use Rattle.values.specs.Trimming.{trim_segment}
 use Rattle.values.specs.Spelling.{Bytes, SegmentList}
 
@@ -12,7 +12,7 @@ pub record Item : Type 0 where
 
 -- A kind says what a value begins, a separator's rank what it ends. The rank of the separator that stands before a value of this kind:
 unfoldable pub rank_of : ℕ → ℕ
-rank_of kind = if leb kind 0 then 0 else if leb kind 1 then 1 else if eqb kind 3 then 2 else 3
+rank_of kind = if leb kind 0 then 0 else (if leb kind 1 then 1 else (if eqb kind 3 then 2 else 3))
 
 -- ---- from segments to a value list
 

@@ -1,5 +1,6 @@
 -- An element of ordinary bytes, by the places between which it stands: its value, that it is alone, and where the next element begins.
 -- Assumes nothing.
+use Rattle.std.specs.Prelude.{if◌then◌else◌}
 use Prim.Native.Nat.{ℕ, zero, suc, ◌+◌, ◌-◌, ◌≤◌, ◌<◌}
 use mathlib.Core.Path.{◌≡◌, refl, sym, ap, ap₂, subst, ◌∙◌}
 use mathlib.Core.Bool.{Bool, true, false, not, ◌&&◌, ◌||◌, or-true, false≢true}
@@ -10,7 +11,7 @@ use lib.ListN.{length, get_or, take, drop}
 use lib.Seq.{take_all}
 use lib.Dec.{eqb, leb}
 use borrow.Author.Tests.{le-leb, not-true, eq-eqb}
-use Rattle.lists.specs.Lists.{if◌then◌else◌, same, all}
+use Rattle.lists.specs.Lists.{same, all}
 use Rattle.lists.proofs.Numbers.{drop_next}
 use Rattle.lists.proofs.Texts.{and_left, and_right, and_both, same_refl, if_true}
 use Rattle.characters.specs.declared.Characters.{Characters}
@@ -61,8 +62,8 @@ module _ (c : Characters) (s : List ℕ) where
       (role_is (eqb (get_or s at 0) c.terminator) (eqb (get_or s at 0) c.element) _ e)
     where
       role_is : (t u : Bool) (o : Role) → (t || u) ≡ true
-          → ((if t then role.Separator 0 else if u then role.Separator 1 else o) ≡ role.Separator 0)
-          ⊎ ((if t then role.Separator 0 else if u then role.Separator 1 else o) ≡ role.Separator 1)
+          → ((if t then role.Separator 0 else (if u then role.Separator 1 else o)) ≡ role.Separator 0)
+          ⊎ ((if t then role.Separator 0 else (if u then role.Separator 1 else o)) ≡ role.Separator 1)
       role_is true u o k = inl refl
       role_is false true o k = inr refl
       role_is false false o k = absurd (false≢true k)
@@ -221,10 +222,10 @@ module _ (c : Characters) (s : List ℕ) where
       where
         by_test : (t : Bool)
             → (if t then outcome.Passed
-            else if spells_reference (field_of (tokens_at c s r))
+            else (if spells_reference (field_of (tokens_at c s r))
             then (if eqb p.count 0 then outcome.Passed
             else trailer_by at (tokens_at c s r) (element_from p.count (tokens_at c s at)) (tokens_at c s header) count)
-            else failed_at BadControl at)
+            else failed_at BadControl at))
             ≡ outcome.Passed
         by_test true = refl
         by_test false = if_true (spells_reference (field_of (tokens_at c s r))) _ _ is ∙ if_true (eqb p.count 0) _ _ (eq-eqb p.count 0 e)
@@ -236,10 +237,10 @@ module _ (c : Characters) (s : List ℕ) where
       subst (λ (k : ℕ). ElementAt c s at k r) (sym d) there,
       ap₂ (λ (k m : ℕ).
           if eqb m 0 then outcome.Passed
-          else if spells_reference (field_of (tokens_at c s r))
+          else (if spells_reference (field_of (tokens_at c s r))
           then (if eqb k 0 then outcome.Passed
           else trailer_by at (tokens_at c s r) (element_from k (tokens_at c s at)) (tokens_at c s header) count)
-          else failed_at BadControl at) e d
+          else failed_at BadControl at)) e d
           ∙ if_true (spells_reference (field_of (tokens_at c s r))) _ _ is
           ∙ passed,
     )

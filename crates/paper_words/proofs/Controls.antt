@@ -1,5 +1,6 @@
 -- 10 to 12: control elements by kind of segment, and what a trailer says of what it closes. What passed is a list of segments, the nearest first.
 -- Assumes nothing.
+use Rattle.std.specs.Prelude.{if◌then◌else◌}
 use Prim.Native.Nat.{ℕ, ◌+◌, ◌≤◌}
 use mathlib.Core.Path.{◌≡◌, refl, sym, ap, subst, ◌∙◌}
 use mathlib.Core.Bool.{Bool, true, false, not, true≢false}
@@ -11,7 +12,7 @@ use native.Mathlib.Omega.{arith}
 use lib.Dec.{eqb, lit≤}
 use borrow.Author.Tests.{not-false}
 use lib.ListN.{length}
-use Rattle.lists.specs.Lists.{if◌then◌else◌, same, first, at, maybe}
+use Rattle.lists.specs.Lists.{same, first, at, maybe}
 use Rattle.lists.proofs.Tests.{Says, says_eq, says_not, says_same, fails, decides}
 use Rattle.refusals.specs.declared.Fault.TheVariants.{BadControl, ReferenceDiffers, CountWrong}
 use Rattle.refusals.specs.Refusals.{met, lowest}

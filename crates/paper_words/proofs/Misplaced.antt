@@ -1,4 +1,5 @@
 -- 9: the first segment with which no interchange begins, or the end. What passed is a list of segments, the nearest first. Assumes nothing.
+use Rattle.std.specs.Prelude.{if◌then◌else◌}
 use Prim.Native.Nat.{ℕ, ◌<◌}
 use mathlib.Core.Path.{◌≡◌, refl, sym, ap, subst, ◌∙◌}
 use mathlib.Core.Bool.{Bool, true, false, not, ◌&&◌, true≢false}
@@ -8,7 +9,7 @@ use mathlib.Core.List.{List, [], ◌∷◌, ◌++◌, map, reverse, reverse_aux,
 use mathlib.Core.Option.{Option, none}
 use native.Mathlib.Omega.{arith}
 use lib.ListN.{length}
-use Rattle.lists.specs.Lists.{if◌then◌else◌, all, those}
+use Rattle.lists.specs.Lists.{all, those}
 use Rattle.refusals.specs.declared.Fault.TheVariants.{MisplacedSegment}
 use Rattle.refusals.specs.declared.Refusal.{Refusal}
 use Rattle.refusals.specs.Refusals.{met, place_if, lowest, or_else, answering}

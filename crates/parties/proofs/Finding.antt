@@ -1,4 +1,5 @@
 -- The first value of an element, found in one pass over UNB, is the part that Locate's companion hands back. Assumes nothing.
+use Rattle.std.specs.Prelude.{if◌then◌else◌}
 use Prim.Native.Nat.{ℕ, zero, suc, ◌+◌, ◌-◌, ◌≤◌, ◌<◌}
 use mathlib.Core.Path.{◌≡◌, refl, sym, ap, subst, ◌∙◌}
 use mathlib.Core.Bool.{Bool, true, false, not, ◌&&◌, ◌||◌}
@@ -9,7 +10,7 @@ use native.Mathlib.Decide.{dec_le}
 use native.Mathlib.Nat.{lt_of_not-le}
 use lib.ListN.{length, get_or}
 use lib.Dec.{eqb}
-use Rattle.lists.specs.Lists.{if◌then◌else◌, member, is_empty, through, gather, maybe}
+use Rattle.lists.specs.Lists.{member, is_empty, through, gather, maybe}
 use Rattle.lists.proofs.Texts.{or_none_left}
 use Rattle.characters.specs.Characters.{role, service_characters, is_service, has_repetition, has_release, body_start}
 use Rattle.characters.specs.declared.Role.TheVariants.{Separator}
@@ -66,8 +67,8 @@ module _ {A : Type 0} (t u : A → Bool) where
     where
       step : (a b : Bool) → piece_from t u (n + m) xs ≡ piece_from t u n (piece_from t u m xs)
           → piece_from t u (suc (n + m)) xs ≡ piece_from t u n (piece_from t u (suc m) xs)
-          → (if a then [] else if b then piece_from t u (n + m) xs else piece_from t u (suc (n + m)) xs)
-          ≡ piece_from t u n (if a then [] else if b then piece_from t u m xs else piece_from t u (suc m) xs)
+          → (if a then [] else (if b then piece_from t u (n + m) xs else piece_from t u (suc (n + m)) xs))
+          ≡ piece_from t u n (if a then [] else (if b then piece_from t u m xs else piece_from t u (suc m) xs))
       step true b one more = sym (from_nothing n)
       step false true one more = one
       step false false one more = more

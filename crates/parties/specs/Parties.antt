@@ -1,7 +1,7 @@
 -- The parties of an interchange, by what Locate's companion hands back. Assumes nothing.
-use Rattle.std.specs.Prelude.{ℕ, List}
+use Rattle.std.specs.Prelude.{ℕ, List, if◌then◌else◌}
 use Rattle.std.proofs.Math.Option.{Option, none, some}
-use Rattle.lists.specs.Lists.{if◌then◌else◌, through, maybe}
+use Rattle.lists.specs.Lists.{through, maybe}
 use Rattle.refusals.specs.Refusals.{outcome}
 use Rattle.values.specs.Tokens.{Token, ends}
 use Rattle.values.specs.Values.{Value, value_of}

@@ -1,4 +1,5 @@
 -- How a piece ends: the walk to its end, by what the scanner says of the segment that begins at a place. Assumes nothing.
+use Rattle.std.specs.Prelude.{if◌then◌else◌}
 use Prim.Native.Nat.{ℕ, ◌+◌, ◌≤◌, ◌<◌}
 use mathlib.Core.Path.{◌≡◌, refl, sym, ap, ap₂, ◌∙◌, subst}
 use mathlib.Core.Bool.{Bool, true, false, not, ◌&&◌, ◌||◌, and-false}
@@ -9,7 +10,7 @@ use native.Mathlib.Decide.{dec_le}
 use native.Mathlib.Nat.{lt_of_not-le}
 use lib.ListN.{length}
 use lib.Dec.{leb}
-use Rattle.lists.specs.Lists.{if◌then◌else◌, begins, is_empty, all, those, through, beyond, last_or, maybe}
+use Rattle.lists.specs.Lists.{begins, is_empty, all, those, through, beyond, last_or, maybe}
 use Rattle.lists.proofs.Texts.{if_false, and_left, and_both}
 use Rattle.values.proofs.Steps.{at_end}
 use Rattle.characters.specs.declared.Characters.{Characters}

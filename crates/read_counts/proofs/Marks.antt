@@ -1,4 +1,5 @@
 -- How a text of marks is read: a byte of a value makes the open value longer, a run of marks writes out as many values. Assumes nothing.
+use Rattle.std.specs.Prelude.{if◌then◌else◌}
 use Prim.Native.Nat.{ℕ, zero, suc, ◌+◌, ◌<◌}
 use native.Mathlib.Omega.{arith}
 use mathlib.Core.Path.{◌≡◌, refl, sym, ap, ◌∙◌}
@@ -7,7 +8,7 @@ use mathlib.Core.List.{List, [], ◌∷◌, ◌++◌, append_assoc}
 use lib.Dec.{leb, eqb}
 use lib.ListN.{length, replicate, length-append}
 use borrow.Author.Tests.{eqb-false, lt-leb}
-use Rattle.lists.specs.Lists.{if◌then◌else◌, member}
+use Rattle.lists.specs.Lists.{member}
 use Rattle.lists.proofs.Texts.{or_none_left, or_none_right, if_true, if_false}
 use Rattle.characters.specs.Characters.{is_service, service_characters, has_repetition, has_release}
 use Rattle.values.specs.Spelling.{spell_byte}
@@ -85,11 +86,11 @@ table_read_lem start l false (x ∷ xs) = step (leb x 3) (eqb x 4) (table_read_l
         → table_from start (items_from (item_grow x l) false xs)
         ≡ numbers_from (record { kind = l.kind; start = start; size = length l.value + 1 }) false xs
         → table_from start
-        (if t then l ∷ items_from (item_next x l) false xs else if u then items_from l true xs else items_from (item_grow x l) false xs)
+        (if t then l ∷ items_from (item_next x l) false xs else (if u then items_from l true xs else items_from (item_grow x l) false xs))
         ≡ (if t
         then l.kind ∷ start ∷ length l.value ∷ numbers_from (record { kind = x; start = start + length l.value; size = 0 }) false xs
-        else if u then numbers_from (record { kind = l.kind; start = start; size = length l.value }) true xs
-        else numbers_from (record { kind = l.kind; start = start; size = length l.value + 1 }) false xs)
+        else (if u then numbers_from (record { kind = l.kind; start = start; size = length l.value }) true xs
+        else numbers_from (record { kind = l.kind; start = start; size = length l.value + 1 }) false xs))
     step true u p q r = ap (λ (ns : List ℕ). l.kind ∷ start ∷ length l.value ∷ ns) p
     step false true p q r = q
     step false false p q r = r

@@ -1,4 +1,5 @@
 -- One step of the listing writes out the front of the table that is left, and moves its places on by that much. Assumes nothing.
+use Rattle.std.specs.Prelude.{if◌then◌else◌}
 use Prim.Native.Nat.{ℕ, zero, suc, ◌+◌, ◌*◌, ◌≤◌, ◌<◌}
 use mathlib.Core.Path.{◌≡◌, refl, sym, ap, subst, ◌∙◌}
 use mathlib.Core.Bool.{Bool, true, false}
@@ -7,7 +8,7 @@ use native.Mathlib.Omega.{arith}
 use native.Mathlib.Nat.{add-zero}
 use lib.Dec.{leb}
 use lib.ListN.{length, replicate, length-append}
-use Rattle.lists.specs.Lists.{if◌then◌else◌, gather}
+use Rattle.lists.specs.Lists.{gather}
 use Rattle.values.specs.Tokens.{Token, byte, separator, fault}
 use Rattle.values.specs.Values.{byte_of, bytes_of}
 use Rattle.values.specs.Spelling.{spell_byte}

@@ -1,7 +1,6 @@
 -- The contents as one text of marks and value bytes, and what is read off it from left to right: a mark ends the open value
 -- and begins the next, whose kind it names. Assumes nothing.
-use Rattle.std.specs.Prelude.{ℕ, zero, suc, ◌+◌, Bool, true, false, List, [], ◌∷◌, ◌++◌, leb, eqb}
-use Rattle.lists.specs.Lists.{if◌then◌else◌}
+use Rattle.std.specs.Prelude.{ℕ, zero, suc, ◌+◌, Bool, true, false, List, [], ◌∷◌, ◌++◌, leb, eqb, if◌then◌else◌}
 use Rattle.characters.specs.declared.Characters.{Characters}
 use Rattle.operations.specs.ValueList.{Item, Entry}
 
@@ -18,7 +17,7 @@ module _ {S B : Type 0} (out : S → List B) (next grow : ℕ → S → S) where
   read_marks current true (x ∷ xs) = read_marks (grow x current) false xs
   read_marks current false (x ∷ xs) =
       if leb x 3 then out current ++ read_marks (next x current) false xs
-      else if eqb x 4 then read_marks current true xs else read_marks (grow x current) false xs
+      else (if eqb x 4 then read_marks current true xs else read_marks (grow x current) false xs)
 
   -- what a run of marks of one kind writes out, and what is open after it
   unfoldable pub run_out : ℕ → ℕ → S → List B

@@ -1,6 +1,5 @@
 -- What is listed so far, one step for a value's byte and for a separator, and the table from there on. Assumes nothing.
-use Rattle.std.specs.Prelude.{ℕ, ◌+◌, ◌≡◌, false, List, [], ◌++◌, leb, length}
-use Rattle.lists.specs.Lists.{if◌then◌else◌}
+use Rattle.std.specs.Prelude.{ℕ, ◌+◌, ◌≡◌, false, List, [], ◌++◌, leb, length, if◌then◌else◌}
 use Rattle.values.specs.Tokens.{Token}
 use Rattle.values.specs.Values.{bytes_of}
 use Rattle.operations.specs.ValueList.{Entry}

@@ -1,5 +1,6 @@
 -- The tokens of an element where it is spelled and the records of the element as it stands in the contents are emitted alike, up to what
 -- the next separator of an element or a segment drops; and as many values are counted as there are records. Assumes nothing.
+use Rattle.std.specs.Prelude.{if◌then◌else◌}
 use Prim.Native.Nat.{ℕ, ◌+◌, ◌*◌, ◌≤◌, ◌<◌}
 use mathlib.Core.Path.{◌≡◌, refl, sym, ap, ap₂, subst, ◌∙◌}
 use mathlib.Core.Bool.{Bool, true, false, not, ◌&&◌, ◌||◌, true≢false, false≢true}
@@ -9,7 +10,7 @@ use lib.Dec.{leb}
 use lib.ListN.{length, take, replicate, length-append}
 use lib.Seq.{take-append_seam}
 use borrow.Author.Tests.{not-true, lt-leb, leb-false}
-use Rattle.lists.specs.Lists.{if◌then◌else◌, is_empty, any, all, through, last_or, cut, gather, trim_end, drop_end}
+use Rattle.lists.specs.Lists.{is_empty, any, all, through, last_or, cut, gather, trim_end, drop_end}
 use Rattle.lists.proofs.Texts.{and_left, and_right, and_both}
 use Rattle.lists.proofs.Pieces.{None, cut_append}
 use Rattle.nesting.specs.Nesting.{shaped, nested}
@@ -151,9 +152,9 @@ separated_inside : (h : Held) (rank : ℕ) → 1 < rank
 unfolding separated
 separated_inside h rank k =
     ap₂ (λ (a b : Bool).
-    if a then nothing else if b then record { elements = h.elements + 1; repeats = 0; components = 0 }
-    else if leb rank 2 then record { elements = h.elements; repeats = h.repeats + 1; components = 0 }
-    else record { elements = h.elements; repeats = h.repeats; components = h.components + 1 })
+    if a then nothing else (if b then record { elements = h.elements + 1; repeats = 0; components = 0 }
+    else (if leb rank 2 then record { elements = h.elements; repeats = h.repeats + 1; components = 0 }
+    else record { elements = h.elements; repeats = h.repeats; components = h.components + 1 })))
     (lt-leb rank 0 (omega arith))
     (lt-leb rank 1 k)
 

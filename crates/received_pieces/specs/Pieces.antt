@@ -1,6 +1,6 @@
 -- The tokens of a piece without what ends it, and what is next in it. Assumes nothing.
-use Rattle.std.specs.Prelude.{ℕ, ◌≤◌, ◌<◌, ◌≡◌, true, not, List, [], ◌∷◌, ◌++◌, map, leb, length}
-use Rattle.lists.specs.Lists.{if◌then◌else◌, is_empty, any, all, through}
+use Rattle.std.specs.Prelude.{ℕ, ◌≤◌, ◌<◌, ◌≡◌, true, not, List, [], ◌∷◌, ◌++◌, map, leb, length, if◌then◌else◌}
+use Rattle.lists.specs.Lists.{is_empty, any, all, through}
 use Rattle.characters.specs.declared.Characters.{Characters}
 use Rattle.values.specs.Tokens.{Token, byte, separator, fault, ends, tokens_at}
 use Rattle.values.specs.Values.{bytes_of, repeats_of, is_fault}

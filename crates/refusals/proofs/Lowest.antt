@@ -1,5 +1,6 @@
 -- What `lowest` answers: a refusal of the stage such that none is lower, whatever the order in which the stage lists them.
 -- So a stage may be taken in parts, regrouped, and left at the first refusal where the places rise. Assumes nothing.
+use Rattle.std.specs.Prelude.{if◌then◌else◌}
 use Prim.Native.Nat.{◌≤◌, ◌<◌}
 use mathlib.Core.Path.{◌≡◌, refl, sym, ap, subst, ◌∙◌}
 use mathlib.Core.Bool.{Bool, true, false}
@@ -8,7 +9,7 @@ use mathlib.Core.List.{List, [], ◌∷◌, ◌++◌, Memᴰ}
 use mathlib.Core.Option.{Option, none, some, none-ne-some, some-ne-none, some-injective}
 use mathlib.Core.Logic.{◌⊎◌, inl, inr, ⊎_elim, ◌↔◌}
 use native.Mathlib.Omega.{arith}
-use Rattle.lists.specs.Lists.{if◌then◌else◌, gather}
+use Rattle.lists.specs.Lists.{gather}
 use Rattle.refusals.specs.declared.Refusal.{Refusal}
 use Rattle.refusals.specs.Refusals.{Stage, is_lower, lower_of, lowest, or_else}
 use Rattle.refusals.proofs.Order.{key, key_tells, not_lower, key_least, farther, lower, key_lower}

@@ -1,4 +1,5 @@
 -- How large the figures are: each piece is counted once, and what Judge says of an accepted one is at most 32,000. Assumes nothing.
+use Rattle.std.specs.Prelude.{if◌then◌else◌}
 use Prim.Native.Nat.{ℕ, zero, suc, ◌+◌, ◌*◌, ◌≤◌, ◌<◌}
 use mathlib.Core.Path.{◌≡◌, refl, sym, ap, ◌∙◌, subst}
 use mathlib.Core.Bool.{Bool, true, false}
@@ -7,7 +8,7 @@ use mathlib.Core.Option.{Option, none, some}
 use native.Mathlib.Omega.{arith}
 use lib.ListN.{length, get_or}
 use lib.Dec.{eqb}
-use Rattle.lists.specs.Lists.{if◌then◌else◌, any, those, maybe}
+use Rattle.lists.specs.Lists.{any, those, maybe}
 use Rattle.refusals.specs.declared.Fault.TheVariants.{TooLong, NormalTooLong}
 use Rattle.refusals.specs.declared.Refusal.{Refusal}
 use Rattle.refusals.specs.Limits.{most_bytes}

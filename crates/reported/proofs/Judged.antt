@@ -1,4 +1,5 @@
 -- Which number a run of stages answers, and what the runs up to 9, of 10 to 12 and of 13 say of the whole. Assumes nothing.
+use Rattle.std.specs.Prelude.{if◌then◌else◌}
 use Prim.Native.Nat.{ℕ, ◌≤◌, ◌<◌}
 use mathlib.Core.Path.{◌≡◌, refl, sym, ap, ap₂, subst, ◌∙◌}
 use mathlib.Core.Bool.{Bool, true, false, ◌&&◌, ◌||◌, false≢true}
@@ -8,7 +9,7 @@ use mathlib.Core.Logic.{◌⊎◌, inl, inr}
 use native.Mathlib.Omega.{arith}
 use lib.Dec.{eqb, leb}
 use borrow.Author.Tests.{leb-true, ne_eqb, eqb-false}
-use Rattle.lists.specs.Lists.{if◌then◌else◌, member, all, those, gather, maybe}
+use Rattle.lists.specs.Lists.{member, all, those, gather, maybe}
 use Rattle.lists.proofs.Tests.{says_all, gathered}
 use Rattle.lists.proofs.Texts.{and_left, and_right, and_both}
 use Rattle.characters.specs.Characters.{characters_of, body_start}

@@ -1,7 +1,6 @@
 -- What Judge's stages say of a received interchange, and where the pieces that are taken over from it begin. Assumes nothing.
-use Rattle.std.specs.Prelude.{ℕ, ◌≡◌, true, false, List}
+use Rattle.std.specs.Prelude.{ℕ, ◌≡◌, true, false, List, if◌then◌else◌}
 use Rattle.std.proofs.Math.Option.{Option, none, some}
-use Rattle.lists.specs.Lists.{if◌then◌else◌}
 use Rattle.characters.specs.Characters.{characters_of, body_start}
 use Rattle.refusals.specs.declared.Refusal.{Refusal}
 use Rattle.values.specs.Tokens.{tokens_at}

@@ -1,5 +1,6 @@
 -- The contents of an accepted input, spelled with other usable service characters, are accepted: what is read is the list that the
 -- normal form is read as, and the stages from 3 on ask only of that. Assumes nothing.
+use Rattle.std.specs.Prelude.{if◌then◌else◌}
 use Prim.Native.Nat.{ℕ, zero, suc, ◌-◌, ◌≤◌}
 use mathlib.Core.Path.{◌≡◌, refl, sym, ap, ap₂, subst, ◌∙◌}
 use mathlib.Core.Bool.{Bool, true, false, ◌&&◌, ◌||◌, false≢true, true≢false}
@@ -10,7 +11,7 @@ use native.Mathlib.Omega.{arith}
 use lib.ListN.{length}
 use lib.Dec.{eqb, ltb}
 use borrow.Author.Tests.{le-ltb, eqb-true, eq-eqb, ne_eqb}
-use Rattle.lists.specs.Lists.{if◌then◌else◌, text, begins, member, all, all_differ, gather}
+use Rattle.lists.specs.Lists.{text, begins, member, all, all_differ, gather}
 use Rattle.lists.proofs.Tests.{fails}
 use Rattle.lists.proofs.Texts.{and_left, and_right, and_both, if_false}
 use Rattle.characters.specs.declared.Characters.{Characters}

@@ -1,4 +1,5 @@
 -- One step of `scanned`, for each token that the scanner can find; and what follows a segment that `scanned` sees end. Assumes nothing.
+use Rattle.std.specs.Prelude.{if◌then◌else◌}
 use Prim.Native.Nat.{ℕ, zero, suc, ◌+◌, ◌-◌, ◌≤◌, ◌<◌}
 use mathlib.Core.Path.{◌≡◌, refl, sym, ap, ◌∙◌, subst}
 use mathlib.Core.List.{List, [], ◌∷◌}
@@ -10,7 +11,7 @@ use native.Mathlib.Nat.{lt_of_not-le}
 use lib.ListN.{length, get_or}
 use lib.Dec.{eqb, leb}
 use borrow.Author.Tests.{eqb-true, eqb-false, eq-eqb, ne_eqb, le-leb, lt-leb}
-use Rattle.lists.specs.Lists.{if◌then◌else◌, beyond}
+use Rattle.lists.specs.Lists.{beyond}
 use Rattle.lists.proofs.Texts.{if_true, if_false, or_none_left, or_none_right}
 use Rattle.characters.specs.declared.Characters.{Characters}
 use Rattle.characters.specs.declared.Role.{Role}

@@ -1,6 +1,6 @@
 -- How a segment ends, over its tokens from left to right. Assumes nothing.
-use Rattle.std.specs.Prelude.{ℕ, ◌≤◌, ◌<◌, ◌≡◌, List, [], ◌∷◌, Bool, false, ◌||◌, ◌⊎◌, length, get_or, eqb, leb}
-use Rattle.lists.specs.Lists.{if◌then◌else◌, through, beyond}
+use Rattle.std.specs.Prelude.{ℕ, ◌≤◌, ◌<◌, ◌≡◌, List, [], ◌∷◌, Bool, false, ◌||◌, ◌⊎◌, length, get_or, eqb, leb, if◌then◌else◌}
+use Rattle.lists.specs.Lists.{through, beyond}
 use Rattle.characters.specs.declared.Characters.{Characters}
 use Rattle.characters.specs.declared.Role.{Role}
 use Rattle.characters.specs.declared.Role.TheVariants as role

@@ -1,4 +1,5 @@
 -- What the definitions say in the paper's letters: the tags by their bytes, what is counted, and where the check stands. Assumes nothing.
+use Rattle.std.specs.Prelude.{if◌then◌else◌}
 use Prim.Native.Nat.{ℕ, ◌+◌, ◌≤◌, ◌<◌}
 use mathlib.Core.Path.{◌≡◌, refl, sym, ap, ◌∙◌}
 use mathlib.Core.Bool.{Bool, true, false, not, ◌&&◌, ◌||◌, false≢true}
@@ -9,7 +10,7 @@ use native.Mathlib.Omega.{arith}
 use lib.Dec.{eqb, ltb}
 use lib.ListN.{length, get_or, length-append}
 use borrow.Author.Tests.{eqb-true, eq-eqb}
-use Rattle.lists.specs.Lists.{if◌then◌else◌, text, same, begins, all, those, through}
+use Rattle.lists.specs.Lists.{text, same, begins, all, those, through}
 use Rattle.lists.proofs.Tests.{Says, says_eq, says_lt, says_both, says_either, says_not, says_same, says_begins, says_all, says_as, fails, through_is}
 use Rattle.characters.specs.Characters.{upper, digit}
 use Rattle.characters.proofs.Words.{upper_says, digit_says}
@@ -204,7 +205,7 @@ open_says header trailer (kind ∷ past) =
 
     step : (b : Bool) → Says b (kind ≡ header) → (d : Bool) → Says d (kind ≡ trailer)
         → Says (is_open header trailer past) (Open header trailer past)
-        → Says (if b then true else if d then false else is_open header trailer past) (Open header trailer (kind ∷ past))
+        → Says (if b then true else (if d then false else is_open header trailer past)) (Open header trailer (kind ∷ past))
     step true b d t rest = (
       λ e. ([], past, ap (λ (k : Kind). k ∷ past) (b.0 refl), λ k m. absurd (Memᴰ.not-nil m)),
       λ h. refl,

@@ -1,6 +1,6 @@
 -- The kinds of segments: the tags that name them, and their numbers. Assumes nothing.
-use Rattle.std.specs.Prelude.{ℕ, Bool, List, eqb}
-use Rattle.lists.specs.Lists.{if◌then◌else◌, text, same}
+use Rattle.std.specs.Prelude.{ℕ, Bool, List, eqb, if◌then◌else◌}
+use Rattle.lists.specs.Lists.{text, same}
 use Rattle.segments.specs.declared.Kind.{Kind}
 use Rattle.segments.specs.declared.Kind.TheVariants.{Unb, Ung, Unh, Uns, Unt, Une, Unz, User}
 
@@ -22,10 +22,10 @@ is kind other = eqb (index other) (index kind)
 unfoldable pub kind_named : List ℕ → Kind
 kind_named tag =
     if same tag (text "UNB") then Unb
-    else if same tag (text "UNG") then Ung
-    else if same tag (text "UNH") then Unh
-    else if same tag (text "UNS") then Uns
-    else if same tag (text "UNT") then Unt
-    else if same tag (text "UNE") then Une
-    else if same tag (text "UNZ") then Unz
-    else User
+    else (if same tag (text "UNG") then Ung
+    else (if same tag (text "UNH") then Unh
+    else (if same tag (text "UNS") then Uns
+    else (if same tag (text "UNT") then Unt
+    else (if same tag (text "UNE") then Une
+    else (if same tag (text "UNZ") then Unz
+    else User))))))

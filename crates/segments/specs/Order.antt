@@ -1,6 +1,6 @@
 -- Paper 01, "Order of segments". What passed is a list of kinds, the nearest first. Assumes nothing.
-use Rattle.std.specs.Prelude.{ℕ, Bool, true, false, ◌&&◌, ◌||◌, List, [], ◌∷◌, length, eqb, ltb}
-use Rattle.lists.specs.Lists.{if◌then◌else◌, through, those}
+use Rattle.std.specs.Prelude.{ℕ, Bool, true, false, ◌&&◌, ◌||◌, List, [], ◌∷◌, length, eqb, ltb, if◌then◌else◌}
+use Rattle.lists.specs.Lists.{through, those}
 use Rattle.segments.specs.declared.Kind.{Kind}
 use Rattle.segments.specs.declared.Kind.TheVariants.{Unb, Ung, Unh, Uns, Unt, Une, Unz, User}
 use Rattle.segments.specs.declared.Standing.{Standing}
@@ -34,16 +34,16 @@ messages_since_group past = messages_in (through (is Ung) past)
 unfoldable pub is_open : Kind → Kind → List Kind → Bool
 is_open nearer farther [] = false
 is_open nearer farther (kind ∷ past) =
-    if is nearer kind then true else if is farther kind then false else is_open nearer farther past
+    if is nearer kind then true else (if is farther kind then false else is_open nearer farther past)
 
 -- "before UNB, between groups, inside a group, or inside a message of a group or of none"; or after UNZ.
 -- Between messages outside groups the check stands where it stands between groups. After a segment that is not allowed it says nothing.
 unfoldable pub standing : List Kind → Standing
 standing past =
     if is_open Unz Unb past then AfterInterchange
-    else if is_open Unh Unt past then (if is_open Ung Une past then InGroupMessage else InMessage)
-    else if is_open Ung Une past then InGroup
-    else if is_open Unb Unz past then BetweenGroups else BeforeInterchange
+    else (if is_open Unh Unt past then (if is_open Ung Une past then InGroupMessage else InMessage)
+    else (if is_open Ung Une past then InGroup
+    else (if is_open Unb Unz past then BetweenGroups else BeforeInterchange)))
 
 -- ---- which segment is allowed there
 

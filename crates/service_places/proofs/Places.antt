@@ -1,5 +1,6 @@
 -- Laws of the next place at which a test passes: byte by byte, from a later place on, and what it says of a part of the list.
 -- Assumes nothing.
+use Rattle.std.specs.Prelude.{if◌then◌else◌}
 use Prim.Native.Nat.{ℕ, zero, suc, ◌+◌, ◌-◌, ◌≤◌, ◌<◌}
 use mathlib.Core.Path.{◌≡◌, refl, sym, ap, ◌∙◌}
 use mathlib.Core.Bool.{Bool, true, false, ◌||◌}
@@ -9,7 +10,7 @@ use lib.ListN.{length, take, drop, get_or, length-drop, drop_of_length-le}
 use lib.Seq.{drop-drop, take-add}
 use lib.Dec.{ltb}
 use borrow.Author.Tests.{ltb-true, ltb-false, lt-ltb, le-ltb}
-use Rattle.lists.specs.Lists.{if◌then◌else◌, any}
+use Rattle.lists.specs.Lists.{any}
 use Rattle.lists.proofs.Texts.{if_true, if_false}
 use Rattle.lists.proofs.Numbers.{drop_next}
 use Rattle.service_places.specs.Places.{ahead, next_place}

@@ -1,6 +1,5 @@
 -- The next place at which a test passes, and such places of a list that is cut into blocks of one size. Assumes nothing.
-use Rattle.std.specs.Prelude.{ℕ, ◌+◌, ◌*◌, ◌≤◌, ◌<◌, ◌≡◌, Bool, List, [], ◌∷◌, length, drop, get_or}
-use Rattle.lists.specs.Lists.{if◌then◌else◌}
+use Rattle.std.specs.Prelude.{ℕ, ◌+◌, ◌*◌, ◌≤◌, ◌<◌, ◌≡◌, Bool, List, [], ◌∷◌, length, drop, get_or, if◌then◌else◌}
 
 -- how many blocks there are at most
 abbrev pub blocks : ℕ

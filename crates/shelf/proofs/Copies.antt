@@ -1,4 +1,5 @@
 -- The slot of a copy: the first that keeps the text. Assumes nothing.
+use Rattle.std.specs.Prelude.{if◌then◌else◌}
 use Prim.Native.Nat.{ℕ, ◌+◌, ◌≤◌, ◌<◌}
 use mathlib.Core.Path.{◌≡◌, refl, sym, ap, ap₂, subst, ◌∙◌}
 use mathlib.Core.Bool.{Bool, true, false}
@@ -8,7 +9,7 @@ use mathlib.Core.Option.{Option, none, some}
 use native.Mathlib.Omega.{arith}
 use lib.Dec.{eqb}
 use lib.ListN.{length}
-use Rattle.lists.specs.Lists.{if◌then◌else◌, same, those, first, at}
+use Rattle.lists.specs.Lists.{same, those, first, at}
 use Rattle.lists.proofs.Texts.{if_true, if_false, same_length}
 use Rattle.lists.proofs.Tests.{says_eq, decides}
 use Rattle.shelves.specs.Layout.{Layout, slot_count, below, is_occupied, occupied, start_of, length_of, text_of}

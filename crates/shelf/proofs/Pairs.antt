@@ -1,4 +1,5 @@
 -- The pairs stored one after another, each as it is without the text that was removed. Assumes nothing.
+use Rattle.std.specs.Prelude.{if◌then◌else◌}
 use Prim.Native.Nat.{ℕ, zero, suc, ◌+◌, ◌-◌, ◌*◌, ◌≤◌, ◌<◌}
 use mathlib.Core.Path.{◌≡◌, refl, sym, ap, ap₂, ◌∙◌}
 use mathlib.Core.Bool.{Bool, true, false}
@@ -9,7 +10,7 @@ use lib.Dec.{eqb, ltb}
 use borrow.Author.Tests.{eq-eqb, ne_eqb, lt-ltb, le-ltb}
 use lib.ListN.{length, length-append}
 use lib.Seq.{sets, length-sets}
-use Rattle.lists.specs.Lists.{if◌then◌else◌, gather}
+use Rattle.lists.specs.Lists.{gather}
 use Rattle.lists.proofs.Texts.{gather_append, if_true, if_false}
 use Rattle.numbers.proofs.Numbers.{number_behind}
 use Rattle.shelves.specs.Layout.{Layout, below, pair_place, start_of, length_of}
@@ -23,7 +24,7 @@ lowered_length : (removed start size slot a n : ℕ) → length (lowered_pair re
 unfolding lowered_pair
 lowered_length removed start size slot a n = by (eqb slot removed) (ltb start a)
   where
-    by : (t u : Bool) → length (if t then pair_of 0 0 else if u then pair_of (a - size) n else pair_of a n) ≡ 8
+    by : (t u : Bool) → length (if t then pair_of 0 0 else (if u then pair_of (a - size) n else pair_of a n)) ≡ 8
     by true u = pair_length 0 0
     by false true = pair_length (a - size) n
     by false false = pair_length a n

@@ -1,9 +1,9 @@
 -- What the parts of the shelf's operations leave: a text put where the shelf is sound, a kept text asked for, a pair stored without a text that
 -- was removed; and the operations that are lent the summary, over whose head the caller stores it. Assumes nothing.
-use Rattle.std.specs.Prelude.{ℕ, ◌-◌, ◌≤◌, ◌<◌, ◌≡◌, Bool, true, false, List, eqb, ltb, length}
+use Rattle.std.specs.Prelude.{ℕ, ◌-◌, ◌≤◌, ◌<◌, ◌≡◌, Bool, true, false, List, eqb, ltb, length, if◌then◌else◌}
 use Rattle.std.proofs.Math.Option.{none, some}
 use Rattle.std.proofs.lemmas.List.Edits.{sets}
-use Rattle.lists.specs.Lists.{if◌then◌else◌, same, gather}
+use Rattle.lists.specs.Lists.{same, gather}
 use Rattle.stages.specs.Contents.{normal_form}
 use Rattle.stages.specs.Stages.{refusal_of}
 use Rattle.answers.specs.declared.Stored.{Stored}
@@ -62,7 +62,7 @@ module _ (l : Layout) where
 -- a slot's pair, start and length, after the text of another slot was removed
 unfoldable pub lowered_pair : (removed start size slot : ℕ) → (a n : ℕ) → List ℕ
 lowered_pair removed start size slot a n =
-    if eqb slot removed then pair_of 0 0 else if ltb start a then pair_of (a - size) n else pair_of a n
+    if eqb slot removed then pair_of 0 0 else (if ltb start a then pair_of (a - size) n else pair_of a n)
 
 -- the operations that are lent the summary: with it stored at the head, they are Put and Remove
 abbrev pub PutsLent : (s input : List ℕ) → Placed → (after : List ℕ) (u : Summary) → Type 0

@@ -1,5 +1,6 @@
 -- All from the pairs on has moved to its place in the other layout; then the pairs, the heading and the sums are stored. What the shelf holds is
 -- what `carrying` says. One law for both directions, and for each the move that it starts from. Assumes nothing.
+use Rattle.std.specs.Prelude.{if◌then◌else◌}
 use Prim.Native.Nat.{ℕ, zero, suc, ◌+◌, ◌-◌, ◌*◌, ◌≤◌, ◌<◌}
 use mathlib.Core.Path.{◌≡◌, refl, sym, ap, ap₂, ◌∙◌}
 use mathlib.Core.Bool.{true}
@@ -7,7 +8,7 @@ use mathlib.Core.List.{List, [], ◌∷◌, ◌++◌, append-nil}
 use native.Mathlib.Omega.{arith}
 use lib.ListN.{length, take, drop, replicate, length-append, length-drop, length-replicate, drop_of_length-le}
 use lib.Seq.{sets, length-sets, length-take-le, take_all, take-append-le, drop-append-le, drop-drop}
-use Rattle.lists.specs.Lists.{if◌then◌else◌, gather}
+use Rattle.lists.specs.Lists.{gather}
 use Rattle.lists.proofs.Texts.{gather_append}
 use Rattle.numbers.specs.Numbers.{number_at, in_bytes, read_on}
 use Rattle.numbers.proofs.Stores.{part_cut, front_stays, rest_stays, part_before, part_behind, part_stored, from_stored}

@@ -1,4 +1,5 @@
 -- The pairs stored one after another, each with its start in the other layout. Assumes nothing.
+use Rattle.std.specs.Prelude.{if◌then◌else◌}
 use Prim.Native.Nat.{ℕ, zero, suc, ◌+◌, ◌-◌, ◌*◌, ◌≤◌, ◌<◌}
 use mathlib.Core.Path.{◌≡◌, refl, sym, ap, ap₂, ◌∙◌}
 use mathlib.Core.Bool.{Bool, true, false}
@@ -7,7 +8,7 @@ use native.Mathlib.Numerals.{add-one}
 use native.Mathlib.Omega.{arith}
 use lib.ListN.{length, length-append}
 use lib.Seq.{sets}
-use Rattle.lists.specs.Lists.{if◌then◌else◌, gather}
+use Rattle.lists.specs.Lists.{gather}
 use Rattle.lists.proofs.Texts.{gather_append, if_true, if_false}
 use Rattle.numbers.proofs.Numbers.{number_behind}
 use Rattle.shelves.specs.Layout.{Layout, below, bit, base, pair_place, start_of, length_of}

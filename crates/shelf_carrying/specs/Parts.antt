@@ -1,6 +1,6 @@
 -- A slot's pair once all from the pairs on has moved to its place in the other layout, and its start is raised or lowered. Assumes nothing.
-use Rattle.std.specs.Prelude.{ℕ, ◌+◌, ◌-◌, ◌≤◌, ◌<◌, ◌≡◌, true, List}
-use Rattle.lists.specs.Lists.{if◌then◌else◌, gather}
+use Rattle.std.specs.Prelude.{ℕ, ◌+◌, ◌-◌, ◌≤◌, ◌<◌, ◌≡◌, true, List, if◌then◌else◌}
+use Rattle.lists.specs.Lists.{gather}
 use Rattle.shelves.specs.Layout.{Layout, slot_count, below, bit, base, start_of, length_of}
 use Rattle.shelves.specs.Operations.{pair_of}
 

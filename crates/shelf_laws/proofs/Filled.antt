@@ -1,5 +1,6 @@
 -- Texts that are disjoint and lie in a room as large as all of them leave no gap in it; and texts that fill a room without gaps are together as
 -- large as the room. Both by counting, for each place of the room and each slot, whether the place lies in the slot's text. Assumes nothing.
+use Rattle.std.specs.Prelude.{if◌then◌else◌}
 use Prim.Native.Nat.{ℕ, ◌+◌, ◌-◌, ◌≤◌, ◌<◌}
 use mathlib.Core.Path.{◌≡◌, sym, ◌∙◌}
 use mathlib.Core.Bool.{Bool, true, false}
@@ -8,7 +9,6 @@ use mathlib.Core.Logic.{⊎_elim}
 use native.Mathlib.Omega.{arith}
 use lib.Dec.{eqb}
 use borrow.Author.Tests.{eqb-true, eqb-false}
-use Rattle.lists.specs.Lists.{if◌then◌else◌}
 use Rattle.lists.proofs.Texts.{if_true, if_false, decided}
 use Rattle.shelves.specs.Layout.{Layout, slot_count, is_occupied, Occupied, base, start_of, length_of, held}
 use Rattle.shelves.proofs.Sums.{sum_below, sum_same, sum_least}

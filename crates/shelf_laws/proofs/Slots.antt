@@ -1,4 +1,5 @@
 -- A slot that two sound shelves hold alike is answered alike; and how many slots are occupied. Assumes nothing.
+use Rattle.std.specs.Prelude.{if◌then◌else◌}
 use Prim.Native.Nat.{ℕ, ◌+◌, ◌≤◌, ◌<◌}
 use mathlib.Core.Path.{◌≡◌, refl, sym, ap, ap₂, ◌∙◌}
 use mathlib.Core.Bool.{Bool, true, false, ◌&&◌}
@@ -7,7 +8,7 @@ use mathlib.Core.Logic.{⊎_elim}
 use native.Mathlib.Omega.{arith}
 use lib.Dec.{ltb}
 use lib.ListN.{length, take, drop}
-use Rattle.lists.specs.Lists.{if◌then◌else◌, those}
+use Rattle.lists.specs.Lists.{those}
 use Rattle.lists.proofs.Texts.{if_true, if_false}
 use Rattle.lists.proofs.Tests.{Says, says_lt, says_both, decides}
 use Rattle.answers.specs.Answers.{given}

@@ -1,7 +1,6 @@
 -- Requests 2026-04 and 2026-06: a list of operations done on a shelf one after the other, the lengths that were newly put and removed on
 -- the way, and how many puts found their copy. Assumes nothing.
-use Rattle.std.specs.Prelude.{ℕ, ◌+◌, Bool, ◌&&◌, List, [], ◌∷◌, eqb, length, get_or}
-use Rattle.lists.specs.Lists.{if◌then◌else◌}
+use Rattle.std.specs.Prelude.{ℕ, ◌+◌, Bool, ◌&&◌, List, [], ◌∷◌, eqb, length, get_or, if◌then◌else◌}
 use Rattle.stages.specs.Contents.{normal_form}
 use Rattle.answers.specs.Answers.{Answer}
 use Rattle.shelves.specs.Layout.{Layout}

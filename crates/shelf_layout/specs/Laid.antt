@@ -1,6 +1,5 @@
 -- A layout as the code hands it on, and as the definitions have it. Assumes nothing.
-use Rattle.std.specs.Prelude.{ℕ, List}
-use Rattle.lists.specs.Lists.{if◌then◌else◌}
+use Rattle.std.specs.Prelude.{ℕ, List, if◌then◌else◌}
 use Rattle.shelves.specs.Layout as shelf
 use Rattle.shelf_layout.specs.declared.Layout.{Layout}
 

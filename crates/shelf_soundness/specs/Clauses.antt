@@ -1,6 +1,6 @@
 -- The clauses of soundness, slot by slot, as the code asks them one after another. Assumes nothing.
-use Rattle.std.specs.Prelude.{ℕ, ◌+◌, ◌≤◌, ◌<◌, ◌≡◌, Bool, true, ◌&&◌, List, ◌↔◌, eqb, length, get_or, drop}
-use Rattle.lists.specs.Lists.{if◌then◌else◌, all}
+use Rattle.std.specs.Prelude.{ℕ, ◌+◌, ◌≤◌, ◌<◌, ◌≡◌, Bool, true, ◌&&◌, List, ◌↔◌, eqb, length, get_or, drop, if◌then◌else◌}
+use Rattle.lists.specs.Lists.{all}
 use Rattle.shelves.specs.Layout.{Layout, most_shelf, slot_count, total, base, is_occupied, start_of, length_of, text_of, end_of}
 use Rattle.shelves.specs.Soundness.{is_normal_form, lies, apart, differ, is_blank_pair}
 

@@ -1,4 +1,5 @@
 -- A copy was found: only the duplicates figure changed, so that the shelf says of each slot what it said, and stays sound. Assumes nothing.
+use Rattle.std.specs.Prelude.{if◌then◌else◌}
 use Prim.Native.Nat.{ℕ, ◌+◌, ◌-◌, ◌≤◌, ◌<◌, min}
 use mathlib.Core.Path.{◌≡◌, refl, sym, ap, ap₂, subst, ◌∙◌}
 use mathlib.Core.Bool.{Bool, true, false}
@@ -10,7 +11,7 @@ use lib.Dec.{eqb, ltb}
 use lib.ListN.{length, take, drop, length-take}
 use lib.Seq.{sets, length-sets, take_all, take-take}
 use borrow.Author.Tests.{ltb-true, ltb-false}
-use Rattle.lists.specs.Lists.{if◌then◌else◌, all, those}
+use Rattle.lists.specs.Lists.{all, those}
 use Rattle.lists.proofs.Texts.{decided}
 use Rattle.numbers.specs.Numbers.{number_at, in_bytes, read_on}
 use Rattle.numbers.proofs.Stores.{part_cut, front_stays, rest_stays}

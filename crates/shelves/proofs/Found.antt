@@ -1,4 +1,5 @@
 -- The slot of a copy, and the lowest free slot. Assumes nothing.
+use Rattle.std.specs.Prelude.{if◌then◌else◌}
 use Prim.Native.Nat.{ℕ, ◌≤◌, ◌<◌}
 use mathlib.Core.Path.{◌≡◌, refl, sym, ap, subst, ◌∙◌}
 use mathlib.Core.Bool.{Bool, true, false, not, true≢false}
@@ -8,7 +9,7 @@ use mathlib.Core.Option.{Option, none, some, none-ne-some, some-ne-none, some-in
 use mathlib.Core.Logic.{⊎_elim}
 use lib.Dec.{eqb, ltb}
 use borrow.Author.Tests.{not-true, not-false, ltb-true, ltb-false}
-use Rattle.lists.specs.Lists.{if◌then◌else◌, same, first, at, is_empty, maybe}
+use Rattle.lists.specs.Lists.{same, first, at, is_empty, maybe}
 use Rattle.lists.proofs.Texts.{same_eq, decided}
 use Rattle.lists.proofs.Tests.{says_same, says_eq, decides}
 use Rattle.shelves.specs.Layout.{Layout, slot_count, is_occupied, Occupied, Free, occupied, free, text_of}

@@ -1,10 +1,10 @@
 -- The bytes held, as a sum over all slots, and how they change where one slot changes. Assumes nothing.
+use Rattle.std.specs.Prelude.{if◌then◌else◌}
 use Prim.Native.Nat.{ℕ, ◌+◌, ◌≤◌, ◌<◌}
 use mathlib.Core.Path.{◌≡◌, ap, ap₂}
 use mathlib.Core.Bool.{Bool, true, false}
 use mathlib.Core.List.{List, [], map}
 use native.Mathlib.Omega.{arith}
-use Rattle.lists.specs.Lists.{if◌then◌else◌}
 use Rattle.lists.proofs.Texts.{if_true, if_false}
 use Rattle.shelves.specs.Layout.{Layout, slot_count, below, total, is_occupied, Occupied, Free, occupied, length_of, held}
 use Rattle.shelves.proofs.Sums.{total_those, sum_below, sum_but_one, sum_least}

@@ -1,4 +1,5 @@
 -- The numbers below a number that pass a test, as the slots of a shelf do, and what is asked of each of them and of any two. Assumes nothing.
+use Rattle.std.specs.Prelude.{if◌then◌else◌}
 use Prim.Native.Nat.{ℕ, zero, suc, ◌<◌}
 use mathlib.Core.Path.{◌≡◌, refl, sym, ap, subst, ◌∙◌}
 use mathlib.Core.Bool.{Bool, true, false, ◌&&◌, true≢false}
@@ -7,7 +8,7 @@ use mathlib.Core.Option.{some, none-ne-some}
 use mathlib.Core.Logic.{◌⊎◌, inl, inr, ⊎_elim, ◌↔◌}
 use native.Mathlib.Omega.{arith}
 use lib.Dec.{eqb}
-use Rattle.lists.specs.Lists.{if◌then◌else◌, all, those, at}
+use Rattle.lists.specs.Lists.{all, those, at}
 use Rattle.lists.proofs.Texts.{if_true, if_false, decided, all_append}
 use Rattle.lists.proofs.Tests.{Says, says_as, says_both, says_all, says_eq, decides}
 use Rattle.shelves.specs.Layout.{below}

@@ -1,4 +1,5 @@
 -- A text taken out of its slot, the later ones moved down: what the shelf then says of each slot. Assumes nothing.
+use Rattle.std.specs.Prelude.{if◌then◌else◌}
 use Prim.Native.Nat.{ℕ, ◌+◌, ◌-◌, ◌*◌, ◌%◌, ◌^◌, ◌≤◌, ◌<◌}
 use mathlib.Core.Path.{◌≡◌, refl, sym, ap, ◌∙◌}
 use mathlib.Core.Bool.{Bool, true, false}
@@ -9,7 +10,7 @@ use lib.Dec.{eqb, ltb}
 use lib.ListN.{length, take, drop, replicate, length-append, length-drop, length-replicate}
 use lib.Seq.{sets, take-take, take-append-le, drop-append-le, drop-drop, drop_at, length-take-le}
 use borrow.Author.Tests.{eq-eqb, ne_eqb, lt-ltb, le-ltb, ltb-true, ltb-false}
-use Rattle.lists.specs.Lists.{if◌then◌else◌, all, gather}
+use Rattle.lists.specs.Lists.{all, gather}
 use Rattle.lists.proofs.Texts.{all_append, and_both, decided}
 use Rattle.numbers.specs.Numbers.{number_at}
 use Rattle.numbers.proofs.Stores.{part_cut, part_before, part_within, from_stored}
@@ -91,7 +92,7 @@ module _ (l : Layout) (head : 13 ≤ l.pairs) (s : List ℕ) (slot : ℕ) (was :
   pair_eight k = step (eqb k slot) (ltb st (start_of l s k))
     where
       step : (a b : Bool)
-          → length (if a then pair_of 0 0 else if b then pair_of (start_of l s k - ln) (length_of l s k) else pair_of (start_of l s k) (length_of l s k)) ≡ 8
+          → length (if a then pair_of 0 0 else (if b then pair_of (start_of l s k - ln) (length_of l s k) else pair_of (start_of l s k) (length_of l s k))) ≡ 8
       step true b = pair_length 0 0
       step false true = pair_length (start_of l s k - ln) (length_of l s k)
       step false false = pair_length (start_of l s k) (length_of l s k)

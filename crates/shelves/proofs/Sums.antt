@@ -1,4 +1,5 @@
 -- Sums over the numbers below a number, and what changes where one of them changes. Assumes nothing.
+use Rattle.std.specs.Prelude.{if◌then◌else◌}
 use Prim.Native.Nat.{ℕ, zero, suc, ◌+◌, ◌≤◌, ◌<◌}
 use mathlib.Core.Path.{◌≡◌, refl, sym, ap, ◌∙◌}
 use mathlib.Core.Bool.{Bool, true, false}
@@ -6,7 +7,7 @@ use mathlib.Core.List.{List, [], ◌∷◌, ◌++◌, map, map-append}
 use mathlib.Core.Logic.{⊎_elim}
 use native.Mathlib.Omega.{arith}
 use lib.Dec.{eqb}
-use Rattle.lists.specs.Lists.{if◌then◌else◌, those}
+use Rattle.lists.specs.Lists.{those}
 use Rattle.lists.proofs.Tests.{says_eq, decides}
 use Rattle.shelves.specs.Layout.{below, total}
 

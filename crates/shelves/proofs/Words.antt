@@ -1,5 +1,6 @@
 -- Requests 2026-04 and 2026-06 in their own numbers: what stands where in a shelf of version 1 and of version 2, the sizes, the slots, the
 -- sums, and the places of the refusals. Assumes nothing.
+use Rattle.std.specs.Prelude.{if◌then◌else◌}
 use Prim.Native.Nat.{ℕ, ◌+◌, ◌*◌, ◌/◌, ◌%◌, ◌^◌, ◌≤◌, ◌<◌}
 use mathlib.Core.Path.{◌≡◌, refl, ap, subst}
 use mathlib.Core.Bool.{Bool, true, false, not}
@@ -10,7 +11,7 @@ use native.Mathlib.Omega.{arith}
 use lib.Dec.{leb}
 use lib.ListN.{length, replicate}
 use borrow.Author.Tests.{lt-ltb, le-ltb}
-use Rattle.lists.specs.Lists.{if◌then◌else◌, is_empty, those, at, maybe}
+use Rattle.lists.specs.Lists.{is_empty, those, at, maybe}
 use Rattle.lists.proofs.Tests.{Says, says_eq, says_le, says_both}
 use Rattle.numbers.specs.Numbers.{number_at, in_bytes, read_on}
 use Rattle.refusals.specs.declared.Fault.TheVariants.{NoFreeSlot, NoRoom, UnsoundShelf}

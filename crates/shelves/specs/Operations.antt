@@ -1,8 +1,8 @@
 -- Requests 2026-04 and 2026-06: Start, Put, Get, Remove, the two numbers read off the map, and the two sums. Assumes nothing.
-use Rattle.std.specs.Prelude.{ℕ, ◌+◌, ◌-◌, not, ◌&&◌, List, [], ◌∷◌, ◌++◌, length, take, drop, replicate, eqb, ltb}
+use Rattle.std.specs.Prelude.{ℕ, ◌+◌, ◌-◌, not, ◌&&◌, List, [], ◌∷◌, ◌++◌, length, take, drop, replicate, eqb, ltb, if◌then◌else◌}
 use Rattle.std.proofs.Math.Option.{Option}
 use Rattle.std.proofs.lemmas.List.Edits.{sets}
-use Rattle.lists.specs.Lists.{if◌then◌else◌, same, first, at, gather, is_empty, maybe}
+use Rattle.lists.specs.Lists.{same, first, at, gather, is_empty, maybe}
 use Rattle.numbers.specs.Numbers.{in_bytes}
 use Rattle.refusals.specs.declared.Fault.TheVariants.{NoFreeSlot, NoRoom, UnsoundShelf, FreeSlot}
 use Rattle.refusals.specs.declared.Refusal.{Refusal}
@@ -125,9 +125,9 @@ module _ (l : Layout) where
   unfoldable pub pair_without : List ℕ → (removed slot : ℕ) → List ℕ
   pair_without s removed slot =
       if eqb slot removed then pair_of 0 0
-      else if ltb (start_of l s removed) (start_of l s slot)
+      else (if ltb (start_of l s removed) (start_of l s slot)
       then pair_of (start_of l s slot - length_of l s removed) (length_of l s slot)
-      else pair_of (start_of l s slot) (length_of l s slot)
+      else pair_of (start_of l s slot) (length_of l s slot))
 
   -- "moves later texts down and zeroes what was vacated"
   unfoldable pub texts_without : List ℕ → (slot : ℕ) → List ℕ

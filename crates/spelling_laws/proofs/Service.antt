@@ -1,4 +1,5 @@
 -- What usable service characters are to one another, and which byte plays which part. Assumes nothing.
+use Rattle.std.specs.Prelude.{if◌then◌else◌}
 use Prim.Native.Nat.{ℕ, zero, suc, ◌-◌, ◌≤◌}
 use mathlib.Core.Path.{◌≡◌, refl, sym, ap, ap₂, ◌∙◌}
 use mathlib.Core.Bool.{Bool, true, false, not, ◌&&◌, ◌||◌, false≢true, or-false}
@@ -7,7 +8,7 @@ use mathlib.Core.Logic.{⊎_elim}
 use lib.Dec.{eqb, leb}
 use native.Mathlib.Omega.{arith}
 use borrow.Author.Tests.{eqb-true, leb-true}
-use Rattle.lists.specs.Lists.{if◌then◌else◌, text, member, all_differ, all}
+use Rattle.lists.specs.Lists.{text, member, all_differ, all}
 use Rattle.lists.proofs.Tests.{says_eq, says_not, says_all, says_member, fails}
 use Rattle.lists.proofs.Texts.{and_left, and_right}
 use Rattle.characters.specs.declared.Characters.{Characters}
@@ -51,8 +52,8 @@ module _ (c : Characters) (b : ℕ) where
           → (p : Bool) → has_repetition c ≡ p → (x : Bool) → eqb b c.repetition ≡ x → (k : Bool) → eqb b c.component ≡ k
           → (r : Bool) → has_release c ≡ r → (f : Bool) → eqb b c.release ≡ f
           → Part c b
-          (if t then Separator 0 else if e then Separator 1 else if p && x then Separator 2 else if k then Separator 3
-          else if r && f then Release else Plain)
+          (if t then Separator 0 else (if e then Separator 1 else (if p && x then Separator 2 else (if k then Separator 3
+          else (if r && f then Release else Plain)))))
       step true h e he p hp x hx k hk r hr f hf = separates 0 refl (eqb-true b c.terminator h)
       step false h true he p hp x hx k hk r hr f hf = separates 1 refl (eqb-true b c.element he)
       step false h false he true hp true hx k hk r hr f hf = separates 2 hp (eqb-true b c.repetition hx)
@@ -84,7 +85,7 @@ module _ (c : Characters) (b : ℕ) where
       step : (t e k y z : Bool)
           → (k || (e || (t || (y || z))))
           ≡ serves
-          (if t then Separator 0 else if e then Separator 1 else if y then Separator 2 else if k then Separator 3 else if z then Release else Plain)
+          (if t then Separator 0 else (if e then Separator 1 else (if y then Separator 2 else (if k then Separator 3 else (if z then Release else Plain)))))
       step true e true y z = refl
       step true true false y z = refl
       step true false false y z = refl

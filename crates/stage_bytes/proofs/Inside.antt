@@ -1,11 +1,12 @@
 -- Where every byte is in the level, every byte of every value is. Assumes nothing.
+use Rattle.std.specs.Prelude.{if◌then◌else◌}
 use Prim.Native.Nat.{ℕ, ◌+◌}
 use mathlib.Core.Path.{◌≡◌, refl, ◌∙◌}
 use mathlib.Core.Bool.{Bool, true, false}
 use mathlib.Core.List.{List, [], ◌∷◌}
 use mathlib.Core.Option.{none}
 use lib.ListN.{drop}
-use Rattle.lists.specs.Lists.{if◌then◌else◌, all}
+use Rattle.lists.specs.Lists.{all}
 use Rattle.lists.proofs.Texts.{and_left, and_right, if_true}
 use Rattle.characters.specs.declared.Characters.{Characters}
 use Rattle.characters.specs.declared.Role.{Role}

@@ -1,5 +1,6 @@
 -- Where all bytes are orderly, every byte of every value is in the level: by where reading stands and what the bytes before it were.
 -- Assumes nothing.
+use Rattle.std.specs.Prelude.{if◌then◌else◌}
 use Prim.Native.Nat.{ℕ, zero, suc, ◌+◌}
 use mathlib.Core.Path.{◌≡◌, refl, sym, ap, ap₂, ◌∙◌}
 use mathlib.Core.Bool.{Bool, true, false, not, ◌&&◌, ◌||◌, false≢true}
@@ -8,7 +9,7 @@ use mathlib.Core.Logic.{⊎_elim}
 use mathlib.Core.Option.{none}
 use borrow.Author.Tests.{not-true}
 use lib.ListN.{drop}
-use Rattle.lists.specs.Lists.{if◌then◌else◌, member}
+use Rattle.lists.specs.Lists.{member}
 use Rattle.lists.proofs.Texts.{and_left, and_right, or_none_left, or_none_right}
 use Rattle.characters.specs.declared.Characters.{Characters}
 use Rattle.characters.specs.declared.Role.{Role}

@@ -1,10 +1,10 @@
 -- One step of the walk over the level, for each token. Assumes nothing.
+use Rattle.std.specs.Prelude.{if◌then◌else◌}
 use Prim.Native.Nat.{ℕ}
 use mathlib.Core.Path.{◌≡◌, ap, ◌∙◌}
 use mathlib.Core.Bool.{Bool}
 use mathlib.Core.List.{List, [], ◌∷◌}
 use mathlib.Core.Option.{none}
-use Rattle.lists.specs.Lists.{if◌then◌else◌}
 use Rattle.refusals.specs.declared.Fault.TheVariants.{OutsideLevel}
 use Rattle.values.specs.Tokens.{Token, byte, separator, fault}
 use Rattle.levels.specs.Levels.{in_level}

@@ -1,4 +1,5 @@
 -- The tests as the code makes them, without a branch, and over the bytes from a place on. Assumes nothing.
+use Rattle.std.specs.Prelude.{if◌then◌else◌}
 use Prim.Native.Nat.{ℕ, ◌+◌, ◌≤◌, ◌<◌}
 use mathlib.Core.Path.{◌≡◌, refl, sym, ap, ap₂, ◌∙◌}
 use mathlib.Core.Bool.{Bool, true, false, not, ◌&&◌, ◌||◌, and_assoc, and-true, and-false}
@@ -7,7 +8,6 @@ use native.Mathlib.Omega.{arith}
 use lib.Dec.{eqb}
 use lib.ListN.{length, get_or, drop, drop_of_length-le}
 use borrow.Author.Tests.{eqb-true}
-use Rattle.lists.specs.Lists.{if◌then◌else◌}
 use Rattle.lists.proofs.Numbers.{drop_next}
 use Rattle.characters.specs.declared.Characters.{Characters}
 use Rattle.characters.specs.declared.Role.{Role}
@@ -23,10 +23,10 @@ module _ (c : Characters) where
   abbrev played : (terminator element repetition component release : Bool) → Role
   played t e p k r =
       if t then Separator 0
-      else if e then Separator 1
-      else if p then Separator 2
-      else if k then Separator 3
-      else if r then Release else Plain
+      else (if e then Separator 1
+      else (if p then Separator 2
+      else (if k then Separator 3
+      else (if r then Release else Plain))))
 
   played_release : (t e p k r : Bool) → (r && not (t || (e || (p || k)))) ≡ is_release (played t e p k r)
   played_release true e p k true = refl

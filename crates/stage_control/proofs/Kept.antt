@@ -1,4 +1,5 @@
 -- What is kept of the segments that passed: where the references of the nearest headers are spelled, and the counters. Assumes nothing.
+use Rattle.std.specs.Prelude.{if◌then◌else◌}
 use Prim.Native.Nat.{ℕ, ◌≤◌}
 use mathlib.Core.Path.{◌≡◌, refl, sym, ap, subst⁻¹, ◌∙◌}
 use mathlib.Core.Bool.{Bool, true, false, ◌||◌}
@@ -9,7 +10,7 @@ use native.Mathlib.Nat.{le_refl}
 use lib.ListN.{length, get_or}
 use lib.Dec.{eqb, leb}
 use borrow.Author.Tests.{eqb-true, leb-true}
-use Rattle.lists.specs.Lists.{if◌then◌else◌, same, through, first, gather, maybe}
+use Rattle.lists.specs.Lists.{same, through, first, gather, maybe}
 use Rattle.lists.proofs.Texts.{and_left, and_right}
 use Rattle.characters.specs.declared.Characters.{Characters}
 use Rattle.characters.specs.Characters.{between}

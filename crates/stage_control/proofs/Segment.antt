@@ -1,4 +1,5 @@
 -- The answer for one segment, computed from what is kept, is the stage's answer after all that passed. Assumes nothing.
+use Rattle.std.specs.Prelude.{if◌then◌else◌}
 use Prim.Native.Nat.{ℕ, ◌<◌}
 use mathlib.Core.Path.{◌≡◌, refl, sym, ap, ap₂, subst, ◌∙◌}
 use mathlib.Core.Bool.{Bool, true, false, not, ◌&&◌, ◌||◌}
@@ -8,7 +9,7 @@ use mathlib.Core.Logic.{◌⊎◌, inl, inr, ⊎_elim}
 use native.Mathlib.Omega.{arith}
 use lib.ListN.{length}
 use lib.Dec.{eqb}
-use Rattle.lists.specs.Lists.{if◌then◌else◌, same, through, maybe}
+use Rattle.lists.specs.Lists.{same, through, maybe}
 use Rattle.characters.specs.declared.Characters.{Characters}
 use Rattle.refusals.specs.declared.Fault.TheVariants.{BadControl, ReferenceDiffers, CountWrong}
 use Rattle.refusals.specs.declared.Outcome.{Outcome}
@@ -41,17 +42,17 @@ use Rattle.stage_control.proofs.Kept.{reference_filled, same_unless, Spelled, Ke
 abbrev asked : ℕ → Bool → Bool → Bool → Bool → Bool → Bool → Outcome
 asked at unnamed named uncounted counted alike right =
     if unnamed then Passed
-    else if named
+    else (if named
     then (if uncounted then Passed
-    else if counted
+    else (if counted
     then (if alike then (if right then Passed else failed_at CountWrong at) else failed_at ReferenceDiffers at)
+    else failed_at BadControl at))
     else failed_at BadControl at)
-    else failed_at BadControl at
 
 -- as the stage says: the rule, another reference, a wrong count
 abbrev said : ℕ → Bool → Bool → Bool → Outcome
 said at rule differs wrong =
-    outcome (if rule then (if differs then refuse ReferenceDiffers at else if wrong then refuse CountWrong at else none) else refuse BadControl at)
+    outcome (if rule then (if differs then refuse ReferenceDiffers at else (if wrong then refuse CountWrong at else none)) else refuse BadControl at)
 
 -- without a count
 plain_answers : (at : ℕ) (unnamed named counted alike right : Bool)

@@ -1,4 +1,5 @@
 -- The walk of stage (10 11 12) from a place on, by the answer for the segment that begins there. Assumes nothing.
+use Rattle.std.specs.Prelude.{if◌then◌else◌}
 use Prim.Native.Nat.{ℕ, ◌-◌, ◌≤◌, ◌<◌}
 use mathlib.Core.Path.{◌≡◌, refl, sym, ap, subst, subst⁻¹, subst₂, ◌∙◌}
 use mathlib.Core.Bool.{Bool, true, false}
@@ -6,7 +7,6 @@ use mathlib.Core.List.{List, [], ◌∷◌, map}
 use mathlib.Core.Option.{Option, none, some}
 use native.Mathlib.Omega.{arith}
 use lib.ListN.{length, length-map}
-use Rattle.lists.specs.Lists.{if◌then◌else◌}
 use Rattle.characters.specs.declared.Characters.{Characters}
 use Rattle.refusals.specs.declared.Fault.TheVariants.{BadControl, ReferenceDiffers, CountWrong}
 use Rattle.refusals.specs.declared.Refusal.{Refusal}
@@ -56,7 +56,7 @@ rule_kept : (past : List Segment) (g : Segment) → outcome (controlled_segment 
 unfolding controlled_segment outcome
 rule_kept past g h =
     step (control_rule g)
-    (if reference_differs past g then refuse ReferenceDiffers (start g) else if count_wrong past g then refuse CountWrong (start g) else none)
+    (if reference_differs past g then refuse ReferenceDiffers (start g) else (if count_wrong past g then refuse CountWrong (start g) else none))
     h
   where
     step : (rule : Bool) (later : Option Refusal) → outcome (if rule then later else refuse BadControl (start g)) ≡ Passed → rule ≡ true

@@ -1,7 +1,7 @@
 -- The answer for one segment in stage (10 11 12), from what is kept of those that passed: where the nearest headers' references
 -- are spelled, and the counters. Assumes nothing.
-use Rattle.std.specs.Prelude.{ℕ, ◌+◌, List, eqb}
-use Rattle.lists.specs.Lists.{if◌then◌else◌, same}
+use Rattle.std.specs.Prelude.{ℕ, ◌+◌, List, eqb, if◌then◌else◌}
+use Rattle.lists.specs.Lists.{same}
 use Rattle.characters.specs.declared.Characters.{Characters}
 use Rattle.refusals.specs.declared.Fault.TheVariants.{BadControl, ReferenceDiffers, CountWrong}
 use Rattle.refusals.specs.declared.Outcome.{Outcome}
@@ -87,7 +87,7 @@ trailer_at c s at reference counted header count =
 unfoldable pub controlled_by : Characters → List ℕ → ℕ → Positions → ℕ → ℕ → ℕ → Outcome
 controlled_by c s at p reference header count =
     if eqb p.reference 0 then Passed
-    else if spells_reference (field_of (tokens_at c s reference))
+    else (if spells_reference (field_of (tokens_at c s reference))
     then (if eqb p.count 0 then Passed
     else trailer_by at (tokens_at c s reference) (element_from p.count (tokens_at c s at)) (tokens_at c s header) count)
-    else failed_at BadControl at
+    else failed_at BadControl at)

@@ -1,4 +1,5 @@
 -- How an input begins: a text stands at a place exactly where its bytes stand there, one after another. Assumes nothing.
+use Rattle.std.specs.Prelude.{if◌then◌else◌}
 use Prim.Native.Nat.{ℕ, ◌+◌, ◌≤◌, ◌<◌, zero-le, suc-le-suc}
 use mathlib.Core.Path.{◌≡◌, refl, sym, ap, ap₂, ◌∙◌}
 use mathlib.Core.Bool.{Bool, true, false, not, ◌&&◌, ◌||◌, and_assoc, and-true, or-false, or_self, false≢true}
@@ -8,7 +9,7 @@ use native.Mathlib.Omega.{arith}
 use lib.ListN.{length, get_or, drop, drop_of_length-le, length-drop}
 use lib.Seq.{drop-cons, drop-drop, get_or-drop}
 use lib.Dec.{eqb, ltb}
-use Rattle.lists.specs.Lists.{if◌then◌else◌, text, begins}
+use Rattle.lists.specs.Lists.{text, begins}
 use Rattle.lists.proofs.Texts.{and_right, if_true}
 use Rattle.characters.specs.declared.Characters.{Characters}
 use Rattle.characters.specs.Characters.{six_bytes, advised, usable, plus_characters, star_characters, control_characters, begins_version4, characters_of, after_breaks, body_start, body, bad_advice, opens}

@@ -1,10 +1,11 @@
 -- What stages 2 and 3 answer, by the tests that they make. Assumes nothing.
+use Rattle.std.specs.Prelude.{if◌then◌else◌}
 use Prim.Native.Nat.{ℕ}
 use mathlib.Core.Path.{◌≡◌, refl, sym, ap, ◌∙◌}
 use mathlib.Core.Bool.{Bool, true, false, not}
 use mathlib.Core.List.{List, [], ◌∷◌}
 use mathlib.Core.Option.{Option, none, some}
-use Rattle.lists.specs.Lists.{if◌then◌else◌, all, those, maybe}
+use Rattle.lists.specs.Lists.{all, those, maybe}
 use Rattle.characters.specs.declared.Characters.{Characters}
 use Rattle.characters.specs.Characters.{characters_of, body_start, bad_advice, opens}
 use Rattle.refusals.specs.declared.Fault.TheVariants.{UnusableAdvice, NoOpening}
@@ -22,7 +23,7 @@ use Rattle.stage_opening.specs.Runs.{found_by, progress}
 module _ (s : List ℕ) where
   -- the refusal of the first test that refuses, if any
   asked : {bad opening : Bool} → bad_advice s ≡ bad → opens s ≡ opening → answering (stages_in s 2 3)
-      ≡ (if bad then some (record { fault = UnusableAdvice; place = 0 }) else if not opening then some (record { fault = NoOpening; place = body_start s }) else none)
+      ≡ (if bad then some (record { fault = UnusableAdvice; place = 0 }) else (if not opening then some (record { fault = NoOpening; place = body_start s }) else none))
   unfolding stages_in brackets_in brackets those all bracketed places_of unusable_advice no_opening answering
   asked {bad} e d =
       one_place UnusableAdvice 0 (met NoOpening (no_opening s) ∷ []) e

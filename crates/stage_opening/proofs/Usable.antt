@@ -1,10 +1,11 @@
 -- When six bytes are usable, as the code asks it: the definition's tests, bracketed as the code brackets them. Assumes nothing.
+use Rattle.std.specs.Prelude.{if◌then◌else◌}
 use Prim.Native.Nat.{ℕ}
 use mathlib.Core.Path.{◌≡◌, refl, sym, ap, ap₂, ◌∙◌}
 use mathlib.Core.Bool.{Bool, true, false, not, ◌&&◌, ◌||◌, and_assoc, and-true, or_assoc, or-false}
 use mathlib.Core.List.{[], ◌∷◌, ◌++◌}
 use lib.Dec.{eqb}
-use Rattle.lists.specs.Lists.{if◌then◌else◌, member, all_differ, all}
+use Rattle.lists.specs.Lists.{member, all_differ, all}
 use Rattle.characters.specs.declared.Characters.{Characters}
 use Rattle.characters.specs.Characters.{between, upper, lower, digit, separates, has_release, has_repetition, service_characters, usable}
 use Rattle.stage_opening.specs.Optional.{optional}

@@ -1,7 +1,7 @@
 -- Paper 01, "The first failing stage answers": what a run of stages answers, which is the refusal, or what was found of the input on
 -- the way. Assumes nothing.
-use Rattle.std.specs.Prelude.{ℕ, List, [], reverse, leb}
-use Rattle.lists.specs.Lists.{if◌then◌else◌, maybe}
+use Rattle.std.specs.Prelude.{ℕ, List, [], reverse, leb, if◌then◌else◌}
+use Rattle.lists.specs.Lists.{maybe}
 use Rattle.characters.specs.Characters.{characters_of, body_start}
 use Rattle.refusals.specs.Refusals.{answering}
 use Rattle.segments.specs.declared.Section.TheVariants.{None}

@@ -4,8 +4,8 @@
 // holds is left to others.
 #![tactic(auto)]
 
-ghost use Rattle.std.specs.Prelude.{◌≡◌, not, ◌||◌, [], ◌∷◌, ◌++◌, ◌+◌, get_or, drop};
-ghost use Rattle.lists.specs.Lists.{if◌then◌else◌, text, begins, member, all_differ, all};
+ghost use Rattle.std.specs.Prelude.{◌≡◌, not, ◌||◌, [], ◌∷◌, ◌++◌, ◌+◌, get_or, drop, if◌then◌else◌};
+ghost use Rattle.lists.specs.Lists.{text, begins, member, all_differ, all};
 ghost use Rattle.characters.specs.Characters.{between, separates, usable, advised, plus_characters, star_characters, characters_of, body_start, bad_advice, opens};
 ghost use Rattle.stage_opening.specs.Optional.{optional};
 ghost use Rattle.stage_opening.specs.Runs.{progress};

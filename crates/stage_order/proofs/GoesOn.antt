@@ -1,11 +1,12 @@
 -- The walk from its beginning over all segments answers as stage 9 does. Assumes nothing.
+use Rattle.std.specs.Prelude.{if◌then◌else◌}
 use Prim.Native.Nat.{ℕ, ◌≤◌, ◌<◌}
 use mathlib.Core.Path.{◌≡◌, refl, sym, ap, ◌∙◌}
 use mathlib.Core.Bool.{Bool, true, false, ◌&&◌}
 use mathlib.Core.List.{List, [], ◌∷◌, map, reverse_aux}
 use mathlib.Core.Option.{Option, none}
 use lib.ListN.{length}
-use Rattle.lists.specs.Lists.{if◌then◌else◌, those, through, at, beyond, maybe}
+use Rattle.lists.specs.Lists.{those, through, at, beyond, maybe}
 use Rattle.lists.proofs.Texts.{and_left, and_right, and_both, if_true, if_false}
 use Rattle.characters.specs.declared.Characters.{Characters}
 use Rattle.refusals.specs.declared.Fault.TheVariants.{MisplacedSegment}

@@ -1,10 +1,11 @@
 -- The section that a UNS names in its trimmed contents, by its first element where that is spelled. Assumes nothing.
+use Rattle.std.specs.Prelude.{if◌then◌else◌}
 use Prim.Native.Nat.{ℕ}
 use mathlib.Core.Path.{◌≡◌, refl, sym, ap, ◌∙◌}
 use mathlib.Core.Bool.{Bool, true, false}
 use mathlib.Core.List.{List}
 use mathlib.Core.Option.{none, some}
-use Rattle.lists.specs.Lists.{if◌then◌else◌, same, maybe}
+use Rattle.lists.specs.Lists.{same, maybe}
 use Rattle.characters.specs.declared.Characters.{Characters}
 use Rattle.values.specs.Tokens.{Token, tokens_at}
 use Rattle.segments.specs.declared.Section.TheVariants.{None}

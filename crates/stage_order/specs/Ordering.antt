@@ -1,8 +1,7 @@
 -- What stage 9 answers, and the same as a walk that knows only where it stands, which section it is in and what it has counted.
 -- `size` is the length of the input. Assumes nothing.
-use Rattle.std.specs.Prelude.{ℕ, List, [], ◌∷◌, map, reverse}
+use Rattle.std.specs.Prelude.{ℕ, List, [], ◌∷◌, map, reverse, if◌then◌else◌}
 use Rattle.std.proofs.Math.Option.{Option, none, some}
-use Rattle.lists.specs.Lists.{if◌then◌else◌}
 use Rattle.refusals.specs.declared.Fault.TheVariants.{MisplacedSegment}
 use Rattle.refusals.specs.declared.Refusal.{Refusal}
 use Rattle.values.specs.Tokens.{Token, Segment, segments, start}

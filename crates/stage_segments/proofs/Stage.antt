@@ -1,4 +1,5 @@
 -- The walk of stage (4 5 6) from a place on, by what the scanner says of the segment that begins there. Assumes nothing.
+use Rattle.std.specs.Prelude.{if◌then◌else◌}
 use Prim.Native.Nat.{ℕ, ◌≤◌, ◌<◌}
 use mathlib.Core.Path.{◌≡◌, refl, sym, ap, ap₂, ◌∙◌, subst}
 use mathlib.Core.Bool.{Bool, true, false}
@@ -6,7 +7,7 @@ use mathlib.Core.List.{List, [], ◌∷◌}
 use mathlib.Core.Option.{Option, none, some}
 use lib.ListN.{length}
 use lib.Dec.{leb}
-use Rattle.lists.specs.Lists.{if◌then◌else◌, through, last_or, maybe, beyond}
+use Rattle.lists.specs.Lists.{through, last_or, maybe, beyond}
 use Rattle.lists.proofs.Pieces.{beyond_hit, beyond_miss, cut_first}
 use Rattle.characters.specs.declared.Characters.{Characters}
 use Rattle.refusals.specs.declared.Fault.TheVariants.{StrayRelease, UnendedSegment, BrokenTag}

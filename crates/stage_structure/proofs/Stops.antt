@@ -1,4 +1,5 @@
 -- Stage 22 at a place of the input: what a message's walk leaves there, and one segment or one message on. Assumes nothing.
+use Rattle.std.specs.Prelude.{if◌then◌else◌}
 use Prim.Native.Nat.{ℕ, ◌≤◌, ◌<◌}
 use mathlib.Core.Path.{◌≡◌, refl, sym, ap, ◌∙◌}
 use mathlib.Core.Bool.{Bool, true, false}
@@ -7,7 +8,7 @@ use mathlib.Core.Option.{Option, none, some}
 use lib.ListN.{length}
 use lib.Dec.{ltb}
 use borrow.Author.Tests.{ltb-true, ltb-false}
-use Rattle.lists.specs.Lists.{if◌then◌else◌, through as up_to, at as nth, maybe, same, gather}
+use Rattle.lists.specs.Lists.{through as up_to, at as nth, maybe, same, gather}
 use Rattle.lists.proofs.Texts.{if_true, if_false}
 use Rattle.characters.specs.declared.Characters.{Characters}
 use Rattle.values.specs.Tokens.{Token, Segment, ends, segments, start, tokens_at}

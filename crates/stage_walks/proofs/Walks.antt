@@ -1,4 +1,5 @@
 -- The walks of 8, 9 and (10 11 12) answer what their stages answer, for every input. Assumes nothing.
+use Rattle.std.specs.Prelude.{if◌then◌else◌}
 use Prim.Native.Nat.{ℕ, ◌≤◌}
 use mathlib.Core.Path.{◌≡◌, refl, ap, ◌∙◌}
 use mathlib.Core.Bool.{Bool, true, false, not, ◌&&◌}
@@ -8,7 +9,7 @@ use mathlib.Core.Option.{Option, none, some}
 use lib.ListN.{length}
 use lib.Dec.{lit≤}
 use native.Mathlib.Omega.{arith}
-use Rattle.lists.specs.Lists.{if◌then◌else◌, all, those}
+use Rattle.lists.specs.Lists.{all, those}
 use Rattle.lists.proofs.Texts.{if_false}
 use Rattle.refusals.specs.declared.Fault.{Fault}
 use Rattle.refusals.specs.declared.Fault.TheVariants.{OutsideLevel, MisplacedSegment, BadControl, ReferenceDiffers, CountWrong}
@@ -121,7 +122,7 @@ control_answers low high past g spans = simp (lowest_append, lowest_if) (step (c
 
     step : (a b c : Bool)
         → merge (merge (if not a then bad else none) (if b then differs else none)) (if c then wrong else none)
-        ≡ (if a then (if b then differs else if c then wrong else none) else bad)
+        ≡ (if a then (if b then differs else (if c then wrong else none)) else bad)
     step true true c = lower_number ReferenceDiffers CountWrong (start g) c (lit≤ tt)
     step true false c = refl
     step false b c =

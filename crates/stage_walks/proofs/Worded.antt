@@ -1,6 +1,7 @@
 -- The walk over releases, terminators and tags answers what the stage of 4, 5 and 6 answers. A fault 4 leaves its segment
 -- unfinished, so that it excludes 6 there; 5 lies after all others and belongs to the last segment, if that is not ended.
 -- Assumes nothing.
+use Rattle.std.specs.Prelude.{if◌then◌else◌}
 use Prim.Native.Nat.{ℕ}
 use mathlib.Core.Path.{◌≡◌, refl, sym, ap, ap₂, subst, ◌∙◌}
 use mathlib.Core.Bool.{Bool, true, false, not, ◌&&◌}
@@ -8,7 +9,7 @@ use mathlib.Core.List.{List, [], ◌∷◌, ◌++◌, append_assoc}
 use mathlib.Core.Option.{Option, none, some}
 use lib.ListN.{length}
 use native.Mathlib.Omega.{arith}
-use Rattle.lists.specs.Lists.{if◌then◌else◌, is_empty, all, those, last_or, through, onto, cut, gather, maybe}
+use Rattle.lists.specs.Lists.{is_empty, all, those, last_or, through, onto, cut, gather, maybe}
 use Rattle.lists.proofs.Pieces.{cut_first, gather_cut}
 use Rattle.refusals.specs.declared.Fault.TheVariants.{StrayRelease, UnendedSegment, BrokenTag}
 use Rattle.refusals.specs.declared.Refusal.{Refusal}

@@ -1,8 +1,8 @@
 -- Each stage after the opening as a walk over the tokens or the segments, from left to right, that stops at the first fault.
 -- `size` is the length of the input. Assumes nothing.
-use Rattle.std.specs.Prelude.{ℕ, Bool, true, false, ◌&&◌, List, [], ◌∷◌, map, reverse}
+use Rattle.std.specs.Prelude.{ℕ, Bool, true, false, ◌&&◌, List, [], ◌∷◌, map, reverse, if◌then◌else◌}
 use Rattle.std.proofs.Math.Option.{Option, none, some}
-use Rattle.lists.specs.Lists.{if◌then◌else◌, maybe}
+use Rattle.lists.specs.Lists.{maybe}
 use Rattle.refusals.specs.declared.Fault.{Fault}
 use Rattle.refusals.specs.declared.Fault.TheVariants.{StrayRelease, UnendedSegment, BrokenTag, OutsideLevel, MisplacedSegment, BadControl, ReferenceDiffers, CountWrong}
 use Rattle.refusals.specs.declared.Refusal.{Refusal}
@@ -66,7 +66,7 @@ ordered size ts =
 unfoldable pub controlled_segment : List Segment → Segment → Option Refusal
 controlled_segment past g =
     if control_rule g
-    then (if reference_differs past g then refuse ReferenceDiffers (start g) else if count_wrong past g then refuse CountWrong (start g) else none)
+    then (if reference_differs past g then refuse ReferenceDiffers (start g) else (if count_wrong past g then refuse CountWrong (start g) else none))
     else refuse BadControl (start g)
 
 unfoldable pub controlled : List Token → Option Refusal

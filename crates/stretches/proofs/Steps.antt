@@ -1,4 +1,5 @@
 -- A stretch byte by byte: how far it goes on, and how it is stored. Assumes nothing.
+use Rattle.std.specs.Prelude.{if◌then◌else◌}
 use Prim.Native.Nat.{ℕ, zero, suc, ◌+◌, ◌-◌, ◌≤◌, ◌<◌}
 use mathlib.Core.Path.{◌≡◌, refl, sym, ap, ap₂, ◌∙◌}
 use mathlib.Core.Bool.{Bool, true, false, ◌&&◌, ◌||◌}
@@ -9,7 +10,6 @@ use native.Mathlib.Nat.{lt_of_not-le}
 use lib.Dec.{eqb}
 use lib.ListN.{length, get_or, set}
 use lib.Seq.{sets}
-use Rattle.lists.specs.Lists.{if◌then◌else◌}
 use Rattle.characters.specs.declared.Characters.{Characters}
 use Rattle.characters.specs.declared.Role.TheVariants.{Release, Plain}
 use Rattle.characters.specs.Characters.{role, has_release, has_repetition}

@@ -1,9 +1,9 @@
 -- Request 2026-08 on tables and bodies that are written out: which entry is at fault, where the walk stops, and what the second Judge
 -- answers. Assumes nothing.
-use Rattle.std.specs.Prelude.{ℕ, zero, suc, ◌+◌, ◌-◌, ◌*◌, ◌/◌, ◌%◌, Bool, true, false, not, ◌&&◌, List, [], ◌∷◌, ◌++◌, map, length, take, replicate, eqb}
+use Rattle.std.specs.Prelude.{ℕ, zero, suc, ◌+◌, ◌-◌, ◌*◌, ◌/◌, ◌%◌, Bool, true, false, not, ◌&&◌, List, [], ◌∷◌, ◌++◌, map, length, take, replicate, eqb, if◌then◌else◌}
 use Prim.Native.String.{String}
 use Rattle.std.proofs.Math.Option.{Option, none, some}
-use Rattle.lists.specs.Lists.{if◌then◌else◌, text, cut, maybe}
+use Rattle.lists.specs.Lists.{text, cut, maybe}
 use Rattle.refusals.specs.declared.Fault.TheVariants.{UnsoundTable}
 use Rattle.refusals.specs.Refusals.{met, lowest}
 use Rattle.message_tables.specs.Soundness.{table_faults, is_sound}

@@ -1,11 +1,11 @@
 -- The walk looks at nothing but tags: over anything that has tags it goes as over the tags themselves. Assumes nothing.
+use Rattle.std.specs.Prelude.{if◌then◌else◌}
 use Prim.Native.Nat.{ℕ, zero, suc}
 use mathlib.Core.Path.{◌≡◌, refl, ap, ◌∙◌}
 use mathlib.Core.Bool.{Bool, true, false, not, ◌&&◌}
 use mathlib.Core.List.{List, [], ◌∷◌, map}
 use mathlib.Core.Option
 use lib.ListN.{drop}
-use Rattle.lists.specs.Lists.{if◌then◌else◌}
 use Rattle.message_tables.specs.Structure.{Structure, done, entry}
 use Rattle.message_structures.specs.Walking.{Walked, stopped, through, onward, leads, repeated, walk, left_over, unmatched}
 

@@ -1,4 +1,5 @@
 -- What the walk goes through, the language of the structure spells: no hypothesis on the tags. Assumes nothing.
+use Rattle.std.specs.Prelude.{if◌then◌else◌}
 use Prim.Native.Nat.{ℕ, zero, suc, ◌≤◌}
 use mathlib.Core.Path.{◌≡◌, refl, sym, ap, subst, ◌∙◌}
 use mathlib.Core.Bool.{Bool, true, false, not, ◌&&◌, false≢true}
@@ -7,7 +8,7 @@ use mathlib.Core.Option.{none, some-ne-none}
 use native.Mathlib.Omega.{arith}
 use native.Mathlib.Nat.{le_refl}
 use lib.ListN.{drop}
-use Rattle.lists.specs.Lists.{if◌then◌else◌, same}
+use Rattle.lists.specs.Lists.{same}
 use Rattle.lists.proofs.Texts.{same_eq}
 use Rattle.message_tables.specs.Structure.{Structure, done, entry}
 use Rattle.message_structures.specs.Walking.{Walked, stopped, through, onward, leads, repeated, walk, left_over, unmatched}

@@ -1,5 +1,6 @@
 -- Where no tag stands twice in a structure, the walk goes through whatever the structure spells, and leaves what follows it, if that begins with
 -- no tag of the structure. The first tag of what is left over then tells which entry has its turn. Assumes nothing.
+use Rattle.std.specs.Prelude.{if◌then◌else◌}
 use Prim.Native.Nat.{ℕ, zero, suc, ◌≤◌}
 use mathlib.Core.Path.{◌≡◌, refl, sym, ap, subst, ◌∙◌}
 use mathlib.Core.Bool.{Bool, true, false, not, ◌&&◌, false≢true}
@@ -9,7 +10,7 @@ use mathlib.Core.Option.{none}
 use mathlib.Core.Logic.{◌⊎◌, inl, inr, ⊎_elim}
 use native.Mathlib.Omega.{arith}
 use lib.ListN.{drop}
-use Rattle.lists.specs.Lists.{if◌then◌else◌, same}
+use Rattle.lists.specs.Lists.{same}
 use Rattle.lists.proofs.Texts.{decided, same_eq, same_refl}
 use Rattle.message_tables.specs.Structure.{Structure, done, entry, tags_in}
 use Rattle.message_structures.specs.Walking.{Walked, stopped, through, onward, leads, repeated, walk, left_over, unmatched}

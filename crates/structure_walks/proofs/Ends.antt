@@ -1,5 +1,6 @@
 -- What a walk takes is the front of the list, made of the structure's tags; what it leaves is the rest. Behind a list that begins with another
 -- tag it does not go. Assumes nothing.
+use Rattle.std.specs.Prelude.{if◌then◌else◌}
 use Prim.Native.Nat.{ℕ, zero, suc}
 use mathlib.Core.Path.{◌≡◌, refl, sym, ap, ap₂, subst, ◌∙◌}
 use mathlib.Core.Bool.{Bool, true, false, not, ◌&&◌}
@@ -8,7 +9,7 @@ use mathlib.Core.List.Memᴰ
 use mathlib.Core.List.{List, [], ◌∷◌, ◌++◌, append_assoc, Memᴰ}
 use mathlib.Core.Option.{some, none-ne-some, some-injective}
 use lib.ListN.{drop}
-use Rattle.lists.specs.Lists.{if◌then◌else◌, same}
+use Rattle.lists.specs.Lists.{same}
 use Rattle.lists.proofs.Texts.{same_eq}
 use Rattle.message_tables.specs.Structure.{Structure, done, entry, tags_in}
 use Rattle.message_structures.specs.Walking.{Walked, stopped, through, onward, leads, repeated, walk, left_over, unmatched}

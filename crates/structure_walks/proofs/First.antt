@@ -1,4 +1,5 @@
 -- The first stop, from left to right, is the lowest place of refusal 22. Assumes nothing.
+use Rattle.std.specs.Prelude.{if◌then◌else◌}
 use Prim.Native.Nat.{ℕ, ◌≤◌}
 use mathlib.Core.Path.{◌≡◌, refl, sym, ap, subst, ◌∙◌}
 use mathlib.Core.Bool.{Bool, true, false, ◌||◌, false≢true}
@@ -7,7 +8,7 @@ use mathlib.Core.List.{List, [], ◌∷◌, ◌++◌, Memᴰ}
 use mathlib.Core.Option.{Option, none, some, none-ne-some, some-injective}
 use native.Mathlib.Omega.{arith}
 use lib.ListN.{length}
-use Rattle.lists.specs.Lists.{if◌then◌else◌, all, any, those, first, at, maybe}
+use Rattle.lists.specs.Lists.{all, any, those, first, at, maybe}
 use Rattle.refusals.specs.declared.Fault.TheVariants.{MisplacedSegment, UnmatchedBody}
 use Rattle.refusals.specs.declared.Refusal.{Refusal}
 use Rattle.refusals.specs.Refusals.{Stage, met, or_else, answering}

@@ -1,10 +1,11 @@
 -- UNH and UNT never stand in a sound table, so that no walk takes them. Assumes nothing.
+use Rattle.std.specs.Prelude.{if◌then◌else◌}
 use Prim.Native.Nat.{ℕ}
 use mathlib.Core.Path.{◌≡◌, refl, sym, ap, subst, ◌∙◌}
 use mathlib.Core.Bool.{Bool, true, false, not, ◌&&◌, ◌||◌}
 use mathlib.Core.List.{List, Memᴰ}
 use native.Mathlib.Omega.{arith}
-use Rattle.lists.specs.Lists.{if◌then◌else◌, text, same, begins, all}
+use Rattle.lists.specs.Lists.{text, same, begins, all}
 use Rattle.lists.proofs.Texts.{same_eq}
 use Rattle.characters.specs.Characters.{between, upper, digit}
 use Rattle.values.specs.Tokens.{Segment}
@@ -19,7 +20,7 @@ use Rattle.message_table_laws.proofs.Tags.{never_tagged}
 -- the kind that seven tests name, in their order
 abbrev picked : (b g h s t e z : Bool) → Kind
 picked b g h s t e z =
-    if b then Unb else if g then Ung else if h then Unh else if s then Uns else if t then Unt else if e then Une else if z then Unz else User
+    if b then Unb else (if g then Ung else (if h then Unh else (if s then Uns else (if t then Unt else (if e then Une else (if z then Unz else User))))))
 
 header_picked : (b g h s t e z : Bool) → picked b g h s t e z ≡ Unh → h ≡ true
 header_picked true g h s t e z q = absurd (omega (arith, ap index q))

@@ -1,7 +1,7 @@
 -- Stage 22 as a walk over the segments, from left to right, that stops in the first message that does not match. Assumes nothing.
-use Rattle.std.specs.Prelude.{ℕ, Bool, false, List, [], ◌∷◌}
+use Rattle.std.specs.Prelude.{ℕ, Bool, false, List, [], ◌∷◌, if◌then◌else◌}
 use Rattle.std.proofs.Math.Option.{Option, none, some}
-use Rattle.lists.specs.Lists.{if◌then◌else◌, at, maybe}
+use Rattle.lists.specs.Lists.{at, maybe}
 use Rattle.values.specs.Tokens.{Segment, start}
 use Rattle.segments.specs.declared.Kind.TheVariants.{Unh}
 use Rattle.segments.specs.Kinds.{is}

@@ -1,4 +1,5 @@
 -- The structs of the morning figures and of a piece's end are those that the definitions give. Assumes nothing.
+use Rattle.std.specs.Prelude.{if◌then◌else◌}
 use Prim.Native.Nat.{ℕ, ◌+◌}
 use mathlib.Core.Path.{◌≡◌, refl, sym, ap, ◌∙◌}
 use mathlib.Core.Bool.{Bool, true, false}
@@ -9,7 +10,7 @@ use lib.Seq.{take-append_seam, get_or-append-add}
 use lib.Dec.{eqb}
 use Rattle.refusals.specs.declared.Refusal.{Refusal}
 use Rattle.refusals.specs.Refusals.{number}
-use Rattle.lists.specs.Lists.{if◌then◌else◌, is_empty, maybe}
+use Rattle.lists.specs.Lists.{is_empty, maybe}
 use Rattle.lists.proofs.Texts.{if_false}
 use Rattle.values.specs.Tokens.{Segment}
 use Rattle.refusals.specs.Refusals.{answering}

@@ -1,7 +1,7 @@
 -- How the other operations' answers are laid out in the structs that cross to C: a number 0 and what
 -- is given, or a refusal's number and place; what is not said is 0. Assumes nothing.
-use Rattle.std.specs.Prelude.{ℕ, ◌≡◌, List, eqb}
-use Rattle.lists.specs.Lists.{if◌then◌else◌, is_empty}
+use Rattle.std.specs.Prelude.{ℕ, ◌≡◌, List, eqb, if◌then◌else◌}
+use Rattle.lists.specs.Lists.{is_empty}
 use Rattle.answers.specs.Answers.{Answer}
 use Rattle.operations.specs.Read.{read, read_bytes, read_table}
 use Rattle.operations.specs.Write.{write, write_output}

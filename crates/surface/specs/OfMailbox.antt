@@ -1,7 +1,7 @@
 -- How the morning figures of a mailbox file are laid out in the struct that crosses to C: a number 0 and the figures; or the refusal's number
 -- and place, and figures that are all 0. And how the first piece of a file ends. Assumes nothing.
-use Rattle.std.specs.Prelude.{ℕ, ◌+◌, List, take, drop, eqb}
-use Rattle.lists.specs.Lists.{if◌then◌else◌, maybe}
+use Rattle.std.specs.Prelude.{ℕ, ◌+◌, List, take, drop, eqb, if◌then◌else◌}
+use Rattle.lists.specs.Lists.{maybe}
 use Rattle.refusals.specs.Refusals.{number}
 use Rattle.answers.specs.Answers.{Answer}
 use Rattle.surface.specs.Verdicts.{value}

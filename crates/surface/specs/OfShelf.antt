@@ -1,7 +1,6 @@
 -- How the answers of the shelf's operations are laid out in the structs that cross to C: a number 0 and what
 -- is given, or a refusal's number and place; what is not said is 0. Assumes nothing.
-use Rattle.std.specs.Prelude.{ℕ, eqb}
-use Rattle.lists.specs.Lists.{if◌then◌else◌}
+use Rattle.std.specs.Prelude.{ℕ, eqb, if◌then◌else◌}
 use Rattle.answers.specs.Answers.{Answer}
 use Rattle.surface.specs.Verdicts.{value}
 use Rattle.surface.specs.declared.Started.{Started}

@@ -1,7 +1,6 @@
 -- How Judge's answer is laid out in the struct that crosses to C: a number 0 and an accepted
 -- interchange's ten values, or a refusal's number and place. Assumes nothing.
-use Rattle.std.specs.Prelude.{ℕ, get_or, eqb}
-use Rattle.lists.specs.Lists.{if◌then◌else◌}
+use Rattle.std.specs.Prelude.{ℕ, get_or, eqb, if◌then◌else◌}
 use Rattle.answers.specs.Answers.{Answer}
 use Rattle.surface.specs.declared.Verdict.{Verdict}
 

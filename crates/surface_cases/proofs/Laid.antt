@@ -1,9 +1,10 @@
 -- The surface lays each case of each answer out in the struct that is meant for it. Assumes nothing.
+use Rattle.std.specs.Prelude.{if◌then◌else◌}
 use Prim.Native.Nat.{ℕ}
 use mathlib.Core.Path.{◌≡◌, refl}
 use mathlib.Core.List.{[]}
 use lib.Dec.{eqb}
-use Rattle.lists.specs.Lists.{if◌then◌else◌, is_empty}
+use Rattle.lists.specs.Lists.{is_empty}
 use Rattle.lists.proofs.Texts.{if_false}
 use Rattle.characters.specs.Characters.{spelled_out}
 use Rattle.refusals.specs.declared.Refusal.{Refusal}

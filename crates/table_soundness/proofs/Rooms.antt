@@ -1,4 +1,5 @@
 -- The rooms of the groups that hold an entry, from where they end: opened, passed and ended. Assumes nothing.
+use Rattle.std.specs.Prelude.{if◌then◌else◌}
 use Prim.Native.Nat.{ℕ, zero, suc, ◌+◌, ◌-◌, ◌≤◌, ◌<◌}
 use mathlib.Core.Path.{◌≡◌, refl, ap, ap₂, subst, ◌∙◌}
 use mathlib.Core.Bool.{Bool, true, false}
@@ -8,7 +9,6 @@ use lib.ListN.{length, get_or, set}
 use lib.Seq.{get_or-set_same, get_or-set_other}
 use lib.Dec.{leb}
 use borrow.Author.Tests.{le-leb, lt-leb}
-use Rattle.lists.specs.Lists.{if◌then◌else◌}
 use Rattle.refusals.specs.Refusals.{place_if}
 use Rattle.message_table_laws.specs.Scanning.{lower, nearest, Rises}
 use Rattle.table_soundness.specs.Fitting.{rooms_in, Nested}

@@ -1,4 +1,5 @@
 -- The scan one entry at a time, with what the code keeps. Assumes nothing.
+use Rattle.std.specs.Prelude.{if◌then◌else◌}
 use Prim.Native.Nat.{ℕ, zero, suc, ◌+◌, ◌-◌, ◌*◌, ◌%◌, ◌≤◌, ◌<◌}
 use mathlib.Core.Path.{◌≡◌, refl, sym, ap, subst, ◌∙◌}
 use mathlib.Core.Bool.{Bool, true, false, not, ◌&&◌, ◌||◌}
@@ -8,7 +9,7 @@ use native.Mathlib.Omega.{arith}
 use lib.ListN.{length, drop, get_or, set, length-drop, drop_of_length-le}
 use lib.Dec.{eqb, leb, ltb}
 use borrow.Author.Tests.{leb-true, ltb-true, ltb-false, eqb-true, lt-ltb, le-ltb, eq-eqb, ne_eqb}
-use Rattle.lists.specs.Lists.{if◌then◌else◌, maybe}
+use Rattle.lists.specs.Lists.{maybe}
 use Rattle.lists.proofs.Texts.{and_left, and_right, if_true, if_false}
 use Rattle.refusals.specs.declared.Fault.TheVariants.{UnsoundTable}
 use Rattle.refusals.specs.declared.Refusal.{Refusal}

@@ -1,11 +1,12 @@
 -- The tests of an entry, in the order in which the code makes them. Assumes nothing.
+use Rattle.std.specs.Prelude.{if◌then◌else◌}
 use Prim.Native.Nat.{ℕ, ◌≤◌, ◌<◌}
 use mathlib.Core.Path.{◌≡◌, refl, sym, ap, ◌∙◌}
 use mathlib.Core.Bool.{Bool, true, false, not, ◌&&◌, ◌||◌}
 use mathlib.Core.List.{List, [], ◌∷◌}
 use lib.Dec.{eqb, leb, ltb}
 use borrow.Author.Tests.{eq-eqb, ne_eqb, le-leb, lt-leb, lt-ltb, le-ltb}
-use Rattle.lists.specs.Lists.{if◌then◌else◌, text, same, begins, member}
+use Rattle.lists.specs.Lists.{text, same, begins, member}
 use Rattle.characters.specs.Characters.{between}
 use Rattle.segments.specs.Tags.{is_tag}
 use Rattle.message_tables.specs.Entries.{Entry, is_group, is_mandatory}

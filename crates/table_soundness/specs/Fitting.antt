@@ -1,9 +1,9 @@
 -- What is asked of an entry, from what is kept of those before it: whether the last was a group's own, how many groups hold the present one,
 -- and behind which entry each of them ends. `ends` holds first where the table ends, then where the outermost group does, and so on to the
 -- nearest; `next` is the number of the entry that follows the present one. Assumes nothing.
-use Rattle.std.specs.Prelude.{ℕ, zero, suc, ◌-◌, ◌≤◌, Bool, not, ◌&&◌, ◌||◌, List, [], ◌∷◌, get_or, leb, ltb}
+use Rattle.std.specs.Prelude.{ℕ, zero, suc, ◌-◌, ◌≤◌, Bool, not, ◌&&◌, ◌||◌, List, [], ◌∷◌, get_or, leb, ltb, if◌then◌else◌}
 use Rattle.std.proofs.Math.Option.{Option, none, some}
-use Rattle.lists.specs.Lists.{if◌then◌else◌, text, member}
+use Rattle.lists.specs.Lists.{text, member}
 use Rattle.characters.specs.Characters.{between}
 use Rattle.refusals.specs.declared.Fault.TheVariants.{UnsoundTable}
 use Rattle.refusals.specs.declared.Outcome.{Outcome}

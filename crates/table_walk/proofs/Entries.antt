@@ -1,5 +1,6 @@
 -- The entries of a level in the table, one at a time: what an entry holds, and what follows it, are again entries from a number up to another.
 -- Assumes nothing.
+use Rattle.std.specs.Prelude.{if◌then◌else◌}
 use Prim.Native.Nat.{ℕ, zero, suc, ◌+◌, ◌-◌, ◌*◌, ◌≤◌, ◌<◌}
 use mathlib.Core.Path.{◌≡◌, refl, sym, ap, subst, ◌∙◌}
 use mathlib.Core.Bool.{Bool, true, false}
@@ -7,7 +8,7 @@ use mathlib.Core.List.{List, [], ◌∷◌}
 use native.Mathlib.Omega.{arith}
 use lib.ListN.{length, take, drop, length-take}
 use lib.Seq.{take-nil, take-length, take-take, drop-drop}
-use Rattle.lists.specs.Lists.{if◌then◌else◌, same, at, maybe}
+use Rattle.lists.specs.Lists.{same, at, maybe}
 use Rattle.message_tables.specs.Entries.{Entry, entry_of, whole_entries, entries_of, is_group, is_mandatory}
 use Rattle.message_tables.specs.Structure.{Structure, entry, lead_of, held_by, levels}
 use Rattle.message_table_laws.specs.Nesting.{Triggered, Lies, Levels}

@@ -1,6 +1,6 @@
 -- Where the walk stands, and what it is given of a table: the entries from a number up to another. Assumes nothing.
-use Rattle.std.specs.Prelude.{ℕ, ◌+◌, ◌-◌, ◌*◌, ◌≤◌, ◌<◌, ◌≡◌, true, false, List, [], ◌∷◌, length, take, drop, eqb}
-use Rattle.lists.specs.Lists.{if◌then◌else◌, same}
+use Rattle.std.specs.Prelude.{ℕ, ◌+◌, ◌-◌, ◌*◌, ◌≤◌, ◌<◌, ◌≡◌, true, false, List, [], ◌∷◌, length, take, drop, eqb, if◌then◌else◌}
+use Rattle.lists.specs.Lists.{same}
 use Rattle.characters.specs.declared.Characters.{Characters}
 use Rattle.values.specs.Tokens.{Segment, segments, tokens_at}
 use Rattle.segments.specs.Tags.{tag_of}

@@ -1,11 +1,12 @@
 -- Whether an element ends with its first repeat: step by step, and from what ended its first value. Assumes nothing.
+use Rattle.std.specs.Prelude.{if◌then◌else◌}
 use Prim.Native.Nat.{ℕ, ◌≤◌, ◌<◌}
 use mathlib.Core.Path.{◌≡◌, refl, sym, ap, ap₂, ◌∙◌}
 use mathlib.Core.Bool.{Bool, true, false, true≢false}
 use mathlib.Core.List.{List, [], ◌∷◌}
 use lib.Dec.{leb, lit≤}
 use borrow.Author.Tests.{le-leb, lt-leb}
-use Rattle.lists.specs.Lists.{if◌then◌else◌, through, last_or, beyond}
+use Rattle.lists.specs.Lists.{through, last_or, beyond}
 use Rattle.lists.proofs.Texts.{if_true, if_false}
 use Rattle.lists.proofs.Pieces.{beyond_hit, beyond_miss}
 use Rattle.characters.specs.declared.Characters.{Characters}

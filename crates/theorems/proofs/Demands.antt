@@ -1,4 +1,5 @@
 -- All that is demanded holds. Assumes nothing.
+use Rattle.std.specs.Prelude.{if◌then◌else◌}
 use Prim.Native.Nat.{ℕ, ◌≤◌}
 use mathlib.Core.Path.{◌≡◌, refl, sym, ap, ◌∙◌}
 use mathlib.Core.Logic.{◌↔◌, ◌⊎◌, ⊎_elim}
@@ -6,7 +7,7 @@ use mathlib.Core.Bool.{Bool, true, false}
 use mathlib.Core.List.{List, [], ◌∷◌, ◌++◌, map}
 use lib.ListN.{length}
 use mathlib.Core.Option.{none, some}
-use Rattle.lists.specs.Lists.{if◌then◌else◌, is_single, member, all, gather}
+use Rattle.lists.specs.Lists.{is_single, member, all, gather}
 use Rattle.characters.specs.declared.Characters.{Characters}
 use Rattle.characters.specs.Characters.{has_release, has_repetition, service_characters, is_service, usable, six_bytes, advised, advice_of, characters_of, body_start, body, opens}
 use Rattle.levels.specs.Levels.{has_version4}

@@ -1,4 +1,5 @@
 -- The round trips follow from the contracts: each answer gives what the laws about the definitions ask for. Assumes nothing.
+use Rattle.std.specs.Prelude.{if◌then◌else◌}
 use Prim.Native.Nat.{ℕ, ◌≤◌}
 use mathlib.Core.Path.{◌≡◌, refl, sym, ap, ap₂, subst, ◌∙◌}
 use mathlib.Core.Bool.{Bool, true, false}
@@ -7,7 +8,7 @@ use mathlib.Core.Option.{Option, none, some}
 use lib.ListN.{length, take, drop, get_or}
 use lib.Seq.{take_at}
 use lib.Dec.{ltb}
-use Rattle.lists.specs.Lists.{if◌then◌else◌, all, maybe}
+use Rattle.lists.specs.Lists.{all, maybe}
 use Rattle.characters.specs.Characters.{is_break}
 use Rattle.refusals.specs.declared.Fault.{Fault}
 use Rattle.refusals.specs.declared.Fault.TheVariants.{BufferShort}

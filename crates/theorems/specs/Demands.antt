@@ -1,10 +1,10 @@
 -- What is demanded of the definitions, for all inputs. Each field is a theorem; `proofs/Demands.antt` proves the record. Assumes nothing.
-use Rattle.std.specs.Prelude.{ℕ, ◌≤◌, ◌<◌, ◌≡◌, ◌↔◌, ◌⊎◌, true, false, not, length, take, drop, replicate}
+use Rattle.std.specs.Prelude.{ℕ, ◌≤◌, ◌<◌, ◌≡◌, ◌↔◌, ◌⊎◌, true, false, not, length, take, drop, replicate, if◌then◌else◌}
 use Rattle.std.proofs.Common.{⊎_elim}
 use mathlib.Core.List.{List, [], ◌∷◌, ◌++◌, map, Memᴰ}
 use Rattle.std.proofs.Math.Option
 use Rattle.std.proofs.Math.Option.{none, some}
-use Rattle.lists.specs.Lists.{if◌then◌else◌, is_single, all, maybe}
+use Rattle.lists.specs.Lists.{is_single, all, maybe}
 use Rattle.characters.specs.declared.Characters.{Characters}
 use Rattle.characters.specs.Characters.{has_repetition, usable, is_break, advised, advice_of, characters_of, body}
 use Rattle.refusals.specs.declared.Fault.{Fault}

@@ -1,5 +1,6 @@
 -- What is asked of a value of the contents, or of an element that is one repeat or one value, is asked where it is spelled: of any
 -- question to which an empty value is as good as none, as all of the paper's are. Assumes nothing.
+use Rattle.std.specs.Prelude.{if◌then◌else◌}
 use Prim.Native.Nat.{ℕ, zero, suc, ◌≤◌}
 use mathlib.Core.Path.{◌≡◌, refl, sym, ap, ap₂, ◌∙◌}
 use mathlib.Core.Bool.{Bool, true, false, not, ◌&&◌, ◌||◌, false≢true}
@@ -9,7 +10,7 @@ use native.Mathlib.Omega.{arith}
 use lib.Dec.{leb, lit≤}
 use lib.ListN.{drop}
 use borrow.Author.Tests.{not-false}
-use Rattle.lists.specs.Lists.{if◌then◌else◌, is_empty, all, through, at, single, cut, gather, maybe, beyond}
+use Rattle.lists.specs.Lists.{is_empty, all, through, at, single, cut, gather, maybe, beyond}
 use Rattle.lists.proofs.Texts.{if_true, and_left, and_right, gather_append}
 use Rattle.lists.proofs.Pieces.{through_beyond}
 use Rattle.values.specs.Tokens.{Token, byte, separator, fault, ends}
@@ -122,8 +123,8 @@ behind_first (separator rank place ∷ ts) = step (leb rank 1) (leb rank 2) (leb
     step : (a b d : Bool) → ends 1 t ≡ a → ends 2 t ≡ b → ends 3 t ≡ d
         → holds_byte 1 (value_end ts) ≡ (holds_byte 2 (component_from 1 ts) || holds_byte 1 (repeat_from 1 ts))
         → holds_byte 1 (if d then t ∷ ts else value_end ts)
-        ≡ (holds_byte 2 (if b then [] else if d then ts else component_from 1 ts)
-        || holds_byte 1 (if a then [] else if b then ts else repeat_from 1 ts))
+        ≡ (holds_byte 2 (if b then [] else (if d then ts else component_from 1 ts))
+        || holds_byte 1 (if a then [] else (if b then ts else repeat_from 1 ts)))
     step true true true p q z ih = ap (λ (x : Bool). not (is_bare (t ∷ (if x then [] else through (ends 1) ts)))) p
     step false true true p q z ih = ap (λ (x : Bool). not (is_bare (t ∷ (if x then [] else through (ends 1) ts)))) p
     step false false true p q z ih =

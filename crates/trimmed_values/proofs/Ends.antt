@@ -1,12 +1,13 @@
 -- Where tokens do not end inside a segment, every value in them is ended; and what is found among them lies before their end.
 -- Assumes nothing.
+use Rattle.std.specs.Prelude.{if◌then◌else◌}
 use Prim.Native.Nat.{ℕ, zero, suc}
 use mathlib.Core.Path.{◌≡◌, refl}
 use mathlib.Core.Bool.{Bool, true, false}
 use mathlib.Core.List.{List, [], ◌∷◌}
 use lib.Dec.{lit≤}
 use borrow.Author.Tests.{not-false}
-use Rattle.lists.specs.Lists.{if◌then◌else◌, is_empty, last_or, through}
+use Rattle.lists.specs.Lists.{is_empty, last_or, through}
 use Rattle.values.specs.Tokens.{Token, ends, place_of}
 use Rattle.values.specs.Values.{end_place, ended_by, ends_inside}
 use Rattle.values.proofs.Ends.{ends_more}
@@ -36,7 +37,7 @@ from_whole t u (suc k) (x ∷ xs) h =
     step (t x) (u x) (from_whole t u k xs (rest_whole x xs h)) (from_whole t u (suc k) xs (rest_whole x xs h))
   where
     step : (a b : Bool) → Whole (piece_from t u k xs) → Whole (piece_from t u (suc k) xs)
-        → Whole (if a then [] else if b then piece_from t u k xs else piece_from t u (suc k) xs)
+        → Whole (if a then [] else (if b then piece_from t u k xs else piece_from t u (suc k) xs))
     step true b one more = nothing_whole
     step false true one more = one
     step false false one more = more

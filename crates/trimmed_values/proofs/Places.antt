@@ -1,4 +1,5 @@
 -- The place of a value by element, repeat and component, and that the code's tests say whether trimming leaves it. Assumes nothing.
+use Rattle.std.specs.Prelude.{if◌then◌else◌}
 use Prim.Native.Nat.{ℕ, zero, suc, ◌+◌, ◌-◌, ◌≤◌, ◌<◌}
 use mathlib.Core.Path.{◌≡◌, refl, sym, ap, ap₂, subst, ◌∙◌}
 use mathlib.Core.Bool.{Bool, true, false, not, ◌&&◌, false≢true}
@@ -10,7 +11,7 @@ use native.Mathlib.Nat.{lt_of_not-le}
 use lib.ListN.{length}
 use lib.Dec.{ltb}
 use borrow.Author.Tests.{lt-ltb, le-ltb, not-true, not-false}
-use Rattle.lists.specs.Lists.{if◌then◌else◌, is_empty, through, gather}
+use Rattle.lists.specs.Lists.{is_empty, through, gather}
 use Rattle.characters.specs.declared.Characters.{Characters}
 use Rattle.values.specs.Tokens.{Token, ends, place_of, start, tokens_at}
 use Rattle.values.specs.Values.{bytes_of, end_place, value_of}

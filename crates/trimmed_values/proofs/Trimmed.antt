@@ -1,12 +1,13 @@
 -- The law of values by number: what the trimmed contents have at an element, a repeat and a component is the value that the tokens
 -- spell there, if trimming leaves it. It holds of any tokens, ended or not. Assumes nothing.
+use Rattle.std.specs.Prelude.{if◌then◌else◌}
 use Prim.Native.Nat.{ℕ, zero, suc}
 use mathlib.Core.Path.{◌≡◌, refl, sym, ap, ap₂, ◌∙◌}
 use mathlib.Core.Bool.{Bool, true, false, not, ◌&&◌, and-true, and-false}
 use mathlib.Core.List.{List, [], ◌∷◌, ◌++◌, map, map-map}
 use mathlib.Core.Option.{Option, none, some}
 use lib.ListN.{drop}
-use Rattle.lists.specs.Lists.{if◌then◌else◌, is_empty, all, through, at, onto, cut, unless_idle, drop_end, trim_end, gather, maybe, beyond}
+use Rattle.lists.specs.Lists.{is_empty, all, through, at, onto, cut, unless_idle, drop_end, trim_end, gather, maybe, beyond}
 use Rattle.lists.proofs.Texts.{if_true, if_false, all_mapped}
 use Rattle.lists.proofs.Pieces.{cut_first, gather_cut}
 use Rattle.lists.proofs.Ends.{trim_end_map}

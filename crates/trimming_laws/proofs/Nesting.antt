@@ -1,5 +1,6 @@
 -- A list of segments and its value list determine one another: the kinds give back the nesting, and where the first kind is 0 and
 -- none is above 3 they are those of some list of segments. Assumes nothing.
+use Rattle.std.specs.Prelude.{if◌then◌else◌}
 use Prim.Native.Nat.{ℕ, zero, suc, ◌-◌, ◌≤◌}
 use mathlib.Core.Path.{◌≡◌, refl, sym, ap, ap₂, fun_ext, ◌∙◌}
 use mathlib.Core.Bool.{Bool, true, false}
@@ -7,7 +8,7 @@ use mathlib.Core.List.{List, [], ◌∷◌, ◌++◌, map, append_assoc, append-
 use lib.Dec.{eqb, leb}
 use borrow.Author.Tests.{leb-true, le-leb}
 use native.Mathlib.Omega.{arith}
-use Rattle.lists.specs.Lists.{if◌then◌else◌, is_empty, all, onto, cut, gather}
+use Rattle.lists.specs.Lists.{is_empty, all, onto, cut, gather}
 use Rattle.lists.proofs.Texts.{and_left, and_right}
 use Rattle.lists.proofs.Pieces.{None}
 use Rattle.nesting.specs.Nesting.{Nest, shaped, by_depth, nested, written, flat}
@@ -158,7 +159,7 @@ listed_nested : (items : List Item) → segments_listed items ≡ nested closes_
 unfolding segments_listed cut onto closes rank_of
 listed_nested items = ap (λ (f : List Item → List (List (List Bytes))). map f (cut (closes 0) (closed items))) (fun_ext segment)
   where
-    last : (a b c : Bool) → leb (if a then 0 else if b then 1 else if c then 2 else 3) 3 ≡ true
+    last : (a b c : Bool) → leb (if a then 0 else (if b then 1 else (if c then 2 else 3))) 3 ≡ true
     last true b c = refl
     last false true c = refl
     last false false true = refl

@@ -1,5 +1,6 @@
 -- Records that begin a segment or an element drop what may differ; and how much of what one record after another holds back.
 -- Assumes nothing.
+use Rattle.std.specs.Prelude.{if◌then◌else◌}
 use Prim.Native.Nat.{ℕ, ◌+◌, ◌≤◌}
 use mathlib.Core.Path.{◌≡◌, refl, sym, ap, ap₂, ◌∙◌}
 use mathlib.Core.Bool.{Bool}
@@ -8,7 +9,7 @@ use native.Mathlib.Omega.{arith}
 use lib.Dec.{leb}
 use lib.ListN.{length}
 use borrow.Author.Tests.{le-leb}
-use Rattle.lists.specs.Lists.{if◌then◌else◌, gather}
+use Rattle.lists.specs.Lists.{gather}
 use Rattle.characters.specs.declared.Characters.{Characters}
 use Rattle.values.specs.Tokens.{Token, separator}
 use Rattle.emission_laws.specs.declared.Held.{Held}
@@ -27,9 +28,9 @@ lead_is : (rank : ℕ) → rank ≤ 1 → (h : Held)
 unfolding separated
 lead_is rank l h =
     ap (λ (b : Bool).
-    if leb rank 0 then nothing else if b then record { elements = h.elements + 1; repeats = 0; components = 0 }
-    else if leb rank 2 then record { elements = h.elements; repeats = h.repeats + 1; components = 0 }
-    else record { elements = h.elements; repeats = h.repeats; components = h.components + 1 })
+    if leb rank 0 then nothing else (if b then record { elements = h.elements + 1; repeats = 0; components = 0 }
+    else (if leb rank 2 then record { elements = h.elements; repeats = h.repeats + 1; components = 0 }
+    else record { elements = h.elements; repeats = h.repeats; components = h.components + 1 })))
     (le-leb rank 1 l)
 
 lead_held : (rank : ℕ) → rank ≤ 1 → (k n : Held) → k.elements ≡ n.elements → separated k rank ≡ separated n rank

@@ -1,5 +1,6 @@
 -- A value list as tokens: the bytes of each value, and the separator that ends it. They hold the segments that the list says.
 -- Assumes nothing.
+use Rattle.std.specs.Prelude.{if◌then◌else◌}
 use Prim.Native.Nat.{ℕ}
 use mathlib.Core.Path.{◌≡◌, refl, sym, ap, fun_ext, ◌∙◌}
 use mathlib.Core.Bool.{Bool, true, false, not, ◌&&◌}
@@ -7,7 +8,7 @@ use mathlib.Core.List.{List, [], ◌∷◌, ◌++◌, map, append-nil, map-map}
 use lib.Dec.{leb, eqb}
 use lib.Seq.{append_snoc}
 use borrow.Author.Tests.{not-true}
-use Rattle.lists.specs.Lists.{if◌then◌else◌, is_empty, all, last_or, onto, cut, gather}
+use Rattle.lists.specs.Lists.{is_empty, all, last_or, onto, cut, gather}
 use Rattle.lists.proofs.Texts.{and_left, and_right}
 use Rattle.lists.proofs.Pieces.{None}
 use Rattle.values.specs.Tokens.{Token, byte, separator, ends, segments}
@@ -118,7 +119,7 @@ end_known : (kind : ℕ) → leb (rank_of kind) 3 ≡ true
 unfolding rank_of
 end_known kind = step (leb kind 0) (leb kind 1) (eqb kind 3)
   where
-    step : (a b d : Bool) → leb (if a then 0 else if b then 1 else if d then 2 else 3) 3 ≡ true
+    step : (a b d : Bool) → leb (if a then 0 else (if b then 1 else (if d then 2 else 3))) 3 ≡ true
     step true b d = refl
     step false true d = refl
     step false false true = refl

@@ -1,6 +1,6 @@
 -- The text of a value list: an advice, and what its records emit as tokens, from left to right. Assumes nothing.
-use Rattle.std.specs.Prelude.{ℕ, ◌≤◌, ◌≡◌, true, List, [], ◌∷◌, ◌++◌, ltb, length}
-use Rattle.lists.specs.Lists.{if◌then◌else◌, text}
+use Rattle.std.specs.Prelude.{ℕ, ◌≤◌, ◌≡◌, true, List, [], ◌∷◌, ◌++◌, ltb, length, if◌then◌else◌}
+use Rattle.lists.specs.Lists.{text}
 use Rattle.characters.specs.declared.Characters.{Characters}
 use Rattle.values.specs.Tokens.{Token, separator}
 use Rattle.values.specs.Spelling.{Bytes}

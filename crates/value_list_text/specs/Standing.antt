@@ -1,8 +1,7 @@
 -- Refusal 16 over records, wherever their values stand: "a value holds a service character and there is no release", and a kind 3 where
 -- nothing separates repeats. Assumes nothing.
-use Rattle.std.specs.Prelude.{ℕ, ◌+◌, Bool, ◌||◌, List, [], ◌∷◌}
+use Rattle.std.specs.Prelude.{ℕ, ◌+◌, Bool, ◌||◌, List, [], ◌∷◌, if◌then◌else◌}
 use Rattle.std.proofs.Math.Option.{Option, none}
-use Rattle.lists.specs.Lists.{if◌then◌else◌}
 use Rattle.characters.specs.declared.Characters.{Characters}
 use Rattle.refusals.specs.declared.Fault.TheVariants.{NeedsRelease}
 use Rattle.refusals.specs.declared.Refusal.{Refusal}

@@ -1,9 +1,10 @@
 -- Laws of a table's records: three numbers are the next one, the first that fails answers, and what holds of a good list.
 -- Assumes nothing.
+use Rattle.std.specs.Prelude.{if◌then◌else◌}
 use Rattle.std.proofs.Common.{◌≡◌, ℕ, suc, ◌+◌, ◌%◌, ◌<◌, ◌≤◌, Bool, true, false, not, ◌&&◌, ◌||◌, eqb, ltb, List, [], ◌∷◌, ◌++◌, length, get_or, drop, sym, refl, ap, ◌∙◌, ap₂, add-one, arith, length-drop, ltb-false, le-ltb, lt-ltb, eq-eqb, ne_eqb}
 use mathlib.Core.Option.{none, some, some-ne-none}
 use borrow.Author.Tests.{not-true}
-use Rattle.lists.specs.Lists.{if◌then◌else◌, all, any, at, maybe}
+use Rattle.lists.specs.Lists.{all, any, at, maybe}
 use Rattle.lists.proofs.Texts.{if_true, if_false, and_left, and_right, or_none_left, or_none_right}
 use Rattle.lists.proofs.Numbers.{drop_next}
 use Rattle.refusals.specs.declared.Fault.{Fault}

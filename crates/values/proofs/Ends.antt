@@ -1,11 +1,12 @@
 -- What ends a piece of the tokens, over the rank of the separator. Assumes nothing.
+use Rattle.std.specs.Prelude.{if◌then◌else◌}
 use Prim.Native.Nat.{ℕ, ◌≤◌}
 use mathlib.Core.Path.{◌≡◌, refl, sym, ap, ◌∙◌}
 use mathlib.Core.Bool.{true, false}
 use mathlib.Core.List.{List, [], ◌∷◌}
 use native.Mathlib.Omega.{arith}
 use borrow.Author.Tests.{le-leb, leb-true}
-use Rattle.lists.specs.Lists.{if◌then◌else◌, through, last_or, cut, beyond}
+use Rattle.lists.specs.Lists.{through, last_or, cut, beyond}
 use Rattle.lists.proofs.Pieces.{cut_first, through_through}
 use Rattle.values.specs.Tokens.{Token, byte, separator, fault, ends}
 use Rattle.values.specs.Values.{ended_by}

@@ -1,11 +1,11 @@
 -- Paper 01, "From bytes to values": the body as tokens, in which releases are settled before anything is split; request 2026-01: line
 -- breaks between segments bring no token. Assumes nothing.
-use Rattle.std.specs.Prelude.{ℕ, zero, suc, ◌+◌, Bool, false, List, [], ◌∷◌, leb, drop}
+use Rattle.std.specs.Prelude.{ℕ, zero, suc, ◌+◌, Bool, false, List, [], ◌∷◌, leb, drop, if◌then◌else◌}
 use Rattle.characters.specs.declared.Characters.{Characters}
 use Rattle.characters.specs.declared.Role.{Role}
 use Rattle.characters.specs.declared.Role.TheVariants.{Separator, Release, Plain}
 use Rattle.characters.specs.Characters.{role, is_break}
-use Rattle.lists.specs.Lists.{if◌then◌else◌, cut}
+use Rattle.lists.specs.Lists.{cut}
 use Rattle.nesting.specs.Nesting.{by_depth}
 
 -- A byte of a value stands at `place` and is spelled from `from`, which is its release character's place where it has one.

@@ -1,12 +1,13 @@
 -- Bytes between which nothing is idle, and in which no fault 4 lies and no byte of a value below the space, are emitted as they stand, without
 -- line breaks: the last of them, which is a byte of a value, and then each byte before others. Assumes nothing.
+use Rattle.std.specs.Prelude.{if◌then◌else◌}
 use Prim.Native.Nat.{ℕ, zero, suc, ◌+◌, ◌-◌}
 use mathlib.Core.Path.{◌≡◌, refl, sym, ap, ap₂, subst, ◌∙◌}
 use mathlib.Core.Bool.{Bool, true, false, not, ◌&&◌, false≢true}
 use mathlib.Core.List.{List, [], ◌∷◌, ◌++◌}
 use mathlib.Core.Logic.{⊎_elim}
 use lib.Dec.{leb}
-use Rattle.lists.specs.Lists.{if◌then◌else◌, all}
+use Rattle.lists.specs.Lists.{all}
 use Rattle.lists.proofs.Tests.{says_all, says_member, fails}
 use Rattle.lists.proofs.Texts.{and_left, and_right, if_true, if_false, same_eq}
 use Rattle.characters.specs.declared.Characters.{Characters}

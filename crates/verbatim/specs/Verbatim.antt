@@ -1,7 +1,7 @@
 -- What tells that bytes stand as their normal form spells them (paper 01, "Normal form"): a test of the service characters, and one of each two
 -- bytes that stand side by side. The second misses some: a released separator is taken for one that separates. Assumes nothing.
-use Rattle.std.specs.Prelude.{ℕ, ◌≡◌, Bool, true, not, ◌&&◌, ◌||◌, List, eqb, leb}
-use Rattle.lists.specs.Lists.{if◌then◌else◌, same, all}
+use Rattle.std.specs.Prelude.{ℕ, ◌≡◌, Bool, true, not, ◌&&◌, ◌||◌, List, eqb, leb, if◌then◌else◌}
+use Rattle.lists.specs.Lists.{same, all}
 use Rattle.characters.specs.declared.Characters.{Characters}
 use Rattle.characters.specs.Characters.{has_repetition, spelled_out}
 use Rattle.values.specs.Tokens.{Token, byte, separator, fault, tokens_at}

@@ -1,8 +1,8 @@
 -- Where the walk stands after segments that were allowed where they stood, and where it stands after one segment more. Assumes nothing.
+use Rattle.std.specs.Prelude.{if◌then◌else◌}
 use mathlib.Core.Path.{◌≡◌, refl, sym, subst}
 use mathlib.Core.Bool.{Bool, true, false, false≢true}
 use mathlib.Core.List.{List, [], ◌∷◌}
-use Rattle.lists.specs.Lists.{if◌then◌else◌}
 use Rattle.lists.proofs.Texts.{and_left, and_right}
 use Rattle.segments.specs.declared.Kind.{Kind}
 use Rattle.segments.specs.declared.Kind.TheVariants.{Unb, Ung, Unh, Uns, Unt, Une, Unz, User}
@@ -18,9 +18,9 @@ use Rattle.walk_laws.specs.Walking.{walked, stands_after, is_after}
 abbrev place_by : Bool → Bool → Bool → Bool → Standing
 place_by after message group interchange =
     if after then AfterInterchange
-    else if message then (if group then InGroupMessage else InMessage)
-    else if group then InGroup
-    else if interchange then BetweenGroups else BeforeInterchange
+    else (if message then (if group then InGroupMessage else InMessage)
+    else (if group then InGroup
+    else (if interchange then BetweenGroups else BeforeInterchange)))
 
 -- the four tests answer so
 abbrev pub Tests : Bool → Bool → Bool → Bool → List Kind → Type 0

@@ -1,11 +1,12 @@
 -- The section that began last in the message tells which section may begin, where each UNS that passed kept the rule; and it is what the
 -- walk keeps. What passed is a list of segments, the nearest first. Assumes nothing.
+use Rattle.std.specs.Prelude.{if◌then◌else◌}
 use mathlib.Core.Path.{◌≡◌, refl, sym, ap, ap₂, ◌∙◌}
 use mathlib.Core.Bool.{Bool, true, false, not, ◌&&◌, ◌||◌, false≢true, and-false}
 use mathlib.Core.List.{List, [], ◌∷◌, map}
 use native.Mathlib.Omega.{arith}
 use borrow.Author.Tests.{le-ltb}
-use Rattle.lists.specs.Lists.{if◌then◌else◌, any, those, through, at, maybe}
+use Rattle.lists.specs.Lists.{any, those, through, at, maybe}
 use Rattle.lists.proofs.Texts.{and_left, and_right}
 use Rattle.values.specs.Tokens.{Segment}
 use Rattle.segments.specs.declared.Kind.{Kind}

@@ -1,7 +1,7 @@
 -- `level_classes::holds` meets its contract: in how many levels a byte belongs, counted. Assumes nothing.
+use Rattle.std.specs.Prelude.{if◌then◌else◌}
 use Rattle.std.proofs.Common.{◌≡◌, ◌+◌, ◌<◌, Bool, true, false, ◌||◌, leb, refl, ap, arith}
 use mir.Val.{bool_byte}
-use Rattle.lists.specs.Lists.{if◌then◌else◌}
 use Rattle.level_classes.specs.Masks.{in_class}
 use Rattle.level_classes.proofs.holds.Goals as goal
 
@@ -18,7 +18,7 @@ pub returns : goal.returns
 unfolding in_class
 returns c = ap (leb c.args.level) (count c.args.in_a c.args.letter)
   where
-    count : (a l : Bool) → bool_byte a + bool_byte (a || l) ≡ (if a then 2 else if a || l then 1 else 0)
+    count : (a l : Bool) → bool_byte a + bool_byte (a || l) ≡ (if a then 2 else (if a || l then 1 else 0))
     count true l = refl
     count false true = refl
     count false false = refl

@@ -1,5 +1,6 @@
 -- `scanner::role_of` meets its contract: it asks the definition's tests in the definition's order. Assumes nothing.
 -- the byte is another than the first three
+use Rattle.std.specs.Prelude.{if◌then◌else◌}
 use Prim.Native.Nat.{ℕ}
 use mathlib.Core.Path.{◌≡◌, sym, ◌∙◌}
 use mathlib.Core.Bool.{◌&&◌, and-false}
@@ -8,14 +9,13 @@ use lib.Dec.{eqb}
 use borrow.Author.Tests.{eq-eqb, ne_eqb}
 use Rattle.characters.specs.declared.Characters.{Characters}
 use Rattle.characters.specs.declared.Role.TheVariants.{Separator, Release, Plain}
-use Rattle.lists.specs.Lists.{if◌then◌else◌}
 use Rattle.characters.specs.Characters.{role, has_release, has_repetition}
 use Rattle.scanner.proofs.role_of.Goals.{then-c-ne32+else-b-c-3, else-c-ne32}
 use Rattle.scanner.proofs.role_of.Goals as goal
 
 module _ (c : Characters) (b : ℕ) (no_terminator : b ≡ c.terminator → ⊥) (no_element : b ≡ c.element → ⊥) where
   within : (c.repetition ≡ 32) ⊎ (b ≡ c.repetition → ⊥)
-      → role c b ≡ (if eqb b c.component then Separator 3 else if has_release c && eqb b c.release then Release else Plain)
+      → role c b ≡ (if eqb b c.component then Separator 3 else (if has_release c && eqb b c.release then Release else Plain))
   unfolding role has_repetition
   within (inl none) = simp (ne_eqb _ _ no_terminator, ne_eqb _ _ no_element, eq-eqb _ _ none)
   within (inr other) = simp (ne_eqb _ _ no_terminator, ne_eqb _ _ no_element, ne_eqb _ _ other, and-false)

@@ -1,10 +1,11 @@
 -- `storing::is_service` meets its contract: where there is no repetition separator, none is asked for, and so the release character. Assumes nothing.
+use Rattle.std.specs.Prelude.{if◌then◌else◌}
 use Prim.Native.Nat.{ℕ}
 use mathlib.Core.Path.{◌≡◌, refl, sym, ap}
 use mathlib.Core.Bool.{Bool, true, false, not, ◌&&◌, ◌||◌, or-false}
 use mathlib.Core.List.{[], ◌∷◌, ◌++◌}
 use lib.Dec.{eqb}
-use Rattle.lists.specs.Lists.{if◌then◌else◌, member}
+use Rattle.lists.specs.Lists.{member}
 use Rattle.characters.specs.Characters.{is_service, service_characters, has_repetition, has_release}
 use Rattle.storing.proofs.is_service.Goals as goal
 
