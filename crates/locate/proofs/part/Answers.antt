@@ -8,4 +8,4 @@ pub returns : goal.returns
 returns c =
     let x = c.args in
     let p = c.part_of-part in
-    handed x.s x.segment x.element x.repeat x.component _ p.ensures.0 p.ensures.1 refl refl
+    handed x.s x.segment x.element x.repeat x.component _ p.ensures.value p.ensures.inside refl refl

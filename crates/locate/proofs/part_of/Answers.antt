@@ -7,7 +7,7 @@ use Rattle.locate.proofs.part_of.Goals as goal
 pub returns-in-At : goal.returns-in-At
 returns-in-At c =
     let x = c.args in
-    let l = c.locate in record { value = part_found x.s.now x.segment x.element x.repeat x.component l.ensures.0 c.in-At.is; inside = found_inside x.s.now l.ensures.1 c.in-At.is }
+    let l = c.locate in record { value = part_found x.s.now x.segment x.element x.repeat x.component l.ensures.locates c.in-At.is; inside = found_inside x.s.now l.ensures.inside c.in-At.is }
 
 pub returns-in-Absent : goal.returns-in-Absent
 returns-in-Absent c =

@@ -52,4 +52,4 @@ returns c =
     let text = spelled x.c n.result s start.result in
     let form = form_is x.buffer.now s a d start.ensures n.ensures in
     let long : put.result ≡ length (normal_form s) = parts_end n.result text form put.ensures.1 in
-    form_stored x.buffer.now s a n.result text advice.new.0 put.new.0 long (omega arith) form advice.ensures put.ensures.0
+    form_stored x.buffer.now s a n.result text advice.new.buffer put.new.buffer long (omega arith) form advice.ensures put.ensures.0
