@@ -8,14 +8,14 @@ use borrow.Author.Rules.{rules}
 use Rattle.report.proofs.Going.{UpTo, countable, up_to_start, up_to_within, up_to_end, next_above, next_within, up_to_next}
 use Rattle.report.proofs.figures_of.Goals as goal
 
-part-judge-end : tie.Need-slice-bounds-judge-end invariant-loop decreases-loop
-part-judge-end c = next_within _ c.before.before.before.loop.invariant c.before.before.loop-test.true c.piece-end.ensures
-
 pub loop-at-init : goal.loop-at-init
 loop-at-init c = subst (λ r. UpTo c.args.file.now r 0) (sym c.no_figures-report.ensures) (up_to_start c.args.file.now)
 
 pub overflow_add-end : goal.overflow_add-end
 overflow_add-end c = omega (arith, next_within _ c.loop-at.invariant c.loop-at-test.true c.piece_end.ensures)
+
+pub slice_bounds-judge-end : goal.slice_bounds-judge-end
+slice_bounds-judge-end c = next_within _ c.loop-at.invariant c.loop-at-test.true c.piece_end.ensures
 
 pub counted-report-requires : goal.counted-report-requires
 counted-report-requires c =

@@ -13,13 +13,6 @@ use Rattle.shelf.proofs.Copies.{keeps_free, keeps_same, keeps_longer, kept_withi
 use borrow.Author.Rules.{rules}
 use Rattle.shelf.proofs.finding.keeps.Goals as goal
 
-part-equal-end : tie.Need-slice-bounds-equal-end
-part-equal-end c =
-    let x = c.before.before.before.before.before.before.before.args in
-    let known = c.before.before.before.before.before.before.before.requires in
-    let o = occupied_by x.s.now x.slot known.1 c.before.before.before.before.is-occupied.ensures (not-false c.before.before.before.before.is-occupied.result c.before.before.before.if1.false) in
-    omega (arith, kept_within (laid x.l) x.s.now x.slot known.0 known.2 o, c.start_of_lem.ensures.0, c.before.before.length-of.ensures.0)
-
 pub returns-then-not-is_occupied : goal.returns-then-not-is_occupied
 returns-then-not-is_occupied c = let x = c.args in keeps_free (laid x.l) x.s.now x.form.now x.slot (occupied_by x.s.now x.slot c.requires.1 c.is_occupied.ensures (not-true c.is_occupied.result c.if-not-is_occupied.true-raw))
 
@@ -35,6 +28,13 @@ returns-then-length-form c =
 
 pub start_of-start-requires : goal.start_of-start-requires
 start_of-start-requires c = let x = c.args in (((says_sound (laid x.l) x.s.now).0 c.requires.0).least, c.requires.2)
+
+pub slice_bounds-equal-end : goal.slice_bounds-equal-end
+slice_bounds-equal-end c =
+    let x = c.args in
+    let known = c.requires in
+    let o = occupied_by x.s.now x.slot known.1 c.is_occupied.ensures (not-false c.is_occupied.result c.if-not-is_occupied.false-raw) in
+    omega (arith, kept_within (laid x.l) x.s.now x.slot known.0 known.2 o, c.start_of-start.ensures.0, c.length_of-length.ensures.0)
 
 pub returns : goal.returns
 returns c =

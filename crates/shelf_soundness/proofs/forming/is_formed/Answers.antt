@@ -7,12 +7,12 @@ use Rattle.shelf_soundness.proofs.Ranges.{text_is, in_shelf, formed_kept, formed
 use borrow.Author.Rules.{rules}
 use Rattle.shelf_soundness.proofs.forming.is_formed.Goals as goal
 
-part-is-normal-form-end : tie.Need-slice-bounds-is-normal-form-end
-part-is-normal-form-end c =
-    let x = c.before.before.before.before.before.args in
-    let known = c.before.before.before.before.before.requires in
-    let o = occupied_by x.s.now x.slot known.1 c.before.before.before.is-occupied.ensures c.before.before.if1.true in
-    in_shelf (laid x.l) x.s.now x.slot known.0 known.2 o c.before.start_of_lem.ensures.0 c.length-of.ensures.0
+pub slice_bounds-is_normal_form-end : goal.slice_bounds-is_normal_form-end
+slice_bounds-is_normal_form-end c =
+    let x = c.args in
+    let known = c.requires in
+    let o = occupied_by x.s.now x.slot known.1 c.is_occupied.ensures c.if-is_occupied.true in
+    in_shelf (laid x.l) x.s.now x.slot known.0 known.2 o c.start_of-start.ensures.0 c.length_of.ensures.0
 
 pub returns-then-is_occupied : goal.returns-then-is_occupied
 returns-then-is_occupied c =

@@ -7,18 +7,6 @@ use Rattle.shelf_soundness.proofs.Ranges.{text_is, in_shelf, lengths_differ, sum
 use borrow.Author.Rules.{rules}
 use Rattle.shelf_soundness.proofs.parting.are_same.Goals as goal
 
-part-equal-end : tie.Need-slice-bounds-equal-end
-part-equal-end c =
-    let x = c.before.before.before.before.before.before.before.before.before.args in
-    let known = c.before.before.before.before.before.before.before.before.before.requires in
-    in_shelf (laid x.l) x.s.now x.one known.0 known.2.0 known.2.1 c.before.start_of_lem.ensures.0 c.before.before.before.before.before.before.before.length-of.ensures.0
-
-part-equal-end-2 : tie.Need-slice-bounds-equal-end-2
-part-equal-end-2 c =
-    let x = c.before.before.before.before.before.before.before.before.before.before.args in
-    let known = c.before.before.before.before.before.before.before.before.before.before.requires in
-    in_shelf (laid x.l) x.s.now x.other known.0 known.3.0 known.3.1 c.before.start-of2.ensures.0 (c.before.before.before.before.before.before.if1.false ∙ c.before.before.before.before.before.before.before.length-of2.ensures.0)
-
 pub returns-then-length-length_of : goal.returns-then-length-length_of
 returns-then-length-length_of c =
     let x = c.args in
@@ -33,10 +21,22 @@ returns-then-sums-one c =
     let known = c.requires in
     sums_differ (laid x.l) x.s.now x.one x.other known.2.1 known.3.1 (known.1 x.one known.2.0) (known.1 x.other known.3.0) c.if-sums-one.true
 
+pub slice_bounds-equal-end : goal.slice_bounds-equal-end
+slice_bounds-equal-end c =
+    let x = c.args in
+    let known = c.requires in
+    in_shelf (laid x.l) x.s.now x.one known.0 known.2.0 known.2.1 c.start_of-a.ensures.0 c.length_of-length.ensures.0
+
+pub slice_bounds-equal-end-2 : goal.slice_bounds-equal-end-2
+slice_bounds-equal-end-2 c =
+    let x = c.args in
+    let known = c.requires in
+    in_shelf (laid x.l) x.s.now x.other known.0 known.3.0 known.3.1 c.start_of-b.ensures.0 (c.if-length-length_of.false ∙ c.length_of.ensures.0)
+
 pub returns : goal.returns
 returns c =
     let x = c.args in
     c.equal.ensures
     ∙ ap₂ same
-    (text_is (laid x.l) x.s.now x.one c.start_of-a.ensures.0 c.length_of.ensures.0)
+    (text_is (laid x.l) x.s.now x.one c.start_of-a.ensures.0 c.length_of-length.ensures.0)
     (text_is (laid x.l) x.s.now x.other c.start_of-b.ensures.0 (c.if-length-length_of.false ∙ c.length_of.ensures.0))

@@ -10,12 +10,12 @@ use Rattle.shelf_soundness.proofs.Ranges.{text_is, in_shelf, sum_kept, sum_free}
 use borrow.Author.Rules.{rules}
 use Rattle.shelf_soundness.proofs.parting.sum_in.Goals as goal
 
-part-sum-end : tie.Need-slice-bounds-sum-end
-part-sum-end c =
-    let x = c.before.before.before.before.before.args in
-    let known = c.before.before.before.before.before.requires in
-    let o = occupied_by x.s.now x.slot known.1 c.before.before.before.is-occupied.ensures c.before.before.if1.true in
-    in_shelf (laid x.l) x.s.now x.slot known.0 known.2 o c.before.start_of_lem.ensures.0 c.length-of.ensures.0
+pub slice_bounds-sum-end : goal.slice_bounds-sum-end
+slice_bounds-sum-end c =
+    let x = c.args in
+    let known = c.requires in
+    let o = occupied_by x.s.now x.slot known.1 c.is_occupied.ensures c.if-is_occupied.true in
+    in_shelf (laid x.l) x.s.now x.slot known.0 known.2 o c.start_of-start.ensures.0 c.length_of.ensures.0
 
 pub sum-requires : goal.sum-requires
 sum-requires c =
