@@ -1,5 +1,5 @@
 -- Paper 01, "Refusals by number": the numbers, and which refusal answers. Assumes nothing.
-use Rattle.std.specs.Prelude.{ℕ, Bool, true, false, ◌&&◌, ◌||◌, List, [], ◌∷◌, ◌++◌, eqb, ltb}
+use Rattle.std.specs.Prelude.{ℕ, Bool, ◌&&◌, ◌||◌, List, [], ◌∷◌, eqb, ltb}
 use Rattle.std.proofs.Math.Option.{Option, none, some}
 use Rattle.lists.specs.Lists.{if◌then◌else◌}
 use Rattle.refusals.specs.declared.Fault.{Fault}
