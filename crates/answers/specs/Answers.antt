@@ -1,6 +1,5 @@
 -- The paper's number and values for each case of each answer: number 0 where nothing is refused. Assumes nothing.
 use Rattle.std.specs.Prelude.{ℕ, List, [], ◌∷◌, ◌++◌}
-use Rattle.std.proofs.Math.Option.{Option, none, some}
 use Rattle.characters.specs.Characters.{spelled_out}
 use Rattle.refusals.specs.declared.Refusal.{Refusal}
 use Rattle.refusals.specs.Refusals.{number}

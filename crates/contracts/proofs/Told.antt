@@ -8,7 +8,6 @@ use lib.ListN.{length, drop, get_or}
 use Rattle.lists.specs.Lists.{maybe}
 use Rattle.characters.specs.Characters.{spelled_out}
 use Rattle.refusals.specs.declared.Refusal.{Refusal}
-use Rattle.refusals.specs.Refusals.{number}
 use Rattle.refusals.proofs.Order.{number_tells, number_not_zero}
 use Rattle.answers.specs.declared.Figures.{Figures}
 use Rattle.answers.specs.declared.Judged.{Judged}

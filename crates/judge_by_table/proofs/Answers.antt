@@ -5,12 +5,11 @@ use mathlib.Core.Bool.{true}
 use mathlib.Core.List.{List}
 use mathlib.Core.Option.{Option, none, some}
 use Rattle.lists.specs.Lists.{maybe}
-use Rattle.refusals.specs.declared.Fault.{Fault}
 use Rattle.refusals.specs.declared.Fault.TheVariants.{UnsoundTable, UnmatchedBody}
 use Rattle.refusals.specs.declared.Refusal.{Refusal}
 use Rattle.refusals.specs.declared.Outcome.{Outcome}
 use Rattle.refusals.specs.declared.Outcome.TheVariants.{Passed, Failed}
-use Rattle.refusals.specs.Refusals.{or_else, answering, failed_at}
+use Rattle.refusals.specs.Refusals.{or_else, answering}
 use Rattle.values.specs.Tokens.{Token, segments, tokens_at}
 use Rattle.stages.specs.Contents.{segments_of}
 use Rattle.stages.specs.Stages.{stages_in}
@@ -18,7 +17,7 @@ use Rattle.stage_opening.specs.declared.Found.{Found}
 use Rattle.stage_opening.specs.Runs.{found_by}
 use Rattle.answers.specs.declared.Judged.{Judged}
 use Rattle.answers.specs.declared.Judged.TheVariants.{Refused}
-use Rattle.answers.specs.Answers.{Answer, refused, accepted, toldJudged}
+use Rattle.answers.specs.Answers.{refused, accepted, toldJudged}
 use Rattle.operations.specs.Judge.{figures_of}
 use Rattle.judge.specs.Judging.{judged}
 use Rattle.judge.proofs.Bodies.{body_tokens_lem}
@@ -26,7 +25,7 @@ use Rattle.message_tables.specs.Soundness.{is_sound}
 use Rattle.message_tables.specs.Structure.{structure_of}
 use Rattle.message_table_laws.specs.Scanning.{first_fault}
 use Rattle.message_table_laws.proofs.Scanning.{fault_lowest, sound_none, sound_first}
-use Rattle.message_structures.specs.Judging.{structure_refusal, judge_by_table}
+use Rattle.message_structures.specs.Judging.{judge_by_table}
 use Rattle.message_structures.proofs.Answered.{unsound_answers, earlier_answers, passed_refusal}
 use Rattle.structure_walks.specs.Walks.{first_stop}
 use Rattle.structure_walks.proofs.First.{refusal_at, first_answers}

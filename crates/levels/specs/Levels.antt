@@ -1,5 +1,5 @@
 -- Paper 01, "Levels"; request 2026-10, version 4. Assumes nothing.
-use Rattle.std.specs.Prelude.{ℕ, Bool, true, false, not, ◌&&◌, ◌||◌, List, leb, if◌then◌else◌}
+use Rattle.std.specs.Prelude.{ℕ, Bool, false, not, ◌&&◌, ◌||◌, List, leb, if◌then◌else◌}
 use Rattle.std.proofs.Math.Option.{Option, none, some}
 use Rattle.lists.specs.Lists.{text, same, member, at, single, maybe}
 use Rattle.characters.specs.declared.Characters.{Characters}

@@ -5,7 +5,7 @@ use Rattle.lists.specs.Lists.{text, same, those}
 use Rattle.operations.specs.Judge.{judge}
 use Rattle.mailbox_files.specs.Pieces.{pieces}
 use Rattle.mailbox_files.specs.Report.{numbers, report}
-use Rattle.starred_cases.specs.Cases.{unb, unh, bgm, unt, unz, with, x, respelled, says}
+use Rattle.starred_cases.specs.Cases.{bgm, unt, unz, with, x, respelled, says}
 
 -- ---- interchanges
 

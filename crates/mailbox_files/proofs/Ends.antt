@@ -1,15 +1,15 @@
 -- Where a segment ends that has its terminator: what follows that, and the breaks behind it, is what is read next. Assumes nothing.
 use Rattle.std.specs.Prelude.{if◌then◌else◌}
 use Prim.Native.Nat.{ℕ, zero, suc, ◌+◌, ◌≤◌, ◌<◌}
-use mathlib.Core.Path.{◌≡◌, refl, sym, ap, ap₂, ◌∙◌, subst}
+use mathlib.Core.Path.{◌≡◌, refl, sym, ap, ap₂, ◌∙◌}
 use mathlib.Core.Bool.{Bool, true, false, false≢true}
 use mathlib.Core.List.{List, [], ◌∷◌}
 use native.Mathlib.Omega.{arith}
 use lib.ListN.{length, drop, length-drop}
 use lib.Seq.{drop-drop}
 use Rattle.lists.specs.Lists.{through, beyond, last_or}
-use Rattle.lists.proofs.Pieces.{beyond_hit, beyond_miss}
-use Rattle.lists.proofs.Texts.{if_true, if_false}
+use Rattle.lists.proofs.Pieces.{beyond_miss}
+use Rattle.lists.proofs.Texts.{if_false}
 use Rattle.characters.specs.declared.Characters.{Characters}
 use Rattle.characters.specs.declared.Role.{Role}
 use Rattle.characters.specs.declared.Role.TheVariants.{Separator, Release, Plain}

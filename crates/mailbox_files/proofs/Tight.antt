@@ -1,5 +1,5 @@
 -- The number and the values of what is answered determine it, so that the promise leaves one answer. Assumes nothing.
-use Prim.Native.Nat.{ℕ, ◌+◌}
+use Prim.Native.Nat.{ℕ}
 use mathlib.Core.Path.{◌≡◌, refl, sym, ap, ap₂, ◌∙◌}
 use mathlib.Core.List.{List, [], ◌∷◌, ◌++◌, tail-eq_of_cons-eq, head-eq_of_cons-eq}
 use native.Mathlib.Omega.{arith}
@@ -7,12 +7,9 @@ use lib.ListN.{length, take, drop, get_or, length-append}
 use lib.Seq.{take-append_seam, drop-append_seam}
 use Rattle.refusals.specs.declared.Outcome.{Outcome}
 use Rattle.refusals.specs.declared.Outcome.TheVariants.{Passed, Failed}
-use Rattle.refusals.specs.declared.Refusal.{Refusal}
-use Rattle.refusals.specs.Refusals.{number}
 use Rattle.refusals.proofs.Order.{number_tells, number_not_zero}
 use Rattle.answers.specs.Answers.{Answer, given, refused}
 use Rattle.mailbox_files.specs.declared.Report.{Report}
-use Rattle.mailbox_files.specs.declared.Reported.{Reported}
 use Rattle.mailbox_files.specs.Report.{listed, with_figures, told_outcome, told_reported}
 use Rattle.mailbox_files.specs.Promises.{Tight}
 

@@ -7,19 +7,19 @@ use mathlib.Core.List.{List, [], ◌∷◌}
 use mathlib.Core.Option.{Option, none, some}
 use native.Mathlib.Omega.{arith}
 use lib.ListN.{length}
-use Rattle.lists.specs.Lists.{all, cut, through, beyond}
+use Rattle.lists.specs.Lists.{cut, through, beyond}
 use Rattle.lists.proofs.Pieces.{cut_first}
 use Rattle.lists.proofs.Texts.{and_left}
 use Rattle.characters.specs.declared.Characters.{Characters}
 use Rattle.characters.specs.Characters.{after_breaks}
 use Rattle.values.specs.Tokens.{Token, Segment, ends, segments, tokens_at}
-use Rattle.values.specs.Values.{is_fault, end_place, ended_by, finished}
+use Rattle.values.specs.Values.{end_place, ended_by, finished}
 use Rattle.values.proofs.Steps.{at_end}
 use Rattle.segments.specs.declared.Kind.TheVariants.{Unz}
 use Rattle.segments.specs.Kinds.{is}
 use Rattle.segments.specs.Tags.{kind_of, tag_rule}
 use Rattle.mailbox_files.specs.Pieces.{is_whole, first_unz, end_behind}
-use Rattle.mailbox_files.proofs.Ends.{segment_at, Ended, ended}
+use Rattle.mailbox_files.proofs.Ends.{segment_at, ended}
 
 -- a whole segment has its terminator
 pub whole_ended : (g : Segment) → is_whole g ≡ true → ended_by 0 g ≡ true

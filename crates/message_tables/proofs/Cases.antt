@@ -1,15 +1,13 @@
 -- Tables written out, as trees. Assumes nothing.
-use Rattle.std.specs.Prelude.{if◌then◌else◌}
-use Prim.Native.Nat.{ℕ, zero, suc, ◌+◌, ◌-◌, ◌*◌}
+use Prim.Native.Nat.{ℕ, zero, suc, ◌+◌, ◌*◌}
 use Prim.Native.String.{String}
 use mathlib.Core.Path.{◌≡◌, refl}
 use mathlib.Core.Bool.{true, false}
 use mathlib.Core.List.{List, [], ◌∷◌, ◌++◌}
-use lib.ListN.{take, drop}
 use Rattle.lists.specs.Lists.{text, same, member, at, maybe}
 use Rattle.numbers.specs.Numbers.{read_on, number_at}
-use Rattle.message_tables.specs.Entries.{Entry, entry_of, entries_in, whole_entries, entries_of, is_group, is_mandatory}
-use Rattle.message_tables.specs.Structure.{Structure, done, entry, lead_of, held_by, level, levels, structure_of, tags_in, segment_tags}
+use Rattle.message_tables.specs.Entries.{entry_of, entries_in, whole_entries, entries_of, is_group, is_mandatory}
+use Rattle.message_tables.specs.Structure.{done, entry, lead_of, held_by, level, levels, structure_of, tags_in, segment_tags}
 
 -- numbers below 256
 abbrev segment : (tag status : String) (repeats : ℕ) → List ℕ

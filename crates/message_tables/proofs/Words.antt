@@ -1,15 +1,14 @@
 -- What the definitions say in the request's words and numbers. Assumes nothing.
 use Rattle.std.specs.Prelude.{if◌then◌else◌}
-use Prim.Native.Nat.{ℕ, zero, suc, ◌+◌, ◌*◌, ◌-◌, ◌/◌, ◌%◌, ◌≤◌, ◌<◌}
+use Prim.Native.Nat.{ℕ, suc, ◌+◌, ◌*◌, ◌-◌, ◌/◌, ◌%◌, ◌≤◌, ◌<◌}
 use mathlib.Core.Path.{◌≡◌, refl, sym, ap, subst, ◌∙◌}
 use mathlib.Core.Bool.{Bool, true, false, not, ◌&&◌, ◌||◌, false≢true}
 use mathlib.Core.Logic.{◌⊎◌, inl, inr, ⊎_elim, ◌↔◌}
 use mathlib.Core.List.Memᴰ
 use mathlib.Core.List.{List, [], ◌∷◌, ◌++◌, nil≢cons, head-eq_of_cons-eq, tail-eq_of_cons-eq, reverse_aux, Memᴰ}
 use native.Mathlib.Omega.{arith}
-use lib.ListN.{length, take, drop}
+use lib.ListN.{length}
 use lib.Dec.{eqb, leb, ltb}
-use borrow.Author.Tests.{leb-true, leb-false, le-leb}
 use Rattle.lists.specs.Lists.{text, same, begins, member, all, at, is_empty, maybe}
 use Rattle.lists.proofs.Tests.{Says, says_eq, says_le, says_lt, says_both, says_either, says_as, says_not, says_same, says_member, says_begins, says_all, fails, decides}
 use Rattle.characters.specs.Characters.{between}
@@ -20,7 +19,7 @@ use Rattle.segments.specs.Tags.{is_tag}
 use Rattle.segments.proofs.Words.{tag_says}
 use Rattle.message_tables.specs.Entries.{Entry, entry_of, entries_in, whole_entries, entries_of, is_group, is_mandatory}
 use Rattle.message_tables.specs.Soundness.{most_entries, most_repeats, most_depth, is_table_tag, segment_fits, rooms_from, rooms, group_fits, is_trigger, triggers, fits, unfit, table_faults, is_sound}
-use Rattle.message_tables.specs.Notions.{Group, TableTag, Holds, Trigger, Fitting, Unfit, Faulty}
+use Rattle.message_tables.specs.Notions.{Group, TableTag, Holds, Trigger, Fitting, Faulty}
 
 -- ---- entries
 

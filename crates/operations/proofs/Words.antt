@@ -12,7 +12,7 @@ use native.Mathlib.Omega.{arith}
 use lib.Dec.{eqb, ltb}
 use lib.ListN.{length, take, drop, length-append}
 use Rattle.lists.specs.Lists.{any, at, gather, maybe}
-use Rattle.lists.proofs.Tests.{Says, says_eq, says_lt, says_both, says_either, says_not, says_as, says_any, says_maybe, decides, at_within}
+use Rattle.lists.proofs.Tests.{Says, says_eq, says_lt, says_both, says_either, says_not, says_as, says_any, says_maybe, at_within}
 use Rattle.characters.specs.declared.Characters.{Characters}
 use Rattle.characters.specs.Characters.{spelled_out, advice_of, six_bytes, usable, has_release, has_repetition, is_service}
 use Rattle.characters.proofs.Words.{Usable, usable_says, service_says, six_are}

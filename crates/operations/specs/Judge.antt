@@ -1,5 +1,5 @@
 -- Paper 01, "Operations": Judge, and Normalise into a lent buffer. Assumes nothing.
-use Rattle.std.specs.Prelude.{ℕ, Bool, List, [], ◌∷◌, ◌++◌, length, drop, ltb}
+use Rattle.std.specs.Prelude.{ℕ, List, [], ◌∷◌, ◌++◌, length, drop, ltb}
 use Rattle.std.proofs.Math.Option.{Option, none, some}
 use Rattle.lists.specs.Lists.{maybe}
 use Rattle.characters.specs.Characters.{characters_of}

@@ -1,6 +1,6 @@
 -- Paper 01, "Operations": Locate and its companion; request 2026-10: "value lists gain kind 3 .., locate a repeat number". Assumes nothing.
 use Rattle.std.specs.Prelude.{ℕ, List, [], ◌∷◌, map, take, drop}
-use Rattle.std.proofs.Math.Option.{Option, none, some}
+use Rattle.std.proofs.Math.Option.{Option, none}
 use Rattle.lists.specs.Lists.{at, maybe}
 use Rattle.values.specs.Values.{Value}
 use Rattle.values.specs.Trimming.{trimmed, value_at}

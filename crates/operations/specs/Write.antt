@@ -1,5 +1,5 @@
 -- Paper 01, "Operations": Write from a value list and six service bytes; request 2026-10: kind 3. Assumes nothing.
-use Rattle.std.specs.Prelude.{ℕ, suc, ◌+◌, ◌%◌, Bool, true, false, not, ◌&&◌, ◌||◌, List, [], ◌∷◌, ◌++◌, length, replicate, eqb, ltb}
+use Rattle.std.specs.Prelude.{ℕ, suc, ◌+◌, ◌%◌, Bool, false, not, ◌&&◌, ◌||◌, List, [], ◌∷◌, ◌++◌, length, replicate, eqb, ltb}
 use Rattle.std.proofs.Math.Option.{Option}
 use Rattle.lists.specs.Lists.{any, at, maybe}
 use Rattle.characters.specs.declared.Characters.{Characters}

@@ -3,7 +3,7 @@ use Prim.Native.Nat.{ℕ, ◌+◌, ◌≤◌}
 use mathlib.Core.Path.{◌≡◌, ap₂, subst, ◌∙◌}
 use mathlib.Core.Bool.{Bool, true, false, ◌&&◌}
 use mathlib.Core.List.{List}
-use mathlib.Core.Option.{Option, none, some}
+use mathlib.Core.Option.{none, some}
 use lib.ListN.{length}
 use borrow.Author.Tests.{lt-ltb}
 use denote.Ref.{Bor}
@@ -28,7 +28,7 @@ use Rattle.shelves.specs.Layout.{Layout, duplicates_of, Occupied, occupied, free
 use Rattle.shelves.specs.Soundness.{is_sized, sound}
 use Rattle.shelves.specs.Answers.{toldShelved, toldSlots, toldSums, told_outcome}
 use Rattle.shelves.specs.Operations.{empty_shelf, lowest_free, copy_of, put_refusal, with_text, with_copy, slot_refusal, got_offset, got_length, remove, without}
-use Rattle.shelves.proofs.Answered.{nineteen, start_refused, start_done, slots_refused, slots_given, sums_refused, sums_given, put_refused, put_copy, put_new_lem, there, slot_there, slot_refused, slot_given}
+use Rattle.shelves.proofs.Answered.{nineteen, start_refused, start_done, slots_refused, slots_given, sums_refused, sums_given, put_refused, put_copy, put_new_lem, slot_there, slot_refused, slot_given}
 use Rattle.shelf_contracts.specs.Promises.{Starts, Puts, Gets, Measures, Removes, Counts, Sums}
 use Rattle.shelf_contracts.proofs.Told.{outcome_tells, shelved_tells, slots_tells, sums_tells}
 

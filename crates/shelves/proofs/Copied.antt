@@ -1,9 +1,9 @@
 -- A copy was found: only the duplicates figure changed, so that the shelf says of each slot what it said, and stays sound. Assumes nothing.
 use Rattle.std.specs.Prelude.{if◌then◌else◌}
 use Prim.Native.Nat.{ℕ, ◌+◌, ◌-◌, ◌≤◌, ◌<◌, min}
-use mathlib.Core.Path.{◌≡◌, refl, sym, ap, ap₂, subst, ◌∙◌}
+use mathlib.Core.Path.{◌≡◌, sym, ap, ap₂, ◌∙◌}
 use mathlib.Core.Bool.{Bool, true, false}
-use mathlib.Core.List.{List, []}
+use mathlib.Core.List.{List}
 use mathlib.Core.Logic.{inl, inr, ⊎_elim}
 use native.Mathlib.Nat.{mod-eq_of_lt}
 use native.Mathlib.Omega.{arith}
@@ -20,7 +20,7 @@ use Rattle.shelves.specs.Layout.{Layout, slot_count, duplicates_place, below, ma
 use Rattle.shelves.specs.Soundness.{is_normal_form}
 use Rattle.shelves.specs.Summary.{summary_of, most_duplicates, put_copy, duplicates_in}
 use Rattle.shelves.specs.Operations.{with_copy}
-use Rattle.shelves.proofs.Sound.{Apart, Sound}
+use Rattle.shelves.proofs.Sound.{Sound}
 use Rattle.shelves.proofs.Sums.{sum_same}
 use Rattle.shelves.proofs.Held.{weight, held_sum}
 use Rattle.shelves.proofs.Stored.{begins_front, heading_length}

@@ -8,7 +8,7 @@ use mathlib.Core.Logic.{◌⊎◌, ⊎_elim}
 use native.Mathlib.Omega.{arith}
 use lib.Dec.{eqb}
 use lib.ListN.{length, take, drop, length-append, length-take}
-use lib.Seq.{sets, length-sets, take_at, drop_at, take_all, take-take, length-take-le}
+use lib.Seq.{sets, length-sets, take_at, drop_at, take_all, take-take}
 use Rattle.lists.specs.Lists.{text, begins}
 use Rattle.numbers.specs.Numbers.{number_at, in_bytes, read_on}
 use Rattle.numbers.proofs.Stores.{part_cut, front_stays, rest_stays}

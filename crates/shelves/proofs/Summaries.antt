@@ -1,17 +1,16 @@
 -- What Put and Remove leave at the head of a shelf that has the two sums: each field as its step on the summary says. Assumes nothing.
-use Prim.Native.Nat.{ℕ, ◌+◌, ◌-◌, ◌%◌, ◌^◌, ◌≤◌, ◌<◌}
-use mathlib.Core.Path.{◌≡◌, sym, ◌∙◌}
+use Prim.Native.Nat.{ℕ, ◌+◌, ◌≤◌}
+use mathlib.Core.Path.{◌≡◌, ◌∙◌}
 use mathlib.Core.List.{List}
 use native.Mathlib.Nat.{mod-eq_of_lt}
 use native.Mathlib.Omega.{arith}
 use lib.ListN.{length}
-use Rattle.shelves.specs.Layout.{Layout, map_of, held_figure, duplicates_of, Occupied, Free, base, length_of, held, end_of}
+use Rattle.shelves.specs.Layout.{Layout, map_of, held_figure, duplicates_of, Occupied, Free, length_of, held, end_of}
 use Rattle.shelves.specs.Summary.{summary_of, put_new, put_copy, removed}
 use Rattle.shelves.specs.Operations.{lowest_free, with_text, with_copy, without}
 use Rattle.shelves.proofs.Sound.{Sound}
-use Rattle.shelves.proofs.Held.{held_least}
-use Rattle.shelves.proofs.Added.{Added, with_text_lem}
-use Rattle.shelves.proofs.Removed.{Removed, without_text}
+use Rattle.shelves.proofs.Added.{with_text_lem}
+use Rattle.shelves.proofs.Removed.{without_text}
 use Rattle.shelves.proofs.Copied.{with_copy_lem, map_as_lem, figure_as}
 
 module _ (l : Layout) (sums : 21 ≤ l.pairs) (s : List ℕ) (was : Sound l s) where

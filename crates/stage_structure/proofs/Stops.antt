@@ -3,15 +3,15 @@ use Rattle.std.specs.Prelude.{if◌then◌else◌}
 use Prim.Native.Nat.{ℕ, ◌≤◌, ◌<◌}
 use mathlib.Core.Path.{◌≡◌, refl, sym, ap, ◌∙◌}
 use mathlib.Core.Bool.{Bool, true, false}
-use mathlib.Core.List.{List, [], ◌∷◌}
-use mathlib.Core.Option.{Option, none, some}
+use mathlib.Core.List.{List, []}
+use mathlib.Core.Option.{none, some}
 use lib.ListN.{length}
 use lib.Dec.{ltb}
 use borrow.Author.Tests.{ltb-true, ltb-false}
 use Rattle.lists.specs.Lists.{through as up_to, at as nth, maybe, same, gather}
 use Rattle.lists.proofs.Texts.{if_true, if_false}
 use Rattle.characters.specs.declared.Characters.{Characters}
-use Rattle.values.specs.Tokens.{Token, Segment, ends, segments, start, tokens_at}
+use Rattle.values.specs.Tokens.{Token, Segment, ends, segments, tokens_at}
 use Rattle.values.specs.Values.{bytes_of}
 use Rattle.values.proofs.Steps.{at_end}
 use Rattle.segments.specs.declared.Kind.TheVariants.{Unh, Unt}

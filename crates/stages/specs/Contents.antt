@@ -1,5 +1,5 @@
 -- Paper 01, "From bytes to values" and "Normal form": what an input holds; request 2026-10: version 4. Assumes nothing.
-use Rattle.std.specs.Prelude.{ℕ, List, [], ◌∷◌, ◌++◌, map, reverse, if◌then◌else◌}
+use Rattle.std.specs.Prelude.{ℕ, List, ◌∷◌, ◌++◌, map, reverse, if◌then◌else◌}
 use Rattle.lists.specs.Lists.{text}
 use Rattle.characters.specs.declared.Characters.{Characters}
 use Rattle.characters.specs.Characters.{space, six_bytes, advice_of, characters_of, body_start, body}

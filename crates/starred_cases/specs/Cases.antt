@@ -1,8 +1,8 @@
 -- Paper 01, "The example and its neighbours": X, and each case that is marked *; request 2026-10: "The case `UNA:+.?*'` now answers 3 at
 -- 9". Assumes nothing.
-use Rattle.std.specs.Prelude.{ℕ, Bool, true, false, ◌&&◌, List, [], ◌∷◌, ◌++◌, length, take, drop, eqb}
+use Rattle.std.specs.Prelude.{ℕ, Bool, ◌&&◌, List, [], ◌∷◌, ◌++◌, length, take, drop, eqb}
 use Prim.Native.String.{String}
-use Rattle.lists.specs.Lists.{text, same, all}
+use Rattle.lists.specs.Lists.{text, same}
 use Rattle.answers.specs.Answers.{Answer}
 use Rattle.operations.specs.Judge.{judge}
 use Rattle.operations.specs.Compare.{compare}

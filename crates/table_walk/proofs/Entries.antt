@@ -1,16 +1,16 @@
 -- The entries of a level in the table, one at a time: what an entry holds, and what follows it, are again entries from a number up to another.
 -- Assumes nothing.
 use Rattle.std.specs.Prelude.{if◌then◌else◌}
-use Prim.Native.Nat.{ℕ, zero, suc, ◌+◌, ◌-◌, ◌*◌, ◌≤◌, ◌<◌}
+use Prim.Native.Nat.{ℕ, zero, suc, ◌+◌, ◌-◌, ◌≤◌, ◌<◌}
 use mathlib.Core.Path.{◌≡◌, refl, sym, ap, subst, ◌∙◌}
 use mathlib.Core.Bool.{Bool, true, false}
 use mathlib.Core.List.{List, [], ◌∷◌}
 use native.Mathlib.Omega.{arith}
 use lib.ListN.{length, take, drop, length-take}
 use lib.Seq.{take-nil, take-length, take-take, drop-drop}
-use Rattle.lists.specs.Lists.{same, at, maybe}
-use Rattle.message_tables.specs.Entries.{Entry, entry_of, whole_entries, entries_of, is_group, is_mandatory}
-use Rattle.message_tables.specs.Structure.{Structure, entry, lead_of, held_by, levels}
+use Rattle.lists.specs.Lists.{at, maybe}
+use Rattle.message_tables.specs.Entries.{Entry, whole_entries, entries_of, is_group, is_mandatory}
+use Rattle.message_tables.specs.Structure.{entry, lead_of, held_by, levels}
 use Rattle.message_table_laws.specs.Nesting.{Triggered, Lies, Levels}
 use Rattle.message_table_laws.proofs.Entries.{entry_at_lem}
 use Rattle.message_table_laws.proofs.Fitting.{trigger_segment}
@@ -18,7 +18,7 @@ use Rattle.message_table_laws.proofs.Scanning.{whole_entries_lem}
 use Rattle.message_table_laws.proofs.Tree.{levels_next, levels_on}
 use Rattle.table_rows.specs.Rows.{tag_bytes}
 use Rattle.table_walk.specs.declared.Part.{Part}
-use Rattle.table_walk.specs.Walking.{zeros, Tagged, within, entry_at, Lying, Parted}
+use Rattle.table_walk.specs.Walking.{Tagged, within, entry_at, Lying, Parted}
 
 -- ---- lists
 

@@ -10,8 +10,7 @@ use Rattle.characters.specs.declared.Characters.{Characters}
 use Rattle.values.specs.Tokens.{Segment}
 use Rattle.segments.specs.Tags.{tag_of}
 use Rattle.message_tables.specs.Entries.{entries_of}
-use Rattle.message_tables.specs.Structure.{Structure, done, level, levels}
-use Rattle.message_table_laws.specs.Nesting.{Levels}
+use Rattle.message_tables.specs.Structure.{Structure, level, levels}
 use Rattle.message_structures.specs.Walking.{Walked as Told, stopped, through, onward, leads, repeated, walk}
 use Rattle.table_rows.specs.Rows.{tag_bytes}
 use Rattle.table_walk.specs.declared.Next.{Next}

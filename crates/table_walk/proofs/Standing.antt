@@ -1,17 +1,16 @@
 -- Where the walk stands: the tag that it knows there, and one segment on. Assumes nothing.
 use Rattle.std.specs.Prelude.{if◌then◌else◌}
-use Prim.Native.Nat.{ℕ, ◌≤◌, ◌<◌}
+use Prim.Native.Nat.{ℕ, ◌≤◌}
 use mathlib.Core.Path.{◌≡◌, refl, sym, ap, ◌∙◌}
 use mathlib.Core.Bool.{Bool, true, false, false≢true}
 use mathlib.Core.List.{List, [], ◌∷◌}
-use native.Mathlib.Omega.{arith}
 use lib.ListN.{length, drop}
 use lib.Dec.{eqb, ltb}
 use borrow.Author.Tests.{ltb-true, ltb-false, eq-eqb, ne_eqb, eqb-false}
 use Rattle.lists.specs.Lists.{same, through, beyond, cut, gather}
 use Rattle.lists.proofs.Texts.{if_true, if_false, same_eq, same_length, same_refl}
 use Rattle.characters.specs.declared.Characters.{Characters}
-use Rattle.values.specs.Tokens.{Token, Segment, ends, segments, tokens_at}
+use Rattle.values.specs.Tokens.{Token, Segment, ends, segments}
 use Rattle.values.specs.Values.{bytes_of}
 use Rattle.values.proofs.Steps.{at_end}
 use Rattle.segments.specs.Tags.{tag_of}

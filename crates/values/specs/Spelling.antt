@@ -1,6 +1,6 @@
 -- Paper 01, "From bytes to values": the spelling of a list of segments, "each service character inside a value being released
 -- and nothing else"; request 2026-10: repeats. Assumes nothing.
-use Rattle.std.specs.Prelude.{ℕ, zero, suc, Bool, true, false, List, [], ◌∷◌, ◌++◌, map, if◌then◌else◌}
+use Rattle.std.specs.Prelude.{ℕ, zero, suc, Bool, false, List, [], ◌∷◌, ◌++◌, map, if◌then◌else◌}
 use Rattle.characters.specs.declared.Characters.{Characters}
 use Rattle.characters.specs.Characters.{is_service, is_break}
 use Rattle.lists.specs.Lists.{at, maybe, gather, joined}

@@ -1,6 +1,5 @@
 -- `judge_by_table::judge_bodies` meets its contract: 22 answers, or 13 does. Assumes nothing.
 use Rattle.judge_by_table.proofs.Answers.{bodies-refused, length_answers}
-use borrow.Author.Rules.{rules}
 use Rattle.judge_by_table.proofs.judge_bodies.Goals as goal
 
 pub returns-in-Failed : goal.returns-in-Failed

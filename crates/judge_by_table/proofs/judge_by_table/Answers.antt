@@ -1,6 +1,5 @@
 -- `judge_by_table::judge_by_table` meets its contract: 21 answers, or the others do. Assumes nothing.
 use Rattle.judge_by_table.proofs.Answers.{table_refused, table_sound}
-use borrow.Author.Rules.{rules}
 use Rattle.judge_by_table.proofs.judge_by_table.Goals as goal
 
 pub judge_soundly-requires : goal.judge_soundly-requires

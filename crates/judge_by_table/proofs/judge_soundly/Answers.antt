@@ -1,7 +1,6 @@
 -- `judge_by_table::judge_soundly` meets its contract: one of 1 to 12 answers, or 22 and 13 do. Assumes nothing.
 use Rattle.stage_opening.proofs.Runs.{refused_is, passed_is}
 use Rattle.judge_by_table.proofs.Answers.{earlier-refused}
-use borrow.Author.Rules.{rules}
 use Rattle.judge_by_table.proofs.judge_soundly.Goals as goal
 
 pub judge_bodies-requires : goal.judge_bodies-requires

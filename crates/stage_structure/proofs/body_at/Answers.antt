@@ -7,7 +7,6 @@ use Rattle.message_table_laws.proofs.Tags.{sound_levels}
 use Rattle.table_walk.specs.declared.Walked.{Walked}
 use Rattle.table_walk.specs.Walking.{told, standing}
 use Rattle.stage_structure.proofs.Stops.{stops, goes_through, leaves_over, trailer_here, left_on}
-use borrow.Author.Rules.{rules}
 use Rattle.stage_structure.proofs.body_at.Goals as goal
 
 pub through_table-requires : goal.through_table-requires
@@ -16,17 +15,16 @@ through_table-requires c = sound_levels c.args.table.now c.requires
 pub returns-in-Stopped : goal.returns-in-Stopped
 returns-in-Stopped c =
     let x = c.args in
-    stops (sym (ap (told x.c x.s.now) c.in-Stopped.is) ∙ c.through_table.ensures.is) c.IsPlace-in.ensures
+    stops (sym (ap (told x.c x.s.now) c.in-Stopped.is) ∙ c.through_table.ensures.is) c.place_in.ensures
 
 pub returns-then-is_trailer : goal.returns-then-is_trailer
 returns-then-is_trailer c =
     let x = c.args in
-    let n = c.next-in-Through-1.given in
-    let goes = sym (ap (told x.c x.s.now) n.1) ∙ c.through_table.ensures.is in
+    let goes = sym (ap (told x.c x.s.now) c.in-Through.is) ∙ c.through_table.ensures.is in
     let trailer = sym (trailer_here x.c x.s.now _) ∙ sym (ap (is Unt) c.kind_at.ensures) ∙ sym c.is_trailer.ensures ∙ c.if-is_trailer.true in (
       goes_through goes trailer,
       left_on x.c x.s.now x.table.now c.requires x.from _ goes,
-      subst (λ (w : Walked). x.from ≤ (standing w).at) n.1 c.through_table.ensures.later,
+      subst (λ (w : Walked). x.from ≤ (standing w).at) c.in-Through.is c.through_table.ensures.later,
     )
 
 pub returns-else-is_trailer : goal.returns-else-is_trailer

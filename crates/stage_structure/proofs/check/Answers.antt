@@ -1,17 +1,11 @@
 -- `stage_structure::check` meets its contract. The loop's invariant: the first stop from the start is the first stop
 -- from `at` on. What is left of the input falls. Assumes nothing.
-use Prim.Native.Nat.{◌-◌}
-use mathlib.Core.Path.{◌≡◌, refl, sym, ap, subst, ◌∙◌}
+use mathlib.Core.Path.{refl, sym, ap, subst, ◌∙◌}
 use native.Mathlib.Omega.{arith}
-use lib.ListN.{length}
-use Rattle.values.specs.Tokens.{segments, tokens_at}
 use Rattle.segments.specs.declared.Kind.TheVariants.{Unh}
 use Rattle.segments.specs.Kinds.{is}
-use Rattle.message_tables.specs.Structure.{structure_of}
-use Rattle.structure_walks.specs.Walks.{first_stop}
 use Rattle.stage_structure.specs.Stopping.{Says, stopped_at}
 use Rattle.stage_structure.proofs.Stops.{stage_ends, stage_passes, stage_stops, stage_goes}
-use borrow.Author.Rules.{rules}
 use Rattle.stage_structure.proofs.check.Goals as goal
 
 pub loop-at-init : goal.loop-at-init

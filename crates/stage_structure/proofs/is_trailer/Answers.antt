@@ -2,7 +2,6 @@
 use mathlib.Core.Path.{sym, ap}
 use Rattle.segments.specs.declared.Kind.TheVariants.{Unt}
 use Rattle.segments.specs.Kinds.{is}
-use borrow.Author.Rules.{rules}
 use Rattle.stage_structure.proofs.is_trailer.Goals as goal
 
 pub returns-in-Unb : goal.returns-in-Unb

@@ -1,6 +1,5 @@
 -- `stage_structure::place_in` meets its contract. Assumes nothing.
 use Rattle.stage_structure.proofs.Stops.{begins_here, nothing_begins}
-use borrow.Author.Rules.{rules}
 use Rattle.stage_structure.proofs.place_in.Goals as goal
 
 pub returns-then-at-s : goal.returns-then-at-s

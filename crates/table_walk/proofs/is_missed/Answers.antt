@@ -4,7 +4,6 @@ use mathlib.Core.Bool.{Bool, not, ◌&&◌}
 use borrow.Author.Tests.{not-true, not-false}
 use Rattle.lists.specs.Lists.{same}
 use Rattle.table_rows.specs.Rows.{tag_bytes}
-use borrow.Author.Rules.{rules}
 use Rattle.table_walk.proofs.is_missed.Goals as goal
 
 pub returns-then-not-part : goal.returns-then-not-part

@@ -5,7 +5,6 @@ use native.Mathlib.Omega.{arith}
 use Rattle.message_tables.specs.Entries.{Entry, is_group}
 use Rattle.table_rows.proofs.Bytes.{whole_bytes}
 use Rattle.table_walk.proofs.Entries.{lead_group, lead_segment}
-use borrow.Author.Rules.{rules}
 use Rattle.table_walk.proofs.lead_of.Goals as goal
 
 pub overflow_add-number : goal.overflow_add-number

@@ -1,10 +1,9 @@
 -- `table_walk::part_at` meets its contract. Assumes nothing.
-use Prim.Native.Nat.{ℕ, ◌+◌}
+use Prim.Native.Nat.{◌+◌}
 use mathlib.Core.Path.{refl, ap, ◌∙◌}
 use native.Mathlib.Omega.{arith}
 use Rattle.message_tables.specs.Entries.{Entry, is_mandatory}
 use Rattle.table_rows.proofs.Bytes.{whole_bytes}
-use borrow.Author.Rules.{rules}
 use Rattle.table_walk.proofs.part_at.Goals as goal
 
 pub row_at-row-requires : goal.row_at-row-requires

@@ -2,7 +2,6 @@
 use mathlib.Core.Path.{ap, ◌∙◌}
 use Rattle.table_rows.specs.Rows.{tag_bytes}
 use Rattle.table_walk.proofs.Standing.{tag_three, tag_other}
-use borrow.Author.Rules.{rules}
 use Rattle.table_walk.proofs.tag_at.Goals as goal
 
 pub returns-then-word-eq3 : goal.returns-then-word-eq3
