@@ -7,5 +7,3 @@ pub mod Lent
 pub mod Puts
 pub mod Pairs
 pub mod Without
-pub mod Again
-pub mod Local

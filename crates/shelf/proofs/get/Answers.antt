@@ -9,4 +9,4 @@ pub returns : goal.returns
 returns c =
     let x = c.args in
     let p = c.got-part in
-    handed version_two x.s x.slot _ p.ensures.0 p.ensures.1 refl refl
+    handed version_two x.s x.slot _ p.ensures.value p.ensures.inside refl refl

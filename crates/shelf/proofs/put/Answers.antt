@@ -30,4 +30,4 @@ pub returns : goal.returns
 returns c =
     let x = c.args in
     let on = c.put_on in
-    subst (λ (r : Shelved). Puts version_two x.s.now x.input.now r on.new.0) (sym c.shelved_of.ensures) on.ensures
+    subst (λ (r : Shelved). Puts version_two x.s.now x.input.now r on.new.s) (sym c.shelved_of.ensures) on.ensures

@@ -8,7 +8,7 @@ put_step-requires c = lent_fits c.args.s.now c.args.u.now c.requires.1 c.put_tex
 
 pub returns : goal.returns
 returns c = (
-      lent_puts c.args.s.now c.args.u.now c.requires.1 c.args.input.now c.put_text-placed.result c.put_text-placed.new.s c.put_step.new.u
-          c.put_text-placed.ensures.0 c.put_step.ensures.0,
-      c.put_step.ensures.1,
-    )
+  lent_puts c.args.s.now c.args.u.now c.requires.1 c.args.input.now c.put_text-placed.result c.put_text-placed.new.s c.put_step.new.u
+      c.put_text-placed.ensures.0 c.put_step.ensures.0,
+  c.put_step.ensures.1,
+)

@@ -8,7 +8,7 @@ remove_step-requires c = lent_takes c.args.s.now c.args.u.now c.requires.1 c.arg
 
 pub returns : goal.returns
 returns c = (
-      lent_removes c.args.s.now c.args.u.now c.requires.1 c.args.slot c.take_text-taken.result c.take_text-taken.new.s c.remove_step.new.u
-          c.take_text-taken.ensures.0 c.remove_step.ensures.0,
-      c.remove_step.ensures.1,
-    )
+  lent_removes c.args.s.now c.args.u.now c.requires.1 c.args.slot c.take_text-taken.result c.take_text-taken.new.s c.remove_step.new.u
+      c.take_text-taken.ensures.0 c.remove_step.ensures.0,
+  c.remove_step.ensures.1,
+)
