@@ -1,12 +1,12 @@
 -- The lines of a list, read loosely, give its values with their kinds. Assumes nothing.
-use Prim.Native.Nat.{ℕ, zero, suc, ◌≤◌}
+use Prim.Native.Nat.{ℕ, suc, ◌≤◌}
 use mathlib.Core.Path.{◌≡◌, refl, sym, ap, ap₂, ◌∙◌}
-use mathlib.Core.Bool.{Bool, true, false, not, ◌&&◌, ◌||◌, false≢true}
+use mathlib.Core.Bool.{Bool, true, false, not, ◌||◌, false≢true}
 use mathlib.Core.List.{List, [], ◌∷◌, ◌++◌, map, append_assoc, append-nil}
 use native.Mathlib.Omega.{arith}
 use lib.Dec.{eqb}
 use borrow.Author.Tests.{not-true}
-use Rattle.lists.specs.Lists.{if◌then◌else◌, text, same, member, all, beyond, onto, cut, gather}
+use Rattle.lists.specs.Lists.{if◌then◌else◌, member, all, beyond, onto, cut, gather}
 use Rattle.lists.proofs.Texts.{and_left, and_right, and_both, if_true, if_false}
 use Rattle.lists.proofs.Pieces.{None}
 use Rattle.nesting.specs.Nesting.{every}

@@ -1,6 +1,5 @@
 -- What the definitions give: numbers, a list of two segments in columns, and texts that are one slip away from it. In the lines a blank stands
 -- for a tab. Assumes nothing.
-use Prim.Native.Nat.{ℕ}
 use Prim.Native.String.{String}
 use mathlib.Core.Path.{◌≡◌, refl}
 use mathlib.Core.Bool.{true, false}

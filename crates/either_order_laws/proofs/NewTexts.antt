@@ -1,14 +1,14 @@
 -- The texts of a list that are not known, each once: what is known matters only as a test, and the order of the list does not change which they
 -- are. Nothing here knows of shelves. Assumes nothing.
-use Prim.Native.Nat.{ℕ, ◌+◌, ◌≤◌}
+use Prim.Native.Nat.{ℕ, ◌≤◌}
 use mathlib.Core.Path.{◌≡◌, refl, sym, ap, subst, ◌∙◌}
-use mathlib.Core.Bool.{Bool, true, false, ◌||◌, true≢false, or-true}
+use mathlib.Core.Bool.{Bool, true, false, ◌||◌, or-true}
 use mathlib.Core.List.Permᴰ
 use mathlib.Core.List.{List, [], ◌∷◌, map, Permᴰ}
 use mathlib.Core.Logic.{⊎_elim}
 use native.Mathlib.Omega.{arith}
 use lib.ListN.{length}
-use Rattle.lists.specs.Lists.{if◌then◌else◌, same, any}
+use Rattle.lists.specs.Lists.{same, any}
 use Rattle.lists.proofs.Texts.{decided, if_true, if_false, same_eq}
 use Rattle.lists.proofs.Tests.{Says, says_same, fails}
 use Rattle.shelves.specs.Layout.{total}

@@ -1,6 +1,6 @@
 -- Request 2026-08: the language of a table, a "choice of repeats within the limits" that "spells its tags". It does not speak of the walk.
 -- Assumes nothing.
-use Rattle.std.specs.Prelude.{ℕ, zero, suc, ◌≤◌, ◌≡◌, Bool, List, [], ◌∷◌, ◌++◌}
+use Rattle.std.specs.Prelude.{ℕ, zero, suc, ◌≤◌, ◌≡◌, List, [], ◌∷◌, ◌++◌}
 use Rattle.lists.specs.Lists.{if◌then◌else◌}
 use Rattle.message_tables.specs.Structure.{Structure, done, entry}
 

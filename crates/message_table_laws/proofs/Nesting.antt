@@ -3,7 +3,7 @@
 -- which all end within the `under` entries that it still has; `outer` those of the groups that hold the level, which all reach to its end, `count`
 -- entries on; one of them, or the table, ends there. One entry on, each room is one less, and a group without room has ended.
 -- Assumes nothing.
-use Prim.Native.Nat.{ℕ, zero, suc, ◌+◌, ◌-◌, ◌≤◌, ◌<◌}
+use Prim.Native.Nat.{ℕ, zero, suc, ◌+◌, ◌-◌, ◌≤◌}
 use mathlib.Core.Path.{◌≡◌, refl, sym, ap, subst, ◌∙◌}
 use mathlib.Core.Bool.{Bool, true, false}
 use mathlib.Core.Logic.{◌⊎◌, inl, inr, ⊎_elim}
@@ -13,7 +13,6 @@ use native.Mathlib.Omega.{arith}
 use lib.ListN.{length, take, drop, length-take}
 use lib.Seq.{take-length, take-take}
 use Rattle.lists.specs.Lists.{if◌then◌else◌}
-use Rattle.lists.proofs.Texts.{decided}
 use Rattle.refusals.specs.Refusals.{place_if}
 use Rattle.message_tables.specs.Entries.{Entry, is_group}
 use Rattle.message_tables.specs.Soundness.{most_depth, rooms_from, rooms, fits}

@@ -1,8 +1,8 @@
 -- The level and the version that the contents name: refusal 7 goes by the contents, and by whether there is a repetition separator.
 -- Assumes nothing.
 use Prim.Native.Nat.{ℕ}
-use mathlib.Core.Path.{◌≡◌, refl, sym, ap, ◌∙◌}
-use mathlib.Core.Bool.{Bool, true, false, not, ◌&&◌, ◌||◌, true≢false, false≢true}
+use mathlib.Core.Path.{◌≡◌, refl, sym, ◌∙◌}
+use mathlib.Core.Bool.{Bool, true, false, not, ◌&&◌, ◌||◌, false≢true}
 use mathlib.Core.List.{List, [], ◌∷◌, map, reverse, nil≢cons, cons≢nil, head-eq_of_cons-eq}
 use mathlib.Core.Option.{Option, none, some, none-ne-some}
 use Rattle.lists.specs.Lists.{if◌then◌else◌, at, maybe}

@@ -1,7 +1,7 @@
 -- The section that began last in the message tells which section may begin, where each UNS that passed kept the rule; and it is what the
 -- walk keeps. What passed is a list of segments, the nearest first. Assumes nothing.
 use mathlib.Core.Path.{◌≡◌, refl, sym, ap, ap₂, ◌∙◌}
-use mathlib.Core.Bool.{Bool, true, false, not, ◌&&◌, ◌||◌, false≢true, and-false}
+use mathlib.Core.Bool.{Bool, true, not, ◌&&◌, ◌||◌, false≢true, and-false}
 use mathlib.Core.List.{List, [], ◌∷◌, map}
 use native.Mathlib.Omega.{arith}
 use borrow.Author.Tests.{le-ltb}
