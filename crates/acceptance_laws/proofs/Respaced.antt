@@ -15,7 +15,7 @@ use Rattle.lists.specs.Lists.{text, begins, member, is_empty, all, at, maybe, jo
 use Rattle.lists.proofs.Texts.{and_left, and_right, and_both, or_none_left, or_none_right, all_append, if_true, if_false}
 use Rattle.lists.proofs.Tests.{says_begins}
 use Rattle.characters.specs.declared.Characters.{Characters}
-use Rattle.characters.specs.Characters.{usable, six_bytes, is_break, breaks, advised, advice_of, plus_characters, star_characters, begins_version4, control_characters, characters_of, body_start, body, opens}
+use Rattle.characters.specs.Characters.{usable, six_bytes, is_break, advised, advice_of, plus_characters, star_characters, begins_version4, control_characters, characters_of, body_start, body, opens}
 use Rattle.characters.proofs.Words.{SeparatorByte, usable_says}
 use Rattle.refusals.proofs.Stages.{place_none_not}
 use Rattle.values.specs.Spelling.{Bytes, SegmentList, spell_element, spell_segment, leads_break, spell_apart}

@@ -5,7 +5,7 @@ use Prim.Native.Nat.{ℕ, ◌+◌, ◌≤◌}
 use mathlib.Core.Path.{◌≡◌, refl, sym, ap, ◌∙◌}
 use mathlib.Core.Bool.{Bool, true, false, not, ◌&&◌, ◌||◌, false≢true}
 use mathlib.Core.List.{List, [], ◌∷◌, ◌++◌, map}
-use mathlib.Core.Option.{Option, none}
+use mathlib.Core.Option.{none}
 use native.Mathlib.Omega.{arith}
 use lib.Dec.{eqb}
 use borrow.Author.Tests.{ne_eqb}
@@ -13,7 +13,6 @@ use Rattle.lists.specs.Lists.{is_empty, is_single, any, all, gather}
 use Rattle.characters.specs.declared.Characters.{Characters}
 use Rattle.characters.specs.Characters.{has_release, has_repetition, is_service}
 use Rattle.refusals.specs.declared.Fault.TheVariants.{NeedsRelease}
-use Rattle.refusals.specs.declared.Refusal.{Refusal}
 use Rattle.refusals.specs.declared.Outcome.TheVariants.{Passed}
 use Rattle.refusals.specs.Refusals.{met, lowest, outcome}
 use Rattle.values.specs.Tokens.{tokens_at}

@@ -25,10 +25,7 @@ use Rattle.acknowledgement_parts.specs.Parts.{parts_of, part_items, Fine, first_
 pub chosen : (r : Received) {n : ℕ} (k : ℕ) → n ≡ k → get_or (parts_of r) k Date ≡ get_or (parts_of r) n Date
 chosen r k e = ap (λ (n : ℕ). get_or (parts_of r) n Date) (sym e)
 
--- a number that is none of those before it
-pub above : (k n : ℕ) → k ≤ n → (n ≡ k → ⊥) → k + 1 ≤ n
-above k n h d = omega (arith, h, d)
-
+-- the last one
 pub last : (n : ℕ) → 19 ≤ n → n < 20 → n ≡ 19
 last n h k = omega (arith, h, k)
 

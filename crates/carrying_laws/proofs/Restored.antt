@@ -1,6 +1,5 @@
 -- A shelf that is carried into another layout and back again has the bytes that it had: heading, map, pairs and what stands behind them.
 -- Assumes nothing.
-use Rattle.std.specs.Prelude.{if◌then◌else◌}
 use Prim.Native.Nat.{ℕ, zero, suc, ◌+◌, ◌-◌, ◌*◌, ◌≤◌, ◌<◌}
 use mathlib.Core.Path.{◌≡◌, refl, sym, ap, ap₂, ◌∙◌}
 use mathlib.Core.Bool.{true, false}
@@ -9,9 +8,9 @@ use mathlib.Core.Logic.{⊎_elim}
 use native.Mathlib.Omega.{arith}
 use lib.Dec.{eqb}
 use lib.ListN.{length, take, drop, replicate, take-append-drop, length-drop}
-use lib.Seq.{sets, length-sets, length-take-le, take-add, take_at, drop-drop}
+use lib.Seq.{sets, length-take-le, take-add, take_at, drop-drop}
 use borrow.Author.Tests.{eqb-true}
-use Rattle.lists.specs.Lists.{begins, all, gather}
+use Rattle.lists.specs.Lists.{all, gather}
 use Rattle.lists.proofs.Texts.{decided, gather_append, and_left, and_right}
 use Rattle.lists.proofs.Tests.{says_begins}
 use Rattle.numbers.specs.Numbers.{number_at, in_bytes, read_on}
@@ -25,7 +24,7 @@ use Rattle.shelves.proofs.Zeros.{all_drop}
 use Rattle.carrying.specs.Carrying.{carried_pair, carried_as, carried, carried_back}
 use Rattle.carrying.proofs.Parts.{assembled}
 use Rattle.carrying.proofs.Carried.{Carried, map_bytes_lem, from_texts, pair_kept, pair_free}
-use Rattle.carrying.proofs.Ways.{sums, behind, fits, carried_two, two_long, below as lower, fits_back, carried_one, one_long}
+use Rattle.carrying.proofs.Ways.{sums, behind, fits, carried_two, below as lower, fits_back, carried_one, one_long}
 
 -- the bytes of a number that stands there are what stands there
 bytes_of : (s : List ℕ) (at width : ℕ) → Bytes s → at + width ≤ length s → in_bytes width (number_at s at width) ≡ take width (drop at s)

@@ -22,7 +22,7 @@ use Rattle.values.specs.Values.{is_fault}
 use Rattle.stages.specs.Contents.{normal_characters}
 use Rattle.emission_laws.specs.Emission.{nothing, let_out, emitted}
 use Rattle.line_breaks.specs.Unbroken.{unbroken}
-use Rattle.verbatim.specs.Verbatim.{is_normal, idle, faultless, is_visible, visible, Sound}
+use Rattle.verbatim.specs.Verbatim.{is_normal, faultless, is_visible, visible, Sound}
 use Rattle.verbatim.proofs.Held.{nothing_kept}
 use Rattle.verbatim.proofs.Emitted.{Printed, normal_printed, named, led_by, after_release, Keeps, Stands, stands_on, value_stands, Leads, leads_on, value_leads}
 use Rattle.clear_parts.specs.Clear.{Clear, EndsInValue, ClearPart}

@@ -2,7 +2,7 @@
 use Rattle.std.specs.Prelude.{ℕ, ◌-◌, Bool, ◌&&◌, List, [], ◌∷◌, ◌++◌, map, length, take, drop, replicate, eqb, if◌then◌else◌}
 use Prim.Native.String.{String}
 use Rattle.lists.specs.Lists.{text, same, gather}
-use Rattle.starred_cases.specs.Cases.{unb, unh, bgm, unt, unz, with, x, respelled, says}
+use Rattle.starred_cases.specs.Cases.{unh, bgm, unt, unz, with, x, respelled, says}
 use Rattle.columns.specs.Lines.{in_decimal}
 use Rattle.columns.specs.Operations.{exports, export_buffer, imports, import_output}
 

@@ -1,13 +1,13 @@
 -- The lines of a list, read loosely, give its values with their kinds. Assumes nothing.
 use Rattle.std.specs.Prelude.{if◌then◌else◌}
-use Prim.Native.Nat.{ℕ, zero, suc, ◌≤◌}
+use Prim.Native.Nat.{ℕ, suc, ◌≤◌}
 use mathlib.Core.Path.{◌≡◌, refl, sym, ap, ap₂, ◌∙◌}
-use mathlib.Core.Bool.{Bool, true, false, not, ◌&&◌, ◌||◌, false≢true}
+use mathlib.Core.Bool.{Bool, true, false, not, ◌||◌, false≢true}
 use mathlib.Core.List.{List, [], ◌∷◌, ◌++◌, map, append_assoc, append-nil}
 use native.Mathlib.Omega.{arith}
 use lib.Dec.{eqb}
 use borrow.Author.Tests.{not-true}
-use Rattle.lists.specs.Lists.{text, same, member, all, beyond, onto, cut, gather}
+use Rattle.lists.specs.Lists.{member, all, beyond, onto, cut, gather}
 use Rattle.lists.proofs.Texts.{and_left, and_right, and_both, if_true, if_false}
 use Rattle.lists.proofs.Pieces.{None}
 use Rattle.nesting.specs.Nesting.{every}

@@ -2,11 +2,11 @@
 use Rattle.std.specs.Prelude.{if◌then◌else◌}
 use Prim.Native.Nat.{ℕ, zero, suc, ◌+◌, ◌≤◌}
 use mathlib.Core.Path.{◌≡◌, refl, sym, ap, ap₂, ◌∙◌}
-use mathlib.Core.Bool.{Bool, true, false, not, ◌&&◌, and-true, true≢false, false≢true}
-use mathlib.Core.List.{List, [], ◌∷◌, ◌++◌, map, append_assoc, head-eq_of_cons-eq, tail-eq_of_cons-eq, nil≢cons, cons≢nil}
+use mathlib.Core.Bool.{Bool, true, false, not, ◌&&◌, and-true}
+use mathlib.Core.List.{List, [], ◌∷◌, ◌++◌, map, append_assoc, head-eq_of_cons-eq, tail-eq_of_cons-eq, nil≢cons}
 use mathlib.Core.Logic.{◌↔◌}
 use native.Mathlib.Omega.{arith}
-use lib.Dec.{leb, ltb, eqb}
+use lib.Dec.{ltb}
 use borrow.Author.Tests.{lt-ltb, le-ltb, not-true}
 use Rattle.lists.specs.Lists.{is_empty, all, gather, unless_idle, drop_end, trim_end}
 use Rattle.lists.proofs.Texts.{and_left, and_right, and_both}
@@ -15,7 +15,7 @@ use Rattle.nesting_laws.proofs.Shape.{trim_step, shaped_some, shaped_first, shap
 use Rattle.nesting_laws.proofs.Flat.{flat_last, flat_next}
 use Rattle.values.specs.Trimming.{trim_repeat, trim_element, trim_segment}
 use Rattle.values.specs.Spelling.{Bytes, SegmentList}
-use Rattle.operations.specs.ValueList.{Item, rank_of, list_segment, list_of, trim_list}
+use Rattle.operations.specs.ValueList.{Item, rank_of, list_of, trim_list}
 use Rattle.spelling_laws.specs.Bodies.{shaped_segment, Shaped}
 use Rattle.trimming_laws.specs.Kinds.{first_kind}
 use Rattle.trimming_laws.proofs.Nesting.{item, kind_of, flat_first, segment_flat, kinds_list_of}

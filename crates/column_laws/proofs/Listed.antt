@@ -8,7 +8,7 @@ use mathlib.Core.List.{List, [], ◌∷◌, map}
 use mathlib.Core.Logic.{◌↔◌}
 use mathlib.Core.Option.{none}
 use native.Mathlib.Omega.{arith}
-use lib.Dec.{eqb, leb}
+use lib.Dec.{leb}
 use borrow.Author.Tests.{ne_eqb}
 use Rattle.lists.specs.Lists.{same, member, all, beyond, cut}
 use Rattle.lists.proofs.Texts.{and_left, and_right, and_both, same_eq, same_refl}
@@ -16,9 +16,9 @@ use Rattle.nesting.specs.Nesting.{every}
 use Rattle.values.specs.Spelling.{Bytes, SegmentList}
 use Rattle.stages.specs.Contents.{contents}
 use Rattle.stages.specs.Stages.{refusal_of}
-use Rattle.operations.specs.ValueList.{Item, closed, list_of, segments_listed, trim_list}
-use Rattle.spelling_laws.specs.Bodies.{Shaped, shaped_segment}
-use Rattle.trimming_laws.specs.Kinds.{first_kind, kinds_up_to3, Kinds}
+use Rattle.operations.specs.ValueList.{Item, closed, segments_listed, trim_list}
+use Rattle.spelling_laws.specs.Bodies.{Shaped}
+use Rattle.trimming_laws.specs.Kinds.{first_kind, kinds_up_to3}
 use Rattle.trimming_laws.proofs.Nesting.{listed_list_of, shaped_listed}
 use Rattle.trimming_laws.proofs.Trimmed.{trim_list_again, trim_list_shaped}
 use Rattle.normal_form_laws.proofs.Trimmed.{contents_trimmed}

@@ -3,29 +3,25 @@
 use Rattle.std.specs.Prelude.{if◌then◌else◌}
 use Prim.Native.Nat.{ℕ, ◌*◌, ◌<◌}
 use mathlib.Core.Path.{◌≡◌, refl, sym, ap, ap₂, ◌∙◌}
-use mathlib.Core.Bool.{Bool, true, false, not, ◌||◌, true≢false}
-use mathlib.Core.List.{List, [], ◌∷◌, ◌++◌}
+use mathlib.Core.Bool.{Bool, true, false, not}
+use mathlib.Core.List.{List, [], ◌∷◌}
 use mathlib.Core.Logic.{inl}
 use mathlib.Core.Option.{Option, none, some, some-ne-none}
 use native.Mathlib.Omega.{arith}
-use lib.Dec.{eqb, ltb}
 use lib.ListN.{length, take, drop, replicate}
 use lib.Seq.{take-append_seam}
-use borrow.Author.Tests.{lt-ltb}
-use Rattle.lists.specs.Lists.{at, maybe}
 use Rattle.refusals.specs.declared.Fault.TheVariants.{BadList, NoColumns}
 use Rattle.refusals.specs.declared.Refusal.{Refusal}
-use Rattle.refusals.specs.Refusals.{Stage, met, place_if, lowest, or_else, answering}
+use Rattle.refusals.specs.Refusals.{Stage, answering}
 use Rattle.refusals.specs.Limits.{most_numbers}
 use Rattle.refusals.proofs.Stages.{one_place, answering_append, or_else_neither}
 use Rattle.values.specs.Spelling.{Bytes, SegmentList}
 use Rattle.stages.specs.Contents.{contents}
 use Rattle.stages.specs.Stages.{stages, refusal_of}
-use Rattle.answers.specs.Answers.{given, refused}
 use Rattle.operations.specs.Judge.{short_for, stored_in, unless_refused}
 use Rattle.operations.specs.Read.{value_bytes, value_table}
-use Rattle.operations.specs.ValueList.{Item, list_of, list_bytes, list_table, listed_in, segments_listed, trim_list, entries}
-use Rattle.operations.specs.Write.{bad_table, bad_entry, bad_list, numbers_where, written_text, write_stages, write_refusal}
+use Rattle.operations.specs.ValueList.{list_of, list_bytes, list_table, listed_in, segments_listed, trim_list}
+use Rattle.operations.specs.Write.{written_text, write_stages, write_refusal}
 use Rattle.operations.proofs.Words.{write_fifteen}
 use Rattle.trimming_laws.proofs.Tables.{segments_table, list_table_length}
 use Rattle.round_trip_laws.specs.Trips.{list_given}
@@ -33,7 +29,7 @@ use Rattle.round_trip_laws.proofs.Theorems.{written_accepted, written_contents}
 use Rattle.round_trip_laws.proofs.Written.{list_read_lem}
 use Rattle.columns.specs.Lines.{columns_of}
 use Rattle.columns.specs.Reading.{list_in, is_columns}
-use Rattle.columns.specs.Operations.{export_text, export_refusal, exports, export_buffer, bytes_read, table_read, import_text, import_stages, import_refusal, imports, import_output}
+use Rattle.columns.specs.Operations.{export_text, export_refusal, export_buffer, bytes_read, table_read, import_text, import_stages, import_refusal, import_output}
 use Rattle.columns.proofs.Decimals.{in_decimal_lem}
 use Rattle.columns.proofs.Answered.{export_refused, import_refused, import_given}
 use Rattle.columns.proofs.Words.{fits_line_lem, judged_first, export_short, exported}

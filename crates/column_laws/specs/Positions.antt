@@ -1,10 +1,10 @@
 -- Request 2026-12: the lines of a list one after the other, each by the position of its value. A value's position follows from that of the
 -- value before it and from what it begins. Assumes nothing.
-use Rattle.std.specs.Prelude.{ℕ, suc, ◌+◌, List, [], ◌∷◌, ◌++◌, leb, eqb, if◌then◌else◌}
+use Rattle.std.specs.Prelude.{ℕ, ◌+◌, List, [], ◌∷◌, ◌++◌, leb, eqb, if◌then◌else◌}
 use Rattle.values.specs.Spelling.{Bytes}
 use Rattle.operations.specs.ValueList.{Item}
 use Rattle.trimming_laws.specs.Kinds.{first_kind}
-use Rattle.columns.specs.Lines.{tab, line_feed, in_decimal, value_line}
+use Rattle.columns.specs.Lines.{value_line}
 use Rattle.column_laws.specs.declared.Position.{Position}
 
 abbrev pub at : ℕ → ℕ → ℕ → ℕ → Position

@@ -1,7 +1,6 @@
 -- What the definitions give: numbers, a list of two segments in columns, and texts that are one slip away from it. In the lines a blank stands
 -- for a tab. Assumes nothing.
 use Rattle.std.specs.Prelude.{if◌then◌else◌}
-use Prim.Native.Nat.{ℕ}
 use Prim.Native.String.{String}
 use mathlib.Core.Path.{◌≡◌, refl}
 use mathlib.Core.Bool.{true, false}

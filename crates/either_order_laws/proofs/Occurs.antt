@@ -9,7 +9,7 @@ use native.Mathlib.Omega.{arith}
 use lib.Dec.{T, eqb}
 use lib.ListN.{length}
 use borrow.Author.Tests.{eqb-true}
-use Rattle.lists.specs.Lists.{same, any, is_empty}
+use Rattle.lists.specs.Lists.{any, is_empty}
 use Rattle.lists.proofs.Texts.{same_length}
 use Rattle.stages.specs.Contents.{normal_form}
 use Rattle.operations.specs.Compare.{is_accepted}

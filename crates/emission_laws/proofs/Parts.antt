@@ -6,7 +6,7 @@ use mathlib.Core.List.{List, [], ◌∷◌, ◌++◌, map, append-nil, append_as
 use lib.Dec.{leb}
 use Rattle.lists.specs.Lists.{is_empty, gather, through, cut, trim_end, each_led_by, joined, beyond}
 use Rattle.lists.proofs.Texts.{if_true, if_false}
-use Rattle.lists.proofs.Pieces.{beyond_hit, beyond_miss}
+use Rattle.lists.proofs.Pieces.{beyond_miss}
 use Rattle.nesting.specs.Nesting.{Nest, shaped, mapped, nested, spelled, is_idle, idle, trim}
 use Rattle.nesting_laws.proofs.Shape.{trim_step, shaped_some, shaped_first}
 use Rattle.nesting_laws.proofs.Ranks.{depth_exact}

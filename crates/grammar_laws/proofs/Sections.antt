@@ -16,7 +16,7 @@ use Rattle.control_elements.specs.Sections.{section_of, is_section, markers_in, 
 use Rattle.walk_laws.proofs.Places.{each}
 use Rattle.walk_laws.proofs.Sections.{markers_after, markers_step}
 use Rattle.grammar_laws.specs.Grammar.{sections_in, Sections, no_section, detail_alone, summary_alone, detail_summary}
-use Rattle.grammar_laws.proofs.Trail.{◌▸◌, ▸-append, ▸-map}
+use Rattle.grammar_laws.proofs.Trail.{◌▸◌, ▸-map}
 use Rattle.grammar_laws.proofs.Pieces.{number, passed_over}
 
 -- ---- the sections that have begun in the message

@@ -24,7 +24,7 @@ use Rattle.grammar_laws.proofs.Trail.{◌▸◌, ▸-map, Each, none_yet, each_m
 use Rattle.grammar_laws.proofs.Order.{standing_complete}
 use Rattle.grammar_laws.proofs.Pieces.{kinds, messages_groups, some_groups, messages_size, groups_size}
 use Rattle.grammar_laws.proofs.Passing.{Saying, Passes, Rules, each_clear, clear_each}
-use Rattle.grammar_laws.proofs.Control.{Says, passes-iff, agreeing}
+use Rattle.grammar_laws.proofs.Control.{passes-iff, agreeing}
 use Rattle.grammar_laws.proofs.Begun.{whole}
 use Rattle.grammar_laws.proofs.Gone.{gone}
 

@@ -1,25 +1,25 @@
 -- Two files that begin with the same bytes: where the walk to the first UNZ ends within these, it is the same in both. Assumes nothing.
 use Rattle.std.specs.Prelude.{if◌then◌else◌}
 use Prim.Native.Nat.{ℕ, zero, suc, ◌+◌, ◌≤◌, ◌<◌}
-use mathlib.Core.Path.{◌≡◌, refl, sym, ap, ap₂, ◌∙◌, subst}
+use mathlib.Core.Path.{◌≡◌, refl, sym, ap, ◌∙◌}
 use mathlib.Core.Bool.{Bool, true, false}
 use mathlib.Core.List.{List, [], ◌∷◌, ◌++◌}
-use mathlib.Core.Option.{Option, none, some}
+use mathlib.Core.Option.{some}
 use native.Mathlib.Omega.{arith}
-use lib.ListN.{length, drop, length-append, length-drop}
+use lib.ListN.{length, drop, length-drop}
 use lib.Seq.{drop-append-le}
-use Rattle.lists.specs.Lists.{through, beyond}
+use Rattle.lists.specs.Lists.{through}
 use Rattle.characters.specs.declared.Characters.{Characters}
 use Rattle.characters.specs.declared.Role.{Role}
 use Rattle.characters.specs.declared.Role.TheVariants.{Separator, Release, Plain}
 use Rattle.characters.specs.Characters.{role, is_break, breaks, after_breaks}
-use Rattle.values.specs.Tokens.{Token, byte, separator, fault, Reading, inside, released, passing, unreleased, reading, taken, tokens_from, tokens, ends, Segment, segments, tokens_at}
+use Rattle.values.specs.Tokens.{Token, byte, separator, fault, Reading, inside, released, unreleased, reading, taken, tokens_from, tokens, ends, Segment, tokens_at}
 use Rattle.values.specs.Values.{end_place, ended_by}
 use Rattle.values.proofs.Steps.{ends_no}
 use Rattle.segments.specs.declared.Kind.TheVariants.{Unz}
 use Rattle.segments.specs.Kinds.{is}
 use Rattle.segments.specs.Tags.{kind_of}
-use Rattle.mailbox_files.specs.Pieces.{is_whole, first_unz, end_behind}
+use Rattle.mailbox_files.specs.Pieces.{is_whole, end_behind}
 use Rattle.mailbox_files.proofs.Ends.{segment_at, ending_from_lem, through_more, ended_more, end_more, ended}
 use Rattle.mailbox_files.proofs.Walks.{whole_ended, unz_from, Found, here, on, found, over_whole, unz_stands}
 

@@ -1,26 +1,25 @@
 -- The pieces of a file are the only list that is cut as the request says. Assumes nothing.
 use Rattle.std.specs.Prelude.{if◌then◌else◌}
-use Prim.Native.Nat.{ℕ, zero, suc, ◌+◌, ◌≤◌, ◌<◌}
+use Prim.Native.Nat.{ℕ, zero, suc, ◌≤◌, ◌<◌}
 use mathlib.Core.Path.{◌≡◌, refl, sym, ap, ap₂, ◌∙◌, subst}
-use mathlib.Core.Logic.{◌↔◌, ⊎_elim}
+use mathlib.Core.Logic.{◌↔◌}
 use mathlib.Core.Bool.{Bool, true, false, true≢false}
 use mathlib.Core.List.{List, [], ◌∷◌, ◌++◌, append-nil, cons≢nil}
 use mathlib.Core.Option.{Option, none, some}
 use native.Mathlib.Omega.{arith}
-use lib.ListN.{length, take, drop, length-append, length-drop, take-append-drop, drop_of_length-le}
+use lib.ListN.{length, take, drop, length-append, length-drop, drop_of_length-le}
 use lib.Seq.{take_all, take-append_seam, drop-append_seam}
 use Rattle.lists.specs.Lists.{gather, maybe}
 use Rattle.values.specs.Tokens.{Segment}
 use Rattle.values.specs.Spelling.{leads_break}
 use Rattle.stages.specs.Contents.{segments_of}
 use Rattle.normal_form_laws.specs.Forms.{end_to_end}
-use Rattle.acceptance_laws.specs.Allowed.{WellOpened}
 use Rattle.mailbox_files.specs.Pieces.{is_unopened, first_unz, unz_of, piece_end, pieces}
 use Rattle.mailbox_files.proofs.Pieces.{unz_within, end_within, no_pieces, pieces_first, pieces_joined}
 use Rattle.mailbox_file_laws.specs.Cutting.{EndsInUnz, Unending, unopened, faulty, endless, Cut, nothing, rest, ended}
 use Rattle.mailbox_file_laws.proofs.Openings.{opened_clear}
 use Rattle.mailbox_file_laws.proofs.Firsts.{None, fault, nowhere, first_none, none_faulty, none_nowhere}
-use Rattle.mailbox_file_laws.proofs.Ends.{end_is, end_followed, cut_unz, cut_end, cut_leads, unz_opened, ends_in_unz, unz_ends}
+use Rattle.mailbox_file_laws.proofs.Ends.{end_followed, cut_unz, cut_end, cut_leads, ends_in_unz, unz_ends}
 
 -- ---- a rest in which no UNZ is reached
 

@@ -2,14 +2,14 @@
 use Rattle.std.specs.Prelude.{if◌then◌else◌}
 use Prim.Native.Nat.{ℕ, zero, suc, ◌+◌, ◌-◌, ◌≤◌, ◌<◌}
 use mathlib.Core.Path.{◌≡◌, refl, sym, ap, ap₂, ◌∙◌, subst}
-use mathlib.Core.Logic.{◌↔◌, ⊎_elim}
+use mathlib.Core.Logic.{⊎_elim}
 use mathlib.Core.Bool.{Bool, true, false, ◌&&◌, ◌||◌}
 use mathlib.Core.List.Memᴰ
 use mathlib.Core.List.{List, [], ◌∷◌, ◌++◌, append_assoc, append-nil, Memᴰ}
 use mathlib.Core.Option.{Option, none, some}
 use native.Mathlib.Omega.{arith}
-use lib.ListN.{length, take, drop, length-append, length-drop, take-append-drop}
-use lib.Seq.{drop-append-le, take-append-add, take-append_seam, length-take-le, take_all, drop-drop}
+use lib.ListN.{length, take, drop, length-drop, take-append-drop}
+use lib.Seq.{drop-append-le, take-append-add, take-append_seam, length-take-le, drop-drop}
 use lib.Dec.{eqb}
 use Rattle.lists.specs.Lists.{text, begins, all, cut, maybe}
 use Rattle.lists.proofs.Texts.{and_both, and_left, and_right, if_true}
@@ -19,17 +19,15 @@ use Rattle.values.specs.Tokens.{Segment, segments, tokens_at}
 use Rattle.values.specs.Values.{end_place}
 use Rattle.values.specs.Spelling.{leads_break}
 use Rattle.values.proofs.Steps.{at_end}
-use Rattle.segments.specs.declared.Kind.TheVariants.{Unz}
-use Rattle.segments.specs.Tags.{kind_of}
 use Rattle.stages.specs.Contents.{body_tokens, segments_of}
 use Rattle.normal_form_laws.proofs.Openings.{breaks_before, breaks_passed}
 use Rattle.mailbox_files.specs.Pieces.{is_whole, is_unopened, first_unz, unz_of, end_behind, piece_end}
 use Rattle.mailbox_files.proofs.Ends.{segment_at, ended}
 use Rattle.mailbox_files.proofs.Walks.{whole_ended, unz_from, Found, here, on, found, segments_whole, unz_stands}
 use Rattle.mailbox_files.proofs.Pieces.{unz_within, end_within}
-use Rattle.mailbox_file_laws.specs.Cutting.{Faultless, NoUnz, EndsInUnz}
+use Rattle.mailbox_file_laws.specs.Cutting.{Faultless, EndsInUnz}
 use Rattle.mailbox_file_laws.proofs.Agreement.{unz_alike}
-use Rattle.mailbox_file_laws.proofs.Openings.{opened_clear, unb, Opening, opening, unz_opens, unz_from_lem, unz_behind}
+use Rattle.mailbox_file_laws.proofs.Openings.{opened_clear, unb, opening, unz_opens, unz_from_lem, unz_behind}
 use Rattle.mailbox_file_laws.proofs.Firsts.{First, first_here, first_on, first_as, first_is}
 
 -- ---- breaks

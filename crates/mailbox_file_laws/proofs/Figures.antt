@@ -1,9 +1,9 @@
 -- What the figures add up to: every piece is counted once, and the longest normal form is that of an accepted one. Assumes nothing.
 use Rattle.std.specs.Prelude.{if◌then◌else◌}
-use Prim.Native.Nat.{ℕ, zero, suc, ◌+◌, ◌≤◌, ◌<◌, max}
-use mathlib.Core.Path.{◌≡◌, refl, sym, ap, ap₂, ◌∙◌, subst}
+use Prim.Native.Nat.{ℕ, zero, suc, ◌+◌, ◌≤◌, max}
+use mathlib.Core.Path.{◌≡◌, refl, sym, ap, ◌∙◌}
 use mathlib.Core.Logic.{◌⊎◌, inl, inr, ⊎_elim}
-use mathlib.Core.Bool.{Bool, true, false, true≢false}
+use mathlib.Core.Bool.{Bool, true, false}
 use mathlib.Core.List.Memᴰ
 use mathlib.Core.List.{List, [], ◌∷◌, map, Memᴰ}
 use mathlib.Core.Option.{Option, none, some, none-ne-some}
@@ -12,10 +12,9 @@ use native.Mathlib.Decide.{dec_le}
 use native.Mathlib.Nat.{lt_of_not-le}
 use lib.ListN.{length}
 use lib.Dec.{eqb}
-use borrow.Author.Tests.{eqb-true, ne_eqb}
-use Rattle.lists.specs.Lists.{those, maybe}
+use borrow.Author.Tests.{eqb-true}
+use Rattle.lists.specs.Lists.{those}
 use Rattle.lists.proofs.Tests.{all_from, tested_from}
-use Rattle.lists.proofs.Texts.{if_true, if_false}
 use Rattle.refusals.specs.declared.Refusal.{Refusal}
 use Rattle.refusals.specs.Refusals.{number}
 use Rattle.refusals.proofs.Order.{number_not_zero}
@@ -23,7 +22,7 @@ use Rattle.stages.specs.Contents.{normal_form}
 use Rattle.stages.specs.Stages.{refusal_of}
 use Rattle.operations.specs.Judge.{judge}
 use Rattle.operations.specs.Compare.{is_accepted}
-use Rattle.mailbox_files.specs.Report.{sum, greatest, numbers, refused_under, normal_lengths, report_over}
+use Rattle.mailbox_files.specs.Report.{sum, greatest, numbers, refused_under, normal_lengths}
 use Rattle.mailbox_files.proofs.Figures.{more_under}
 use Rattle.mailbox_files.proofs.Numbers.{refused_number, number_accepted, number_refused, is_accepted_lem, not_accepted}
 

@@ -12,7 +12,7 @@ use native.Mathlib.Decide.{dec_le}
 use native.Mathlib.Nat.{lt_of_not-le}
 use lib.ListN.{length, get_or, drop}
 use borrow.Author.Tests.{not-false}
-use Rattle.lists.specs.Lists.{member, all, any, cut, gather, at, maybe}
+use Rattle.lists.specs.Lists.{member, any, cut, gather, at, maybe}
 use Rattle.lists.proofs.Numbers.{drop_next}
 use Rattle.lists.proofs.Pieces.{cut_first}
 use Rattle.lists.proofs.Tests.{fails}
@@ -20,10 +20,10 @@ use Rattle.lists.proofs.Texts.{if_true, if_false}
 use Rattle.characters.specs.declared.Characters.{Characters}
 use Rattle.characters.specs.declared.Role.{Role}
 use Rattle.characters.specs.declared.Role.TheVariants.{Separator, Release, Plain}
-use Rattle.characters.specs.Characters.{role, is_break, advice_of, spelled_out, characters_of, body_start, body}
+use Rattle.characters.specs.Characters.{role, is_break, advice_of, spelled_out, characters_of, body_start}
 use Rattle.refusals.specs.Refusals.{place_if}
 use Rattle.refusals.proofs.Stages.{place_none}
-use Rattle.values.specs.Tokens.{Token, inside, released, unreleased, reading, taken, tokens_from, tokens, ends, Segment, segments, start, tokens_at}
+use Rattle.values.specs.Tokens.{Token, inside, unreleased, reading, taken, tokens_from, tokens, ends, Segment, segments, start, tokens_at}
 use Rattle.values.specs.Values.{finished}
 use Rattle.values.specs.Spelling.{leads_break}
 use Rattle.segments.specs.declared.Kind.TheVariants.{Unz}
@@ -34,7 +34,7 @@ use Rattle.stages.specs.Contents.{body_tokens, segments_of, kinds_of}
 use Rattle.stages.specs.Places.{starts_where, broken_tag, broken_tags}
 use Rattle.stages.specs.Stages.{refusal_of}
 use Rattle.spelling_laws.specs.Bodies.{Passes}
-use Rattle.normal_form_laws.specs.Forms.{NormalForm, NormalForms, end_to_end, after_trailer}
+use Rattle.normal_form_laws.specs.Forms.{NormalForms, end_to_end, after_trailer}
 use Rattle.normal_form_laws.proofs.Accepted.{Accepted, accepted_exactly, passes_accepted, order_accepted}
 use Rattle.normal_form_laws.proofs.Accepting.{normal_accepted}
 use Rattle.normal_form_laws.proofs.Tags.{all_finished}
@@ -42,7 +42,7 @@ use Rattle.normal_form_laws.proofs.Trailers.{complete_any, trailer_last}
 use Rattle.acceptance_laws.specs.Allowed.{WellOpened, advice, plus, control}
 use Rattle.acceptance_laws.proofs.Each.{all_each}
 use Rattle.acceptance_laws.proofs.Opening.{opening_clear}
-use Rattle.mailbox_files.specs.Pieces.{is_whole, first_unz, unz_of, end_behind, piece_end, pieces}
+use Rattle.mailbox_files.specs.Pieces.{is_whole, first_unz, unz_of, end_behind, pieces}
 use Rattle.mailbox_files.proofs.Pieces.{end_within}
 use Rattle.mailbox_file_laws.specs.Cutting.{Faultless, NoUnz, EndsInUnz, Cut, nothing, ended}
 use Rattle.mailbox_file_laws.proofs.Openings.{opened_clear}

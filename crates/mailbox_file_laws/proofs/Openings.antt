@@ -1,10 +1,10 @@
 -- What a file begins with decides how its first piece opens, whatever follows. Assumes nothing.
 use Rattle.std.specs.Prelude.{if◌then◌else◌}
-use Prim.Native.Nat.{ℕ, zero, suc, ◌+◌, ◌≤◌, ◌<◌}
-use mathlib.Core.Path.{◌≡◌, refl, sym, ap, ap₂, ◌∙◌, subst}
+use Prim.Native.Nat.{ℕ, zero, suc, ◌+◌, ◌≤◌}
+use mathlib.Core.Path.{◌≡◌, refl, sym, ap, ap₂, ◌∙◌}
 use mathlib.Core.Bool.{Bool, true, false, not, ◌&&◌, ◌||◌, true≢false}
 use mathlib.Core.List.{List, [], ◌∷◌, ◌++◌, append_assoc}
-use mathlib.Core.Option.{Option, none, some}
+use mathlib.Core.Option.{none, some}
 use native.Mathlib.Omega.{arith}
 use lib.ListN.{length, drop, length-append}
 use lib.Seq.{drop-append_seam}
@@ -21,7 +21,7 @@ use Rattle.characters.specs.Notions.{NamesVersion4}
 use Rattle.characters.specs.Characters.{between, upper, lower, digit, separates, has_release, has_repetition, service_characters, is_service, usable, is_break, after_breaks, advice_of, spelled_out, six_bytes, advised, plus_characters, star_characters, begins_version4, control_characters, characters_of, body_start, body, bad_advice, opens, role}
 use Rattle.characters.proofs.Words.{usable_says, version4_says, plus_opening, element_role, plain_role}
 use Rattle.refusals.proofs.Stages.{place_none, place_none_not}
-use Rattle.values.specs.Tokens.{Token, byte, separator, Reading, inside, unreleased, reading, tokens_from, tokens, ends, Segment, segments, tokens_at}
+use Rattle.values.specs.Tokens.{Token, byte, separator, inside, unreleased, reading, tokens_from, tokens, ends, Segment, segments, tokens_at}
 use Rattle.values.specs.Values.{end_place, ended_by}
 use Rattle.values.specs.Spelling.{leads_break}
 use Rattle.values.proofs.Steps.{ends_no}
@@ -31,7 +31,7 @@ use Rattle.normal_form_laws.proofs.Openings.{advice_characters, apart_start}
 use Rattle.acceptance_laws.specs.Allowed.{WellOpened, advice, plus, control}
 use Rattle.acceptance_laws.proofs.Opening.{opening_clear}
 use Rattle.mailbox_files.specs.Pieces.{is_unopened, first_unz, unz_of, end_behind}
-use Rattle.mailbox_files.proofs.Ends.{segment_at, ending_from_lem, through_more, ended_more, end_more, ended}
+use Rattle.mailbox_files.proofs.Ends.{segment_at, ending_from_lem, ended_more, end_more}
 use Rattle.mailbox_files.proofs.Walks.{whole_ended, unz_from, Found, here, on, found, unz_stands}
 
 -- ---- 2 and 3

@@ -1,19 +1,18 @@
 -- What the second Judge answers, stage by stage. Assumes nothing.
 use Prim.Native.Nat.{ℕ, ◌≤◌}
 use mathlib.Core.Path.{◌≡◌, refl, sym, ap, subst, ◌∙◌}
-use mathlib.Core.Logic.{◌↔◌}
 use mathlib.Core.List.Memᴰ
 use mathlib.Core.List.{List, [], ◌∷◌, ◌++◌, Memᴰ}
-use mathlib.Core.Option.{Option, none, some}
+use mathlib.Core.Option.{none, some}
 use Rattle.lists.specs.Lists.{all, those, maybe}
 use Rattle.refusals.specs.declared.Fault.TheVariants.{UnsoundTable, UnmatchedBody}
 use Rattle.refusals.specs.declared.Refusal.{Refusal}
-use Rattle.refusals.specs.Refusals.{Stage, met, lowest, or_else, answering}
+use Rattle.refusals.specs.Refusals.{met, or_else, answering}
 use Rattle.refusals.proofs.Stages.{answering_append}
 use Rattle.refusals.proofs.Words.{place_answers, nowhere_answers}
 use Rattle.stages.specs.Stages.{brackets, brackets_in, stages_in, stages, refusal_of}
 use Rattle.stages.proofs.Stages.{run_on}
-use Rattle.answers.specs.Answers.{Answer, refused, accepted}
+use Rattle.answers.specs.Answers.{refused, accepted}
 use Rattle.operations.specs.Judge.{figures_of, judge}
 use Rattle.message_tables.specs.Soundness.{table_faults}
 use Rattle.message_structures.specs.Bodies.{unmatched_bodies}

@@ -6,7 +6,7 @@ use mathlib.Core.Bool.{Bool, true, false}
 use mathlib.Core.Logic.{◌↔◌, ⊎_elim}
 use mathlib.Core.List.{List, [], ◌∷◌, ◌++◌, head-eq_of_cons-eq, tail-eq_of_cons-eq, nil≢cons, Memᴰ}
 use mathlib.Core.Option.{Option, none, some, none-ne-some, some-injective}
-use Rattle.lists.specs.Lists.{first, at, maybe}
+use Rattle.lists.specs.Lists.{at, maybe}
 use Rattle.lists.proofs.Tests.{fails, first_is}
 use Rattle.values.specs.Tokens.{Segment, start}
 use Rattle.segments.specs.declared.Kind.TheVariants.{Unh, Unt}
@@ -17,7 +17,7 @@ use Rattle.stages.specs.Contents.{segments_of}
 use Rattle.message_tables.specs.Structure.{Structure, structure_of}
 use Rattle.message_structures.specs.Walking.{unmatched}
 use Rattle.message_structures.specs.Bodies.{before, is_trailer, body_in, trailer_start, mismatch, mismatches, unmatched_bodies}
-use Rattle.message_structures.specs.Notions.{Message, StopsAt}
+use Rattle.message_structures.specs.Notions.{StopsAt}
 
 -- ---- where 22 is met
 

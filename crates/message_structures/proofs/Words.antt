@@ -1,14 +1,14 @@
 -- What the definitions say in the request's words: the walk entry by entry, and the language of small tables. Assumes nothing.
 use Rattle.std.specs.Prelude.{if◌then◌else◌}
 use Prim.Native.Nat.{ℕ, zero, suc, ◌≤◌}
-use mathlib.Core.Path.{◌≡◌, refl, sym, ap, subst, ◌∙◌}
-use mathlib.Core.Bool.{Bool, true, false, not, ◌&&◌, false≢true}
+use mathlib.Core.Path.{◌≡◌, refl, sym, ap, ◌∙◌}
+use mathlib.Core.Bool.{Bool, true, false, false≢true}
 use mathlib.Core.Logic.{◌↔◌}
 use mathlib.Core.List.{List, [], ◌∷◌, ◌++◌, append-nil, nil≢cons, head-eq_of_cons-eq}
 use mathlib.Core.Option.{none, some}
 use native.Mathlib.Omega.{arith}
 use lib.ListN.{replicate}
-use Rattle.lists.specs.Lists.{all, those, same}
+use Rattle.lists.specs.Lists.{all, those}
 use Rattle.lists.proofs.Tests.{Says, says_as, says_same}
 use Rattle.refusals.specs.declared.Fault.TheVariants.{TooLong, UnusableAdvice, NoOpening, StrayRelease, UnendedSegment, BrokenTag, ForeignLevel, OutsideLevel, MisplacedSegment, BadControl, ReferenceDiffers, CountWrong, NormalTooLong, UnsoundTable, UnmatchedBody}
 use Rattle.refusals.specs.Refusals.{met}
@@ -16,7 +16,7 @@ use Rattle.stages.specs.Places.{too_long, unusable_advice, no_opening, stray_rel
 use Rattle.stages.specs.Stages.{places_of, brackets, brackets_in, bracketed, stages_in}
 use Rattle.message_tables.specs.Soundness.{table_faults}
 use Rattle.message_tables.specs.Structure.{Structure, done, entry}
-use Rattle.message_structures.specs.Walking.{Walked, stopped, through, onward, leads, repeated, walk, left_over, unmatched}
+use Rattle.message_structures.specs.Walking.{stopped, through, onward, leads, repeated, walk, left_over, unmatched}
 use Rattle.message_structures.specs.Language.{Tags, Repeats, Spells}
 use Rattle.message_structures.specs.Bodies.{unmatched_bodies}
 use Rattle.message_structures.specs.Judging.{structure_stages}

@@ -1,6 +1,6 @@
 -- Request 2026-08: the language of a table, a "choice of repeats within the limits" that "spells its tags". It does not speak of the walk.
 -- Assumes nothing.
-use Rattle.std.specs.Prelude.{ℕ, zero, suc, ◌≤◌, ◌≡◌, Bool, List, [], ◌∷◌, ◌++◌, if◌then◌else◌}
+use Rattle.std.specs.Prelude.{ℕ, zero, suc, ◌≤◌, ◌≡◌, List, [], ◌∷◌, ◌++◌, if◌then◌else◌}
 use Rattle.message_tables.specs.Structure.{Structure, done, entry}
 
 abbrev pub Tags : Type 0

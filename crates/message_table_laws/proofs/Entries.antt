@@ -1,9 +1,9 @@
 -- The entry of a number, where its bytes stand in the table. Assumes nothing.
 use Prim.Native.Nat.{ℕ, zero, suc, ◌+◌, ◌*◌, ◌-◌, ◌≤◌, ◌<◌}
 use mathlib.Core.Path.{◌≡◌, refl, sym, ap, ◌∙◌}
-use mathlib.Core.List.{List, [], ◌∷◌}
+use mathlib.Core.List.{List, ◌∷◌}
 use native.Mathlib.Omega.{arith}
-use lib.ListN.{length, take, drop}
+use lib.ListN.{take, drop}
 use lib.Seq.{drop-drop}
 use Rattle.numbers.specs.Numbers.{read_on, number_at}
 use Rattle.message_tables.specs.Entries.{Entry, entry_of, entries_in, whole_entries, entries_of}

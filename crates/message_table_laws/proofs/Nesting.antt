@@ -4,7 +4,7 @@
 -- entries on; one of them, or the table, ends there. One entry on, each room is one less, and a group without room has ended.
 -- Assumes nothing.
 use Rattle.std.specs.Prelude.{if◌then◌else◌}
-use Prim.Native.Nat.{ℕ, zero, suc, ◌+◌, ◌-◌, ◌≤◌, ◌<◌}
+use Prim.Native.Nat.{ℕ, zero, suc, ◌+◌, ◌-◌, ◌≤◌}
 use mathlib.Core.Path.{◌≡◌, refl, sym, ap, subst, ◌∙◌}
 use mathlib.Core.Bool.{Bool, true, false}
 use mathlib.Core.Logic.{◌⊎◌, inl, inr, ⊎_elim}
@@ -13,7 +13,6 @@ use mathlib.Core.List.{List, [], ◌∷◌, ◌++◌, append_assoc, Memᴰ}
 use native.Mathlib.Omega.{arith}
 use lib.ListN.{length, take, drop, length-take}
 use lib.Seq.{take-length, take-take}
-use Rattle.lists.proofs.Texts.{decided}
 use Rattle.refusals.specs.Refusals.{place_if}
 use Rattle.message_tables.specs.Entries.{Entry, is_group}
 use Rattle.message_tables.specs.Soundness.{most_depth, rooms_from, rooms, fits}

@@ -8,7 +8,7 @@ use mathlib.Core.List.Memᴰ
 use mathlib.Core.List.{List, [], ◌∷◌, Memᴰ}
 use lib.ListN.{length}
 use Rattle.message_tables.specs.Entries.{Entry, entries_of, is_group}
-use Rattle.message_tables.specs.Soundness.{most_depth, is_table_tag, fits, is_sound}
+use Rattle.message_tables.specs.Soundness.{most_depth, is_table_tag, is_sound}
 use Rattle.message_tables.specs.Structure.{structure_of, tags_in, segment_tags}
 use Rattle.message_table_laws.specs.Nesting.{Fits, Levels, Able}
 use Rattle.message_table_laws.proofs.Fitting.{segment_fits_lem}

@@ -1,15 +1,15 @@
 -- The tree of a table whose groups lie in one another: its levels one entry at a time, its tags, and its repeats. Assumes nothing.
 use Rattle.std.specs.Prelude.{if◌then◌else◌}
 use Prim.Native.Nat.{ℕ, zero, suc, ◌-◌, ◌≤◌}
-use mathlib.Core.Path.{◌≡◌, refl, sym, ap, ap₂, subst, ◌∙◌}
+use mathlib.Core.Path.{◌≡◌, refl, sym, ap, ap₂, ◌∙◌}
 use mathlib.Core.Bool.{Bool, true, false}
 use mathlib.Core.List.{List, [], ◌∷◌, ◌++◌}
 use native.Mathlib.Omega.{arith}
-use lib.ListN.{length, take, drop, take-append-drop}
+use lib.ListN.{take, drop, take-append-drop}
 use lib.Seq.{drop-nil}
 use Rattle.lists.specs.Lists.{at, maybe}
 use Rattle.message_tables.specs.Entries.{Entry, is_group, is_mandatory}
-use Rattle.message_tables.specs.Structure.{Structure, done, entry, lead_of, held_by, level, levels, tags_in, segment_tags}
+use Rattle.message_tables.specs.Structure.{Structure, entry, lead_of, held_by, level, levels, tags_in, segment_tags}
 use Rattle.message_table_laws.specs.Nesting.{Triggered, Lies, Level, Levels, Able}
 use Rattle.message_table_laws.proofs.Fitting.{trigger_segment}
 

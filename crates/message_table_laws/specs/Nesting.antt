@@ -1,5 +1,5 @@
 -- What soundness says of a table level by level, as the walk goes through it. Assumes nothing.
-use Rattle.std.specs.Prelude.{ℕ, zero, suc, ◌≤◌, ◌≡◌, Bool, true, false, List, [], ◌∷◌, length}
+use Rattle.std.specs.Prelude.{ℕ, zero, suc, ◌≤◌, ◌≡◌, true, false, List, [], ◌∷◌, length}
 use Rattle.message_tables.specs.Entries.{Entry, is_group}
 use Rattle.message_tables.specs.Soundness.{most_repeats, is_table_tag, is_trigger, fits}
 use Rattle.message_tables.specs.Structure.{Structure, done, entry, held_by}

@@ -14,7 +14,7 @@ use borrow.Author.Tests.{not-true, not-false}
 use Rattle.characters.specs.declared.Characters.{Characters}
 use Rattle.characters.specs.Characters.{between, upper, lower, digit, separates, has_release, has_repetition, service_characters, usable, six_bytes, advised, plus_characters, star_characters, begins_version4, control_characters, characters_of, bad_advice}
 use Rattle.refusals.specs.declared.Fault.TheVariants.{TooLong, UnusableAdvice, NoOpening, StrayRelease, UnendedSegment, BrokenTag, ForeignLevel, OutsideLevel, MisplacedSegment, BadControl, ReferenceDiffers, CountWrong, NormalTooLong}
-use Rattle.refusals.specs.Refusals.{number, met, place_if, lowest, or_else, answering}
+use Rattle.refusals.specs.Refusals.{met, place_if, lowest, or_else, answering}
 use Rattle.refusals.proofs.Stages.{place_none, place_none_not}
 use Rattle.values.specs.Tokens.{Token, place_of}
 use Rattle.values.specs.Values.{is_fault, ends_inside}

@@ -22,7 +22,7 @@ use Rattle.stages.specs.Stages.{refusal_of}
 use Rattle.spelling_laws.specs.Bodies.{Sound, Passes, Shaped, Spellable, Unbroken}
 use Rattle.spelling_laws.proofs.Listing.{segments_append}
 use Rattle.spelling_laws.proofs.Laws.{spelling_passes, spelling_leads, tokens_append}
-use Rattle.normal_form_laws.specs.Forms.{mark_of, form_characters, NormalForm, NormalForms, end_to_end, after_trailer, form_end, cut_up_to}
+use Rattle.normal_form_laws.specs.Forms.{form_characters, NormalForm, NormalForms, end_to_end, after_trailer, form_end, cut_up_to}
 use Rattle.normal_form_laws.proofs.Openings.{advice_characters, apart_start, apart_body}
 use Rattle.normal_form_laws.proofs.Accepted.{accepted_exactly, order_accepted}
 use Rattle.normal_form_laws.proofs.Normal.{normal_spellable, contents_shaped, contents_unbroken, normal_usable}

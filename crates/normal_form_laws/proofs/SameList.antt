@@ -5,7 +5,7 @@ use mathlib.Core.List.{List, []}
 use Rattle.characters.specs.Characters.{characters_of}
 use Rattle.control_elements.specs.Control.{reference_differs, count_wrong}
 use Rattle.stages.specs.Contents.{body_tokens, segments_of, contents}
-use Rattle.stages.specs.Places.{too_long, unusable_advice, no_opening, broken_tags, level, bad_controls, differing_references, wrong_counts, normal_too_long, bad_control}
+use Rattle.stages.specs.Places.{too_long, unusable_advice, no_opening, broken_tags, bad_controls, differing_references, wrong_counts, normal_too_long, bad_control}
 use Rattle.operations.specs.ValueList.{trim_list}
 use Rattle.spelling_laws.specs.Bodies.{listed, read_list, Passes}
 use Rattle.normal_form_laws.specs.Forms.{Suits, BodyPasses, list_read}

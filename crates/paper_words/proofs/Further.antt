@@ -2,7 +2,7 @@
 use lib.Dec.{T}
 use Rattle.lists.specs.Lists.{same, begins, member, all_differ, is_empty, all, those, through, first, at, last_or, onto, cut, unless_idle, drop_end, trim_end, each_led_by, joined, gather, maybe, any, single}
 use Rattle.characters.specs.Characters.{between, upper, lower, digit, separates, has_release, service_characters, is_service, usable, six_bytes, spelled_out, advised, advice_of, plus_characters, control_characters, characters_of, is_break, breaks, after_breaks, body_start, body, bad_advice, opens, role, has_repetition, star_characters, begins_version4}
-use Rattle.refusals.specs.Refusals.{number, met, is_lower, lower_of, lowest, or_else, answering, place_if}
+use Rattle.refusals.specs.Refusals.{met, is_lower, lower_of, lowest, or_else, answering, place_if}
 use Rattle.values.specs.Tokens.{unreleased, reading, taken, tokens_from, tokens, ends, place_of, segments, start}
 use Rattle.values.specs.Values.{byte_of, bytes_of, value_of, values_of, elements_of, is_fault, ended_by, ends_inside, finished, end_place, repeats_of}
 use Rattle.values.specs.Trimming.{trim_element, is_idle, trim_segment, trimmed, value_at, contents_of, trim_repeat}

@@ -16,7 +16,6 @@ use Rattle.characters.specs.Characters.{characters_of, body_start, body, opens, 
 use Rattle.refusals.proofs.Stages.{place_none_not}
 use Rattle.values.specs.Tokens.{Token, byte, inside, released, unreleased, reading, taken, tokens_from, tokens, Segment, ends, segments}
 use Rattle.values.specs.Trimming.{contents_of}
-use Rattle.values.specs.Spelling.{Bytes}
 use Rattle.levels.specs.Levels.{level_of, in_level}
 use Rattle.levels.specs.Notions.{LevelA, LevelB, Names}
 use Rattle.levels.proofs.Words.{in_level_says, names_level, level_names, level_none}

@@ -19,7 +19,7 @@ use Rattle.characters.specs.Notions.{Usable}
 use Rattle.characters.proofs.Words.{six_are}
 use Rattle.refusals.specs.declared.Fault.TheVariants.{TooLong, UnusableAdvice, BufferShort, BadList, NeedsRelease}
 use Rattle.refusals.specs.declared.Refusal.{Refusal}
-use Rattle.refusals.specs.Refusals.{number, Stage, met, place_if, lowest}
+use Rattle.refusals.specs.Refusals.{number, Stage, place_if, lowest}
 use Rattle.refusals.proofs.Words.{place_says}
 use Rattle.refusals.proofs.Stages.{met_none}
 use Rattle.stages.specs.Places.{too_long, unusable_advice}

@@ -2,10 +2,9 @@
 use Prim.Native.Nat.{ℕ}
 use mathlib.Core.Path.{◌≡◌, ap}
 use mathlib.Core.List.{List}
-use mathlib.Core.Option.{Option, none}
+use mathlib.Core.Option.{none}
 use lib.ListN.{length}
 use Rattle.lists.specs.Lists.{maybe}
-use Rattle.values.specs.Tokens.{Segment}
 use Rattle.mailbox_files.specs.Pieces.{end_behind, unz_of, piece_end}
 use Rattle.mailbox_files.proofs.Pieces.{end_within, pieces_first}
 use Rattle.mailbox_files.proofs.Stops.{no_byte, stop_answers, unz_none, none_answers, judged, cut_number}

@@ -1,6 +1,5 @@
 -- Files written out, with what ends their first piece. Assumes nothing.
 use Rattle.std.specs.Prelude.{ℕ, Bool, ◌&&◌, List, [], ◌∷◌, ◌++◌, take, eqb}
-use Prim.Native.String.{String}
 use Rattle.lists.specs.Lists.{text, same, maybe}
 use Rattle.refusals.specs.Refusals.{number}
 use Rattle.starred_cases.specs.Cases.{x, respelled}

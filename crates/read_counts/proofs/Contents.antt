@@ -1,6 +1,6 @@
 -- A list of segments, spelled with the marks, is read as its value list; and what `emission_laws` spells of a body's tokens with them is
 -- read as the value list of the body's contents, whose bytes are all the value bytes of the body. Assumes nothing.
-use Prim.Native.Nat.{ℕ, zero, suc, ◌+◌, ◌≤◌}
+use Prim.Native.Nat.{ℕ, zero, suc, ◌≤◌}
 use native.Mathlib.Omega.{arith}
 use mathlib.Core.Path.{◌≡◌, refl, sym, ap, subst, ◌∙◌}
 use mathlib.Core.Bool.{true, false, false≢true}

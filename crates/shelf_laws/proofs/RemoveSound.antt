@@ -9,7 +9,6 @@ use native.Mathlib.Omega.{arith}
 use lib.Dec.{eqb}
 use lib.ListN.{length, take, drop, length-drop}
 use lib.Seq.{length-take-le}
-use Rattle.lists.specs.Lists.{begins}
 use Rattle.lists.proofs.Tests.{says_eq, decides}
 use Rattle.shelves.specs.Layout.{Layout, held_figure, is_occupied, Occupied, Free, base, heading, start_of, length_of, text_of, held, end_of}
 use Rattle.shelves.specs.Soundness.{is_normal_form}

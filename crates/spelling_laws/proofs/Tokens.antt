@@ -1,13 +1,13 @@
 -- The bytes of a body and its tokens, each from the other: releases and line breaks are settled here, and nothing is nested.
 -- Assumes nothing.
 use Rattle.std.specs.Prelude.{if◌then◌else◌}
-use Prim.Native.Nat.{ℕ, zero, suc, ◌+◌, ◌-◌, ◌≤◌}
+use Prim.Native.Nat.{ℕ, zero, suc, ◌+◌, ◌-◌}
 use mathlib.Core.Path.{◌≡◌, refl, sym, ap, ap₂, ◌∙◌, subst}
 use mathlib.Core.Bool.{Bool, true, false, not, ◌&&◌, ◌||◌, false≢true, true≢false, or-true}
 use mathlib.Core.List.{List, [], ◌∷◌, ◌++◌, map, append_assoc, append-nil, nil≢cons, tail-eq_of_cons-eq}
 use native.Mathlib.Omega.{arith}
 use lib.Dec.{leb}
-use borrow.Author.Tests.{le-leb, leb-true, not-true}
+use borrow.Author.Tests.{not-true}
 use lib.ListN.{length, get_or, drop, length-append}
 use Rattle.lists.specs.Lists.{at, maybe, all, those}
 use Rattle.lists.proofs.Texts.{and_left, and_right, and_both, if_true, if_false}

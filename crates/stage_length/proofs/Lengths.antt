@@ -2,7 +2,7 @@
 use Prim.Native.Nat.{ℕ, ◌+◌, ◌-◌, ◌≤◌}
 use mathlib.Core.Path.{◌≡◌, refl, sym, ap, ◌∙◌}
 use mathlib.Core.Bool.{Bool, ◌&&◌}
-use mathlib.Core.List.{List, [], ◌∷◌, ◌++◌}
+use mathlib.Core.List.{List, [], ◌∷◌}
 use native.Mathlib.Omega.{arith}
 use lib.ListN.{length, take, drop, length-append}
 use Rattle.characters.specs.declared.Characters.{Characters}
@@ -10,7 +10,7 @@ use Rattle.values.specs.Tokens.{Token, byte, separator, fault, tokens_at}
 use Rattle.emission_laws.specs.declared.Held.{Held}
 use Rattle.emission_laws.specs.declared.Measure.{Measure}
 use Rattle.emission_laws.specs.Emission.{nothing, emitted, after}
-use Rattle.emission_laws.proofs.Steps.{goes_byte, goes_separator, goes_fault, goes_end}
+use Rattle.emission_laws.proofs.Steps.{goes_byte, goes_separator, goes_fault}
 use Rattle.ordinary_runs.specs.Runs.{quiet, Run, longer}
 use Rattle.ordinary_runs.proofs.Runs.{run_inside, run_text, run_length, none_after}
 use Rattle.stretches.specs.Stretches.{respelling, emitted_at, Stretch}

@@ -7,7 +7,7 @@ use native.Mathlib.Omega.{arith}
 use lib.ListN.{length, get_or}
 use Rattle.lists.proofs.Texts.{and_left}
 use Rattle.characters.specs.declared.Characters.{Characters}
-use Rattle.values.specs.Tokens.{Token, byte, separator, fault, tokens_at}
+use Rattle.values.specs.Tokens.{byte, separator, fault, tokens_at}
 use Rattle.values.proofs.Steps.{at_plain}
 use Rattle.emission_laws.specs.declared.Held.{Held}
 use Rattle.emission_laws.specs.declared.Measure.{Measure}

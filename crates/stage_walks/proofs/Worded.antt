@@ -13,7 +13,7 @@ use Rattle.lists.specs.Lists.{is_empty, all, those, last_or, through, onto, cut,
 use Rattle.lists.proofs.Pieces.{cut_first, gather_cut}
 use Rattle.refusals.specs.declared.Fault.TheVariants.{StrayRelease, UnendedSegment, BrokenTag}
 use Rattle.refusals.specs.declared.Refusal.{Refusal}
-use Rattle.refusals.specs.Refusals.{number, Stage, met, place_if, lower_of, lowest, or_else, answering}
+use Rattle.refusals.specs.Refusals.{Stage, met, place_if, lower_of, lowest, or_else, answering}
 use Rattle.refusals.proofs.Lowest.{merge, merge_comm, merge_assoc, lowest_append, lowest_gather}
 use Rattle.refusals.proofs.Stages.{lowest_if, or_else_none, or_else_assoc}
 use Rattle.values.specs.Tokens.{Token, byte, separator, fault, ends, place_of, Segment, segments, start}

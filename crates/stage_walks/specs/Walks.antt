@@ -1,6 +1,6 @@
 -- Each stage after the opening as a walk over the tokens or the segments, from left to right, that stops at the first fault.
 -- `size` is the length of the input. Assumes nothing.
-use Rattle.std.specs.Prelude.{ℕ, Bool, true, false, ◌&&◌, List, [], ◌∷◌, map, reverse, if◌then◌else◌}
+use Rattle.std.specs.Prelude.{ℕ, ◌&&◌, List, [], ◌∷◌, map, reverse, if◌then◌else◌}
 use Rattle.std.proofs.Math.Option.{Option, none, some}
 use Rattle.lists.specs.Lists.{maybe}
 use Rattle.refusals.specs.declared.Fault.{Fault}

@@ -1,15 +1,14 @@
 -- Characters that are alike: each byte plays the same part in both, and is spelled with either as it stands. Assumes nothing.
-use Rattle.std.specs.Prelude.{if◌then◌else◌}
 use Prim.Native.Nat.{ℕ, zero, suc, ◌-◌}
 use mathlib.Core.Path.{◌≡◌, refl, sym, ap, ap₂, ◌∙◌}
-use mathlib.Core.Bool.{Bool, true, false, not, ◌&&◌, ◌||◌, and-false}
-use mathlib.Core.List.{List, [], ◌∷◌}
+use mathlib.Core.Bool.{Bool, true, not, ◌&&◌, ◌||◌, and-false}
+use mathlib.Core.List.{[], ◌∷◌}
 use lib.Dec.{eqb}
 use borrow.Author.Tests.{eqb-true, eq-eqb, not-true}
-use Rattle.lists.proofs.Texts.{and_left, and_right, and_both, or_none_left, or_none_right, if_true}
+use Rattle.lists.proofs.Texts.{and_left, and_right, or_none_left, or_none_right, if_true}
 use Rattle.characters.specs.declared.Characters.{Characters}
 use Rattle.characters.specs.declared.Role.{Role}
-use Rattle.characters.specs.declared.Role.TheVariants.{Separator, Release, Plain}
+use Rattle.characters.specs.declared.Role.TheVariants.{Release}
 use Rattle.characters.specs.Characters.{role, is_service, service_characters, has_release, has_repetition}
 use Rattle.values.specs.Spelling.{spell_byte, separator_of}
 use Rattle.spelling_laws.proofs.Service.{Part, separates, releases, plain, part}

@@ -1,5 +1,4 @@
 -- The bytes of a stretch are emitted byte for byte, respelled. Assumes nothing.
-use Rattle.std.specs.Prelude.{if◌then◌else◌}
 use Prim.Native.Nat.{ℕ, zero, suc, ◌+◌, ◌-◌, ◌≤◌, ◌<◌}
 use mathlib.Core.Path.{◌≡◌, refl, sym, ap, ap₂, subst, ◌∙◌}
 use mathlib.Core.Bool.{Bool, true, false, not, ◌&&◌, ◌||◌, false≢true}
@@ -15,7 +14,7 @@ use Rattle.characters.specs.declared.Characters.{Characters}
 use Rattle.characters.specs.declared.Role.{Role}
 use Rattle.characters.specs.declared.Role.TheVariants.{Separator, Release, Plain}
 use Rattle.characters.specs.Characters.{role, is_service, has_release, is_break}
-use Rattle.values.specs.Tokens.{Token, byte, separator, tokens_at}
+use Rattle.values.specs.Tokens.{byte, separator, tokens_at}
 use Rattle.values.specs.Spelling.{spell_byte, separator_of}
 use Rattle.values.proofs.Steps.{at_end, at_plain, at_terminator, at_separator, at_released_release, at_released_separator}
 use Rattle.spelling_laws.proofs.Service.{serves, separable, separable_low, Part, separates, releases, plain, part, service_serves}

@@ -1,5 +1,5 @@
 -- Two results that the contract allows are equal. Assumes nothing.
-use mathlib.Core.Path.{◌≡◌, sym, ◌∙◌}
+use mathlib.Core.Path.{sym, ◌∙◌}
 use Rattle.contracts.proofs.Told.{judged_tells}
 use Rattle.structure_contracts.specs.Tight.{Tight}
 

@@ -9,7 +9,6 @@ use Rattle.segments.specs.Tags.{tag_of}
 use Rattle.message_tables.specs.Entries.{entries_in, whole_entries, entries_of}
 use Rattle.message_tables.specs.Structure.{level, levels, structure_of}
 use Rattle.message_structures.specs.Walking.{walk, left_over, unmatched}
-use Rattle.message_structures.specs.Language.{Tags}
 use Rattle.message_table_laws.proofs.Tags.{sound_tags, sound_able}
 use Rattle.structure_laws.specs.Notions.{Sound, Once, OnceIn, Matches, Spelled}
 use Rattle.structure_laws.proofs.Mapped.{self, unmatched_mapped}

@@ -6,8 +6,6 @@ use mathlib.Core.Bool.{Bool, true, false, not, ◌&&◌, false≢true}
 use mathlib.Core.List.{List, [], ◌∷◌, ◌++◌, append_assoc, append-nil}
 use mathlib.Core.Option.{none, some-ne-none}
 use native.Mathlib.Omega.{arith}
-use native.Mathlib.Nat.{le_refl}
-use lib.ListN.{drop}
 use Rattle.lists.specs.Lists.{same}
 use Rattle.lists.proofs.Texts.{same_eq}
 use Rattle.message_tables.specs.Structure.{Structure, done, entry}

@@ -3,17 +3,16 @@
 use Rattle.std.specs.Prelude.{if◌then◌else◌}
 use Prim.Native.Nat.{ℕ, zero, suc, ◌≤◌}
 use mathlib.Core.Path.{◌≡◌, refl, sym, ap, subst, ◌∙◌}
-use mathlib.Core.Bool.{Bool, true, false, not, ◌&&◌, false≢true}
+use mathlib.Core.Bool.{Bool, true, false, not, ◌&&◌}
 use mathlib.Core.List.Memᴰ
 use mathlib.Core.List.{List, [], ◌∷◌, ◌++◌, append_assoc, append-nil, Memᴰ}
 use mathlib.Core.Option.{none}
 use mathlib.Core.Logic.{◌⊎◌, inl, inr, ⊎_elim}
 use native.Mathlib.Omega.{arith}
-use lib.ListN.{drop}
 use Rattle.lists.specs.Lists.{same}
-use Rattle.lists.proofs.Texts.{decided, same_eq, same_refl}
+use Rattle.lists.proofs.Texts.{same_eq, same_refl}
 use Rattle.message_tables.specs.Structure.{Structure, done, entry, tags_in}
-use Rattle.message_structures.specs.Walking.{Walked, stopped, through, onward, leads, repeated, walk, left_over, unmatched}
+use Rattle.message_structures.specs.Walking.{stopped, through, onward, leads, repeated, walk, left_over, unmatched}
 use Rattle.message_structures.specs.Language.{Tags, Repeats, Spells}
 use Rattle.structure_laws.specs.Notions.{Once}
 use Rattle.structure_laws.proofs.Mapped.{self}

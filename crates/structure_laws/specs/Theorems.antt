@@ -1,7 +1,7 @@
 -- Request 2026-08: what follows for message structures. Each field is a theorem; `proofs/Theorems.antt` proves the record. When an entry is at
 -- fault is said in the request's words in `message_tables` (specs/Notions.antt). Assumes nothing.
 use Rattle.std.specs.Prelude.{ℕ, ◌≡◌, List, [], ◌++◌, ◌↔◌}
-use Rattle.std.proofs.Math.Option.{none, some}
+use Rattle.std.proofs.Math.Option.{some}
 use Rattle.refusals.specs.declared.Fault.TheVariants.{UnsoundTable, UnmatchedBody}
 use Rattle.refusals.specs.declared.Refusal.{Refusal}
 use Rattle.refusals.specs.Refusals.{answering}

@@ -3,7 +3,7 @@ use Rattle.std.specs.Prelude.{if◌then◌else◌}
 use Prim.Native.Nat.{ℕ, ◌≤◌}
 use mathlib.Core.Path.{◌≡◌, refl, sym, ap, subst, ◌∙◌}
 use mathlib.Core.Bool.{Bool, true, false, ◌||◌, false≢true}
-use mathlib.Core.Logic.{◌⊎◌, inl, inr, ⊎_elim}
+use mathlib.Core.Logic.{⊎_elim}
 use mathlib.Core.List.{List, [], ◌∷◌, ◌++◌, Memᴰ}
 use mathlib.Core.Option.{Option, none, some, none-ne-some, some-injective}
 use native.Mathlib.Omega.{arith}
@@ -22,7 +22,7 @@ use Rattle.stages.specs.Contents.{segments_of}
 use Rattle.stages.specs.Stages.{places_of, brackets, brackets_in, stages_in}
 use Rattle.stages.proofs.Stages.{unmet}
 use Rattle.grammar_laws.proofs.Theorem.{input_order}
-use Rattle.stage_walks.proofs.Rows.{Climbs, end, on, climbs_up}
+use Rattle.stage_walks.proofs.Rows.{Climbs, end, on}
 use Rattle.stage_walks.proofs.Rising.{Spans, segments_rise}
 use Rattle.message_tables.specs.Soundness.{is_sound}
 use Rattle.message_tables.specs.Structure.{Structure, structure_of, tags_in}

@@ -6,7 +6,6 @@ use mathlib.Core.Logic.{◌↔◌, ◌⊎◌, ⊎_elim}
 use mathlib.Core.Bool.{Bool, true, false}
 use mathlib.Core.List.{List, [], ◌∷◌, ◌++◌, map}
 use lib.ListN.{length}
-use mathlib.Core.Option.{none, some}
 use Rattle.lists.specs.Lists.{is_single, member, all, gather}
 use Rattle.characters.specs.declared.Characters.{Characters}
 use Rattle.characters.specs.Characters.{has_release, has_repetition, service_characters, is_service, usable, six_bytes, advised, advice_of, characters_of, body_start, body, opens}
@@ -16,7 +15,6 @@ use Rattle.refusals.proofs.Stages.{place_none_not}
 use Rattle.values.specs.Spelling.{spell_byte, spell_value, spell, leads_break}
 use Rattle.stages.specs.Contents.{body_tokens, segments_of, contents, normal_characters, normal_repetition, interchange, normal_form}
 use Rattle.stages.specs.Places.{no_opening, stray_releases, unended_segment}
-use Rattle.stages.specs.Stages.{refusal_of}
 use Rattle.answers.specs.Answers.{given}
 use Rattle.operations.specs.Compare.{compare}
 use Rattle.operations.specs.ValueList.{listed_in, trim_list}

@@ -11,7 +11,7 @@ use borrow.Author.Tests.{not-true}
 use Rattle.lists.specs.Lists.{is_empty, all, last_or, onto, cut, gather}
 use Rattle.lists.proofs.Texts.{and_left, and_right}
 use Rattle.lists.proofs.Pieces.{None}
-use Rattle.values.specs.Tokens.{Token, byte, separator, ends, segments}
+use Rattle.values.specs.Tokens.{Token, separator, ends, segments}
 use Rattle.values.specs.Values.{byte_of, bytes_of, value_of, values_of, repeats_of, elements_of, ended_by, ends_inside}
 use Rattle.values.specs.Trimming.{trim_segment, contents_of}
 use Rattle.values.specs.Spelling.{Bytes}
@@ -19,7 +19,7 @@ use Rattle.emission_laws.proofs.Cases.{known}
 use Rattle.operations.specs.ValueList.{Item, rank_of, closed, closes, repeats_listed, elements_listed, segments_listed, trim_list}
 use Rattle.spelling_laws.specs.Bodies.{words_of}
 use Rattle.trimming_laws.specs.Kinds.{first_kind}
-use Rattle.held_separators.specs.Putting.{value_byte, value_tokens}
+use Rattle.held_separators.specs.Putting.{value_tokens}
 use Rattle.normal_form_laws.proofs.Trimmed.{contents_words}
 use Rattle.value_list_text.specs.Composing.{list_tokens}
 

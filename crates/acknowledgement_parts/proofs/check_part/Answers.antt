@@ -1,6 +1,5 @@
 -- `acknowledgement_parts::check_part` meets its contract: only a lent list may have a record that cannot stand. Assumes nothing.
 use mathlib.Core.Path.{◌∙◌}
-use borrow.Author.Rules.{rules}
 use Rattle.acknowledgement_parts.specs.Parts.{lent_by}
 use Rattle.acknowledgement_parts.proofs.Cases.{fine_as, stands_as, bare_as}
 use Rattle.acknowledgement_parts.proofs.Bare.{word_stands, syntax_stands, element_stands, lent_bare}

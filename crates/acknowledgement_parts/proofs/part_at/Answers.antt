@@ -2,9 +2,8 @@
 use Prim.Native.Nat.{◌≤◌}
 use mathlib.Core.Path.{◌∙◌}
 use native.Mathlib.Omega.{arith}
-use borrow.Author.Rules.{rules}
 use Rattle.acknowledgement_parts.specs.Parts.{parts_of}
-use Rattle.acknowledgement_parts.proofs.Cases.{chosen, above, last}
+use Rattle.acknowledgement_parts.proofs.Cases.{chosen, last}
 use Rattle.acknowledgement_parts.proofs.part_at.Goals as goal
 
 pub returns-in-0 : goal.returns-in-0
@@ -87,25 +86,5 @@ pub returns-in_default : goal.returns-in_default
 unfolding parts_of
 returns-in_default c =
     let n = c.args.number in
-    let none = c.in_default.rest in
-    let from-0 : 0 ≤ n = omega arith in
-    let from-1 : 1 ≤ n = above 0 n from-0 none.0.0.0.0.0.0.0.0.0.0.0.0.0.0.0.0.0.0.1 in
-    let from-2 : 2 ≤ n = above 1 n from-1 none.0.0.0.0.0.0.0.0.0.0.0.0.0.0.0.0.0.1 in
-    let from-3 : 3 ≤ n = above 2 n from-2 none.0.0.0.0.0.0.0.0.0.0.0.0.0.0.0.0.1 in
-    let from-4 : 4 ≤ n = above 3 n from-3 none.0.0.0.0.0.0.0.0.0.0.0.0.0.0.0.1 in
-    let from-5 : 5 ≤ n = above 4 n from-4 none.0.0.0.0.0.0.0.0.0.0.0.0.0.0.1 in
-    let from-6 : 6 ≤ n = above 5 n from-5 none.0.0.0.0.0.0.0.0.0.0.0.0.0.1 in
-    let from-7 : 7 ≤ n = above 6 n from-6 none.0.0.0.0.0.0.0.0.0.0.0.0.1 in
-    let from-8 : 8 ≤ n = above 7 n from-7 none.0.0.0.0.0.0.0.0.0.0.0.1 in
-    let from-9 : 9 ≤ n = above 8 n from-8 none.0.0.0.0.0.0.0.0.0.0.1 in
-    let from-10 : 10 ≤ n = above 9 n from-9 none.0.0.0.0.0.0.0.0.0.1 in
-    let from-11 : 11 ≤ n = above 10 n from-10 none.0.0.0.0.0.0.0.0.1 in
-    let from-12 : 12 ≤ n = above 11 n from-11 none.0.0.0.0.0.0.0.1 in
-    let from-13 : 13 ≤ n = above 12 n from-12 none.0.0.0.0.0.0.1 in
-    let from-14 : 14 ≤ n = above 13 n from-13 none.0.0.0.0.0.1 in
-    let from-15 : 15 ≤ n = above 14 n from-14 none.0.0.0.0.1 in
-    let from-16 : 16 ≤ n = above 15 n from-15 none.0.0.0.1 in
-    let from-17 : 17 ≤ n = above 16 n from-16 none.0.0.1 in
-    let from-18 : 18 ≤ n = above 17 n from-17 none.0.1 in
-    let from-19 : 19 ≤ n = above 18 n from-18 none.1 in
+    let from-19 : 19 ≤ n = omega arith in
     chosen c.args.r {n = n} 19 (last n from-19 c.requires)

@@ -1,6 +1,5 @@
 -- `acknowledgement_parts::put_element` meets its contract: a separator, the piece, and nothing held back. Assumes nothing.
 use native.Mathlib.Omega.{arith}
-use borrow.Author.Rules.{rules}
 use Rattle.acknowledgement_parts.proofs.Parts.{element_lead, element_fits, element_put, past_separator}
 use Rattle.acknowledgement_parts.proofs.put_element.Goals as goal
 

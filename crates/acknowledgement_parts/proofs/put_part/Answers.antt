@@ -1,6 +1,5 @@
 -- `acknowledgement_parts::put_part` meets its contract: one case for each kind of part. Assumes nothing.
 use native.Mathlib.Omega.{arith}
-use borrow.Author.Rules.{rules}
 use Rattle.emission_laws.specs.Emission.{waiting}
 use Rattle.operations.specs.ValueList.{listed_in}
 use Rattle.value_list_text.specs.Advancing.{records_tokens}

@@ -1,6 +1,5 @@
 -- `acknowledgement_parts::put_syntax` meets its contract: a separator and a value, twice. Assumes nothing.
 use native.Mathlib.Omega.{arith}
-use borrow.Author.Rules.{rules}
 use Rattle.acknowledgement_parts.proofs.Parts.{level_lead, level_fits, version_lead, version_fits, syntax_put, past_separator, past_piece}
 use Rattle.acknowledgement_parts.proofs.put_syntax.Goals as goal
 

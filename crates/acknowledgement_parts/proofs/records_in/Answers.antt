@@ -1,7 +1,6 @@
 -- `acknowledgement_parts::records_in` meets its contract: one case for each kind of part. Assumes nothing.
 use mathlib.Core.Path.{sym, ap}
 use native.Mathlib.Omega.{arith}
-use borrow.Author.Rules.{rules}
 use lib.ListN.{length}
 use Rattle.operations.specs.ValueList.{listed_in}
 use Rattle.values.specs.Tokens.{tokens_at}

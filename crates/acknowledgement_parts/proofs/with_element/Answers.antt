@@ -1,6 +1,5 @@
 -- `acknowledgement_parts::with_element` meets its contract: a separator, the piece, and nothing held back. Assumes nothing.
 use native.Mathlib.Omega.{arith}
-use borrow.Author.Rules.{rules}
 use Rattle.acknowledgement_parts.proofs.Parts.{element_advanced, past_separator}
 use Rattle.acknowledgement_parts.proofs.with_element.Goals as goal
 

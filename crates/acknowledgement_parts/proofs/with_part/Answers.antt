@@ -1,6 +1,5 @@
 -- `acknowledgement_parts::with_part` meets its contract: one case for each kind of part. Assumes nothing.
 use native.Mathlib.Omega.{arith}
-use borrow.Author.Rules.{rules}
 use Rattle.emission_laws.specs.Emission.{waiting}
 use Rattle.operations.specs.ValueList.{listed_in}
 use Rattle.acknowledgement_parts.specs.Parts.{lent_by, syntax_items}

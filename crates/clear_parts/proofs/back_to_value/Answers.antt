@@ -1,11 +1,10 @@
 -- `clear_parts::back_to_value` meets its contract. The loop's invariant: the place lies between the two. It falls. Assumes nothing.
-use Prim.Native.Nat.{◌-◌, ◌≤◌}
+use Prim.Native.Nat.{◌-◌}
 use mathlib.Core.Path.{sym, ◌∙◌}
 use mathlib.Core.Bool.{not}
 use native.Mathlib.Omega.{arith}
 use lib.Dec.{leb}
 use lib.ListN.{get_or}
-use borrow.Author.Rules.{rules}
 use borrow.Author.Tests.{not-true, leb-true}
 use Rattle.lists.proofs.Texts.{and_left, and_right}
 use Rattle.clear_parts.proofs.back_to_value.Goals as goal

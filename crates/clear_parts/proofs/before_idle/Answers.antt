@@ -1,16 +1,8 @@
 -- `clear_parts::before_idle` meets its contract. The loop's invariant: nothing is idle up to `at`, unless `first` bytes come before it. What is
 -- left of sixty-four falls. Assumes nothing.
 -- a byte follows, and nothing is idle between the two
-use Prim.Native.Nat.{ℕ, ◌+◌, ◌-◌, ◌≤◌, ◌<◌}
-use mathlib.Core.Path.{◌≡◌, refl, sym, ◌∙◌}
-use mathlib.Core.Bool.{false}
-use mathlib.Core.List.{List}
+use mathlib.Core.Path.{sym, ◌∙◌}
 use native.Mathlib.Omega.{arith}
-use lib.ListN.{length, get_or}
-use borrow.Author.Rules.{rules}
-use Rattle.characters.specs.declared.Characters.{Characters}
-use Rattle.verbatim.specs.Verbatim.{idle}
-use Rattle.first_found.specs.First.{Upto}
 use Rattle.first_found.proofs.Firsts.{upto_none, upto_next}
 use Rattle.clear_parts.proofs.before_idle.Invariants.{Stands}
 use Rattle.clear_parts.proofs.before_idle.Goals as goal

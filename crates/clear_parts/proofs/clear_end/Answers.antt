@@ -1,7 +1,6 @@
 -- `clear_parts::clear_end` meets its contract: nothing is idle up to where clear bytes end, and those before the last place at which a byte of
 -- a value ends are emitted as they stand. Assumes nothing.
 use mathlib.Core.Path.{sym, ◌∙◌}
-use borrow.Author.Rules.{rules}
 use borrow.Author.Tests.{not-false}
 use Rattle.clear_parts.proofs.Parts.{clear_inside, part_none, part_back}
 use Rattle.clear_parts.proofs.clear_end.Goals as goal

@@ -1,10 +1,6 @@
 -- `clear_parts::past_clear` meets its contract. The loop's invariant: nothing is idle up to `at`. What is left of the input falls. Assumes
 -- nothing.
-use Prim.Native.Nat.{◌-◌, ◌≤◌}
 use native.Mathlib.Omega.{arith}
-use lib.ListN.{length}
-use borrow.Author.Rules.{rules}
-use Rattle.clear_parts.specs.Clear.{Clear}
 use Rattle.clear_parts.proofs.Parts.{clear_none, clear_more, clear_less}
 use Rattle.clear_parts.proofs.past_clear.Goals as goal
 

@@ -24,13 +24,13 @@ returns-then-rank_of-least c =
     (omega (arith, c.if-rank_of-least.true, c.rank_of.ensures))
 
 pub overflow_add-n : goal.overflow_add-n
-overflow_add-n c = omega (arith, c.loop-at.invariant.few, c.loop-at-test.true, c.well-formed.0.0)
+overflow_add-n c = omega (arith, c.loop-at.invariant.few, c.loop-at-test.true)
 
 pub overflow_add-at : goal.overflow_add-at
 overflow_add-at c =
     let state = c.loop-at in
     let ahead = checking_ahead c.args.s.now state.at state.p state.n state.least state.invariant c.line_at-l.result c.loop-at-test.true c.line_at-l.ensures c.if-l-eq-NO_KIND.false in
-    omega (arith, ahead.1, c.well-formed.0.0)
+    omega (arith, ahead.1)
 
 pub loop-at-smaller : goal.loop-at-smaller
 loop-at-smaller c =

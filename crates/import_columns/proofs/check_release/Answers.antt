@@ -25,13 +25,13 @@ returns-then-cannot_stand c =
     (sym c.cannot_stand.ensures ∙ c.if-cannot_stand.true)
 
 pub overflow_add-n : goal.overflow_add-n
-overflow_add-n c = omega (arith, c.loop-at.invariant.few, c.loop-at-test.true, c.well-formed.0.0)
+overflow_add-n c = omega (arith, c.loop-at.invariant.few, c.loop-at-test.true)
 
 pub overflow_add-at : goal.overflow_add-at
 overflow_add-at c =
     let x = c.args in
     let state = c.loop-at in
-    omega (arith, c.well-formed.0.0, line_inside x.s.now state.at state.p c.line_at-l.result state.invariant.come c.loop-at-test.true c.line_at-l.ensures)
+    omega (arith, line_inside x.s.now state.at state.p c.line_at-l.result state.invariant.come c.loop-at-test.true c.line_at-l.ensures)
 
 pub loop-at-smaller : goal.loop-at-smaller
 loop-at-smaller c =

@@ -29,8 +29,7 @@ pub next_position-requires-4 : goal.next_position-requires-4
 next_position-requires-4 c =
     let x = c.args in
     let known = c.requires in
-    let size = c.well-formed.0.0 in
-    (omega (arith, known.1, size, known.2.segment), omega (arith, known.1, size, known.2.element), omega (arith, known.1, size, known.2.repeat), omega (arith, known.1, size, known.2.component))
+    (omega (arith, known.1, known.2.segment), omega (arith, known.1, known.2.element), omega (arith, known.1, known.2.repeat), omega (arith, known.1, known.2.component))
 
 pub line_of-requires : goal.line_of-requires
 line_of-requires c = (omega (arith, c.requires.1), omega arith)

@@ -39,7 +39,7 @@ returns-then-m-gt-MOST_BYTES c =
 pub overflow_add-at : goal.overflow_add-at
 overflow_add-at c =
     let state = c.loop-at in
-    omega (arith, c.well-formed.0.0, line_inside c.args.s.now state.at state.p c.line_at-l.result state.invariant.come c.loop-at-test.true c.line_at-l.ensures)
+    omega (arith, line_inside c.args.s.now state.at state.p c.line_at-l.result state.invariant.come c.loop-at-test.true c.line_at-l.ensures)
 
 pub loop-at-smaller : goal.loop-at-smaller
 loop-at-smaller c =

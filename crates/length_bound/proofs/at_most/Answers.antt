@@ -2,7 +2,6 @@
 use native.Mathlib.Omega.{arith}
 use mathlib.Core.Path.{sym, ◌∙◌}
 use lib.ListN.{drop, length-drop}
-use borrow.Author.Rules.{rules}
 use Rattle.length_bound.specs.Unshared.{is_unshared}
 use Rattle.length_bound.proofs.Counted.{counted_most}
 use Rattle.length_bound.proofs.Bound.{most_normal, most_counted}

@@ -1,11 +1,7 @@
 -- `length_bound::count_unshared` meets its contract. The loop's invariant: what is counted, and what is left from `at`, is what was there from
 -- the start. What is left of the input falls. Assumes nothing.
-use Prim.Native.Nat.{◌+◌, ◌-◌}
-use mathlib.Core.Path.{◌≡◌}
 use native.Mathlib.Omega.{arith}
 use lib.ListN.{length, drop, length-drop}
-use borrow.Author.Rules.{rules}
-use Rattle.length_bound.specs.Bound.{counted}
 use Rattle.length_bound.specs.Unshared.{is_unshared}
 use Rattle.length_bound.proofs.Counted.{counted_most, counted_end}
 use Rattle.length_bound.proofs.count_unshared.Goals as goal

@@ -2,12 +2,9 @@
 -- the start. What is left of the input falls. Assumes nothing.
 use Prim.Native.Nat.{◌+◌, ◌-◌}
 use mathlib.Core.Path.{◌≡◌}
-use native.Mathlib.Omega.{arith}
-use lib.ListN.{length, drop, length-drop}
-use borrow.Author.Rules.{rules}
+use lib.ListN.{length, drop}
 use Rattle.length_bound.specs.Bound.{counted}
 use Rattle.length_bound.specs.Unshared.{is_unshared}
-use Rattle.length_bound.proofs.Counted.{counted_most, counted_end}
 use Rattle.length_bound.proofs.count_unshared.Given as goal
 
 abbrev pub invariant-loop-at : goal.invariant-loop-at

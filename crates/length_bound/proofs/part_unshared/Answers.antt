@@ -1,10 +1,9 @@
 -- `length_bound::part_unshared` meets its contract. The loop's invariant: what is counted, and what is left from `at`, is what was there from
 -- the start; and no more is counted than bytes were passed. What is left of the part falls. Assumes nothing.
-use Prim.Native.Nat.{ℕ, ◌+◌, ◌-◌, ◌≤◌}
+use Prim.Native.Nat.{ℕ, ◌+◌}
 use mathlib.Core.Path.{◌≡◌, ap, ◌∙◌}
 use native.Mathlib.Omega.{arith}
 use lib.ListN.{drop}
-use borrow.Author.Rules.{rules}
 use mir.Val.{bool_byte}
 use Rattle.storing.proofs.Stores.{bit_most}
 use Rattle.length_bound.specs.Bound.{counted}

@@ -1,5 +1,4 @@
 -- `length_bound::unshared_of` meets its contract: each service character is asked about. Assumes nothing.
-use borrow.Author.Rules.{rules}
 use Rattle.characters.specs.Characters.{has_release, has_repetition}
 use Rattle.length_bound.specs.Unshared.{unshared}
 use Rattle.length_bound.proofs.unshared_of.Goals as goal

@@ -3,7 +3,6 @@
 use Prim.Native.Nat.{◌+◌, ◌-◌}
 use mathlib.Core.Path.{refl}
 use native.Mathlib.Omega.{arith}
-use borrow.Author.Rules.{rules}
 use Rattle.stretches.specs.declared.Reached.{Reached}
 use Rattle.stretches.proofs.Steps.{later}
 use Rattle.normal_form_text.proofs.Parts.{rest_fits, stored_more, stretch_fits, stretch_stored}

@@ -1,11 +1,10 @@
 -- `normal_form_text::put_part` meets its contract: a part without empty ends is stored without the line breaks, and what follows it after it.
 -- Assumes nothing.
 use Prim.Native.Nat.{ℕ, ◌+◌}
-use mathlib.Core.Path.{◌≡◌, sym, ap, ◌∙◌}
+use mathlib.Core.Path.{sym, ap, ◌∙◌}
 use mathlib.Core.Bool.{◌&&◌}
 use native.Mathlib.Omega.{arith}
 use lib.ListN.{length}
-use borrow.Author.Rules.{rules}
 use Rattle.characters.specs.declared.Characters.{Characters}
 use Rattle.stages.specs.Contents.{normal_characters}
 use Rattle.ordinary_runs.specs.Runs.{quiet}

@@ -1,6 +1,4 @@
 -- `normal_form_text::put_rest` meets its contract: both ways do. Assumes nothing.
-use native.Mathlib.Omega.{arith}
-use borrow.Author.Rules.{rules}
 use Rattle.normal_form_text.proofs.put_rest.Goals as goal
 
 pub returns-then-parted-s : goal.returns-then-parted-s

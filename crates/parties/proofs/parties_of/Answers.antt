@@ -8,8 +8,8 @@ use Rattle.parties.proofs.parties_of.Goals as goal
 pub first_value-requires : goal.first_value-requires
 first_value-requires c =
     let x = c.args in
-    let i = c.i-1 in
-    let t = told_accepted x.s.now c.judge.ensures i.given.1 in
+    let i = c.in-Accepted in
+    let t = told_accepted x.s.now c.judge.ensures i.is in
     let body = c.body_start in
     let second = c.element_after-second in
     let sender = c.run_end-sender in
@@ -18,30 +18,30 @@ first_value-requires c =
 pub first_value-requires-in-Accepted : goal.first_value-requires-in-Accepted
 first_value-requires-in-Accepted c =
     let x = c.args in
-    let i = c.i-1 in
-    let t = told_accepted x.s.now c.judge.ensures i.given.1 in
+    let i = c.in-Accepted in
+    let t = told_accepted x.s.now c.judge.ensures i.is in
     let body = c.body_start in
     let second = c.element_after-second in
     let sender = c.run_end-sender in
     let third = c.next_element-third in
     let recipient = c.run_end-recipient in
-    let to-third = element_past i.given.0.0.characters x.s.now body.result second.result sender.result third.result 0 2 second.ensures.0 sender.ensures third.ensures in
+    let to-third = element_past i.i.characters x.s.now body.result second.result sender.result third.result 0 2 second.ensures.0 sender.ensures third.ensures in
     (whole_from x.s.now t.0 t.1 body.ensures third.result 3 to-third, recipient.ensures)
 
 pub first_value-requires-in-Accepted-2 : goal.first_value-requires-in-Accepted-2
 first_value-requires-in-Accepted-2 c =
     let x = c.args in
-    let i = c.i-1 in
-    let t = told_accepted x.s.now c.judge.ensures i.given.1 in
+    let i = c.in-Accepted in
+    let t = told_accepted x.s.now c.judge.ensures i.is in
     let body = c.body_start in
     let second = c.element_after-second in
     let sender = c.run_end-sender in
     let third = c.next_element-third in
     let recipient = c.run_end-recipient in
-    let to-third = element_past i.given.0.0.characters x.s.now body.result second.result sender.result third.result 0 2 second.ensures.0 sender.ensures third.ensures in
+    let to-third = element_past i.i.characters x.s.now body.result second.result sender.result third.result 0 2 second.ensures.0 sender.ensures third.ensures in
     let fifth = c.element_after-fifth in
     let reference = c.run_end-reference in
-    let to-fifth = element_past i.given.0.0.characters x.s.now body.result third.result recipient.result fifth.result 1 3 to-third recipient.ensures fifth.ensures in
+    let to-fifth = element_past i.i.characters x.s.now body.result third.result recipient.result fifth.result 1 3 to-third recipient.ensures fifth.ensures in
     (whole_from x.s.now t.0 t.1 body.ensures fifth.result 5 to-fifth, reference.ensures)
 
 pub returns-in-Refused : goal.returns-in-Refused
@@ -53,17 +53,17 @@ returns-in-Refused c =
 pub returns-in-Accepted : goal.returns-in-Accepted
 returns-in-Accepted c =
     let x = c.args in
-    let i = c.i-1 in
-    let t = told_accepted x.s.now c.judge.ensures i.given.1 in
+    let i = c.in-Accepted in
+    let t = told_accepted x.s.now c.judge.ensures i.is in
     let body = c.body_start in
     let second = c.element_after-second in
     let sender = c.run_end-sender in
     let third = c.next_element-third in
     let recipient = c.run_end-recipient in
-    let to-third = element_past i.given.0.0.characters x.s.now body.result second.result sender.result third.result 0 2 second.ensures.0 sender.ensures third.ensures in
+    let to-third = element_past i.i.characters x.s.now body.result second.result sender.result third.result 0 2 second.ensures.0 sender.ensures third.ensures in
     let fifth = c.element_after-fifth in
     let reference = c.run_end-reference in
-    let to-fifth = element_past i.given.0.0.characters x.s.now body.result third.result recipient.result fifth.result 1 3 to-third recipient.ensures fifth.ensures in
+    let to-fifth = element_past i.i.characters x.s.now body.result third.result recipient.result fifth.result 1 3 to-third recipient.ensures fifth.ensures in
     parties_found x.s.now t.0 t.1 body.ensures
     (part_is x.s.now t.0 t.1 body.ensures second.result 1 second.ensures.0 c.first_value.ensures)
     (part_is x.s.now t.0 t.1 body.ensures third.result 2 to-third c.first_value-in-Accepted.ensures)

@@ -1,6 +1,5 @@
 -- `read_counts::after_marks` meets its contract. Assumes nothing.
 use native.Mathlib.Nat.{pos_of_ne-zero}
-use borrow.Author.Rules.{rules}
 use Rattle.read_counts.proofs.Steps.{after_none, after_some}
 use Rattle.read_counts.proofs.after_marks.Goals as goal
 

@@ -1,7 +1,6 @@
 -- `read_counts::past_held` meets its contract: the elements are let out, then the repeats, then the components. Assumes nothing.
 use mathlib.Core.Path.{ap, ◌∙◌}
 use native.Mathlib.Omega.{arith}
-use borrow.Author.Rules.{rules}
 use Rattle.read_counts.specs.Tally.{after_marks, past_held}
 use Rattle.read_counts.proofs.Steps.{marks_moved, held_none}
 use Rattle.read_counts.proofs.past_held.Goals as goal

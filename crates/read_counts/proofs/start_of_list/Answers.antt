@@ -1,6 +1,5 @@
 -- `read_counts::start_of_list` meets its contract. Assumes nothing.
 use mathlib.Core.Path.{ap}
-use borrow.Author.Rules.{rules}
 use Rattle.emission_laws.specs.declared.Held.{Held}
 use Rattle.read_counts.specs.Tally.{listing}
 use Rattle.read_counts.proofs.start_of_list.Goals as goal

@@ -4,7 +4,6 @@ use Prim.Native.Nat.{◌-◌}
 use mathlib.Core.Path.{sym, subst}
 use native.Mathlib.Omega.{arith}
 use lib.ListN.{length}
-use borrow.Author.Rules.{rules}
 use Rattle.values.specs.Tokens.{tokens_at}
 use Rattle.scanner.proofs.Lexing.{lexes_as}
 use Rattle.read_counts.specs.declared.Listing.{Listing}

@@ -1,7 +1,6 @@
 -- `read_counts::with_byte` meets its contract: what is held back is let out, then the byte is added. Assumes nothing.
 use mathlib.Core.Path.{ap, ◌∙◌}
 use native.Mathlib.Omega.{arith}
-use borrow.Author.Rules.{rules}
 use Rattle.read_counts.specs.declared.Listing.{Listing}
 use Rattle.read_counts.specs.Tally.{end, grown}
 use Rattle.read_counts.proofs.Steps.{end_held}

@@ -1,7 +1,6 @@
 -- `read_counts::with_one_more` meets its contract. Assumes nothing.
 use Prim.Native.Nat.{◌+◌}
 use mathlib.Core.Path.{ap}
-use borrow.Author.Rules.{rules}
 use Rattle.emission_laws.specs.declared.Held.{Held}
 use Rattle.read_counts.specs.Tally.{listing}
 use Rattle.read_counts.proofs.with_one_more.Goals as goal

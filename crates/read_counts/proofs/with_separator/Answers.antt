@@ -1,6 +1,5 @@
 -- `read_counts::with_separator` meets its contract: a terminator ends a record. Assumes nothing.
 use native.Mathlib.Omega.{arith}
-use borrow.Author.Rules.{rules}
 use borrow.Author.Tests.{le-leb, lt-leb}
 use mathlib.Core.Path.{ap}
 use Rattle.emission_laws.specs.declared.Held.{Held}

@@ -4,7 +4,6 @@ use Prim.Native.Nat.{◌*◌}
 use mathlib.Core.Path.{sym, ap, ◌∙◌}
 use native.Mathlib.Omega.{arith}
 use lib.Seq.{sets}
-use borrow.Author.Rules.{rules}
 use Rattle.read_counts.specs.Tally.{after_marks, past_held}
 use Rattle.read_counts.proofs.Steps.{marks_moved, held_none}
 use Rattle.read_stores.proofs.Storing.{no_held, held_stored}

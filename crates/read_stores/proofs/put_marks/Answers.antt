@@ -1,8 +1,7 @@
 -- `read_stores::put_marks` meets its contract. The loop's invariant: the records that are left, stored from here, give what all of them,
 -- stored at the start, give, and the listing after them is the same. What is left falls. Assumes nothing.
-use Prim.Native.Nat.{◌-◌}
 use native.Mathlib.Omega.{arith}
-use Rattle.read_stores.proofs.Storing.{Lets, lets_start, lets_step, lets_end}
+use Rattle.read_stores.proofs.Storing.{lets_start, lets_step, lets_end}
 use Rattle.read_stores.proofs.put_marks.Goals as goal
 
 pub loop-i-init : goal.loop-i-init

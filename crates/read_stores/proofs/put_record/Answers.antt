@@ -2,7 +2,6 @@
 use Prim.Native.Nat.{◌*◌}
 use native.Mathlib.Omega.{arith}
 use lib.ListN.{length-set}
-use borrow.Author.Rules.{rules}
 use Rattle.read_counts.specs.Tally.{entry_of}
 use Rattle.read_stores.proofs.Storing.{record_stored}
 use Rattle.read_stores.proofs.put_record.Goals as goal

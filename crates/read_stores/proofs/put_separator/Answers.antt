@@ -4,7 +4,6 @@ use mathlib.Core.Path.{sym, ap, ◌∙◌}
 use native.Mathlib.Omega.{arith}
 use lib.ListN.{length}
 use lib.Seq.{sets}
-use borrow.Author.Rules.{rules}
 use Rattle.read_stores.proofs.Storing.{terminator_numbers, no_numbers}
 use Rattle.read_stores.proofs.put_separator.Goals as goal
 

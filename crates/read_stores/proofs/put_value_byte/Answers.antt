@@ -4,7 +4,6 @@ use native.Mathlib.Omega.{arith}
 use Rattle.read_counts.specs.declared.Listing.{Listing}
 use Rattle.read_counts.specs.Tally.{end, grown}
 use Rattle.read_counts.proofs.Steps.{end_held}
-use borrow.Author.Rules.{rules}
 use Rattle.read_stores.proofs.put_value_byte.Goals as goal
 
 pub with_one_more-requires : goal.with_one_more-requires

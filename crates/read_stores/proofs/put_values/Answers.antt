@@ -3,12 +3,11 @@
 use Prim.Native.Nat.{◌-◌, ◌≤◌}
 use native.Mathlib.Omega.{arith}
 use lib.ListN.{length}
-use borrow.Author.Rules.{rules}
 use Rattle.values.specs.Tokens.{tokens_at}
 use Rattle.scanner.proofs.Lexing.{lexes_as}
 use Rattle.plain_runs.proofs.Runs.{run_inside}
 use Rattle.read_counts.specs.Tally.{values, end}
-use Rattle.read_stores.proofs.Storing.{Stored, stored_start, byte_fits, records_fit, separator_fits, stored_separator, stored_fault, stored_end}
+use Rattle.read_stores.proofs.Storing.{stored_start, byte_fits, records_fit, separator_fits, stored_separator, stored_fault, stored_end}
 use Rattle.read_stores.proofs.Runs.{stored_run, run_fits, run_told}
 use Rattle.refusals.specs.Limits.{most_bytes}
 use Rattle.read_stores.proofs.put_values.Goals as goal

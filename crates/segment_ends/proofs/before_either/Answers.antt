@@ -1,15 +1,10 @@
 -- `segment_ends::before_either` meets its contract. The loop's invariant: none of the bytes up to `at` is either, unless `first` bytes come
 -- before it. What is left of sixty-four falls. Assumes nothing.
 -- a byte stands there, and is neither
-use Prim.Native.Nat.{ℕ, ◌+◌, ◌-◌, ◌≤◌, ◌<◌}
-use mathlib.Core.Path.{◌≡◌}
-use mathlib.Core.Bool.{false, ◌||◌}
-use mathlib.Core.List.{List}
+use mathlib.Core.Bool.{◌||◌}
 use native.Mathlib.Omega.{arith}
-use lib.ListN.{length, get_or}
+use lib.ListN.{get_or}
 use lib.Dec.{eqb}
-use borrow.Author.Rules.{rules}
-use Rattle.first_found.specs.First.{Upto}
 use Rattle.first_found.proofs.Firsts.{upto_none, upto_next}
 use Rattle.segment_ends.proofs.before_either.Invariants.{Neither}
 use Rattle.segment_ends.proofs.before_either.Goals as goal

@@ -5,12 +5,9 @@ use Prim.Native.Nat.{ℕ, ◌+◌, ◌-◌, ◌≤◌, ◌<◌}
 use mathlib.Core.Path.{◌≡◌}
 use mathlib.Core.Bool.{false, ◌||◌}
 use mathlib.Core.List.{List}
-use native.Mathlib.Omega.{arith}
 use lib.ListN.{length, get_or}
 use lib.Dec.{eqb}
-use borrow.Author.Rules.{rules}
 use Rattle.first_found.specs.First.{Upto}
-use Rattle.first_found.proofs.Firsts.{upto_none, upto_next}
 use Rattle.segment_ends.proofs.before_either.Given as goal
 
 abbrev pub Neither : ℕ → ℕ → List ℕ → ℕ → Type 0

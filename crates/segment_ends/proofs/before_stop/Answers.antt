@@ -2,7 +2,6 @@
 use Prim.Native.Nat.{ℕ, ◌-◌}
 use mathlib.Core.Path.{sym, subst, ◌∙◌}
 use native.Mathlib.Omega.{arith}
-use borrow.Author.Rules.{rules}
 use Rattle.release_marks.proofs.Reaching.{closed_holds}
 use Rattle.segment_ends.specs.Releases.{Told, Stopped}
 use Rattle.segment_ends.proofs.Passing.{told_here}
@@ -20,8 +19,7 @@ closed-requires c = (omega arith, sym c.is_marked_at.ensures ∙ c.if-is_marked_
 
 pub returns-then-count-eq32 : goal.returns-then-count-eq32
 returns-then-count-eq32 c =
-    let x = c.args in
-    (
+    let x = c.args in (
       omega (arith, c.closed.ensures),
       closed_holds (Told x.c x.s.now) x.c x.s.now (x.from - 4) 32 (omega arith)
           (sym c.is_marked_at.ensures ∙ c.if-is_marked_at.false) c.closed.ensures
@@ -35,8 +33,7 @@ closed-requires-2 c =
 pub returns : goal.returns
 returns c =
     let x = c.args in
-    let stopped = c.first_stop-count in
-    (
+    let stopped = c.first_stop-count in (
       omega (arith, c.closed-2.ensures, stopped.ensures.0),
       closed_holds (Told x.c x.s.now) x.c x.s.now (x.from - 4) stopped.result (omega arith)
           (sym c.is_marked_at.ensures ∙ c.if-is_marked_at.false) c.closed-2.ensures stopped.ensures.1,

@@ -1,11 +1,10 @@
 -- `segment_ends::first_stop` meets its contract. The loop's invariant: each byte up to the `k`th that comes before the first stop is reached, and
 -- the five places stand side by side. What is left of thirty-two falls. Assumes nothing.
-use Prim.Native.Nat.{◌+◌, ◌≤◌, ◌-◌}
-use mathlib.Core.Path.{◌≡◌, refl, sym, ◌∙◌}
+use Prim.Native.Nat.{◌+◌}
+use mathlib.Core.Path.{refl, sym, ◌∙◌}
 use native.Mathlib.Omega.{arith}
-use borrow.Author.Rules.{rules}
 use Rattle.release_marks.specs.Marks.{marked_at}
-use Rattle.release_marks.proofs.Reaching.{Stopping, stopping_none, stopping_next, asked_there}
+use Rattle.release_marks.proofs.Reaching.{stopping_none, stopping_next, asked_there}
 use Rattle.segment_ends.specs.Releases.{Told, stops}
 use Rattle.segment_ends.proofs.Passing.{told_here, told_next}
 use Rattle.segment_ends.proofs.first_stop.Goals as goal

@@ -1,17 +1,13 @@
 -- `segment_ends::first_stop` meets its contract. The loop's invariant: each byte up to the `k`th that comes before the first stop is reached, and
 -- the five places stand side by side. What is left of thirty-two falls. Assumes nothing.
 use Prim.Native.Nat.{◌+◌, ◌≤◌, ◌-◌}
-use mathlib.Core.Path.{◌≡◌, refl, sym, ◌∙◌}
-use native.Mathlib.Omega.{arith}
-use borrow.Author.Rules.{rules}
-use Rattle.release_marks.specs.Marks.{marked_at}
-use Rattle.release_marks.proofs.Reaching.{Stopping, stopping_none, stopping_next, asked_there}
-use Rattle.segment_ends.specs.Releases.{Told, stops}
-use Rattle.segment_ends.proofs.Passing.{told_here, told_next}
+use mathlib.Core.Path.{◌≡◌}
+use Rattle.release_marks.proofs.Reaching.{Stopping}
+use Rattle.segment_ends.specs.Releases.{Told}
 use Rattle.segment_ends.proofs.first_stop.Given as goal
 
 abbrev pub invariant-loop-k : goal.invariant-loop-k
-invariant-loop-k l =    (l.k ≤ 32)
+invariant-loop-k l = (l.k ≤ 32)
     × (l.w ≡ l.from + l.k)
     × (l.x ≡ l.w + 1)
     × (l.y ≡ l.w + 1 + 1)

@@ -1,11 +1,6 @@
 -- `segment_ends::holds_only` meets its contract. The loop's invariant: where only `b` was found so far, the bytes before `at` are. What is left
 -- up to the end falls. Assumes nothing.
-use Prim.Native.Nat.{◌+◌, ◌≤◌, ◌-◌}
-use mathlib.Core.Path.{◌≡◌, subst}
-use mathlib.Core.Bool.{true}
 use native.Mathlib.Omega.{arith}
-use borrow.Author.Rules.{rules}
-use Rattle.segment_ends.specs.Releases.{Only}
 use Rattle.segment_ends.proofs.Passing.{only_none, only_next}
 use Rattle.segment_ends.proofs.holds_only.Goals as goal
 

@@ -1,7 +1,6 @@
 -- `segment_ends::is_taken` meets its contract. Assumes nothing.
 use mathlib.Core.Path.{sym}
 use mathlib.Core.List.{[]}
-use borrow.Author.Rules.{rules}
 use Rattle.segment_ends.proofs.Passing.{release_serves}
 use Rattle.segment_ends.proofs.is_taken.Goals as goal
 

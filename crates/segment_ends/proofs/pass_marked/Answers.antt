@@ -5,11 +5,9 @@ use mathlib.Core.Path.{refl, sym, ap, ◌∙◌}
 use native.Mathlib.Omega.{arith}
 use lib.ListN.{length}
 use lib.Dec.{ltb}
-use borrow.Author.Rules.{rules}
 use borrow.Author.Tests.{ltb-false, not-false}
 use Rattle.lists.proofs.Texts.{or_none_left, or_none_right}
 use Rattle.scanner.specs.Scan.{releasing}
-use Rattle.segment_ends.specs.Releases.{Told}
 use Rattle.segment_ends.proofs.Passing.{goes_far, moves_from, told_here, told_more}
 use Rattle.segment_ends.proofs.pass_marked.Goals as goal
 

@@ -1,16 +1,8 @@
 -- `segment_ends::pass_marked` meets its contract. The loop's invariant: how the segment ends is told from `at` on. What is left of the input falls.
 -- Assumes nothing.
 use Prim.Native.Nat.{◌-◌}
-use mathlib.Core.Path.{refl, sym, ap, ◌∙◌}
-use native.Mathlib.Omega.{arith}
 use lib.ListN.{length}
-use lib.Dec.{ltb}
-use borrow.Author.Rules.{rules}
-use borrow.Author.Tests.{ltb-false, not-false}
-use Rattle.lists.proofs.Texts.{or_none_left, or_none_right}
-use Rattle.scanner.specs.Scan.{releasing}
 use Rattle.segment_ends.specs.Releases.{Told}
-use Rattle.segment_ends.proofs.Passing.{goes_far, moves_from, told_here, told_more}
 use Rattle.segment_ends.proofs.pass_marked.Given as goal
 
 abbrev pub invariant-loop-at : goal.invariant-loop-at

@@ -1,13 +1,8 @@
 -- `segment_ends::past_releases` meets its contract. The loop's invariant: how the segment ends is told from `at` on. What is left of the input
 -- falls. Assumes nothing.
 use Prim.Native.Nat.{◌-◌}
-use mathlib.Core.Path.{refl}
-use native.Mathlib.Omega.{arith}
 use lib.ListN.{length}
-use borrow.Author.Rules.{rules}
-use borrow.Author.Tests.{not-false}
 use Rattle.segment_ends.specs.Releases.{Told}
-use Rattle.segment_ends.proofs.Passing.{told_here, told_releases}
 use Rattle.segment_ends.proofs.past_releases.Given as goal
 
 abbrev pub invariant-loop-at : goal.invariant-loop-at

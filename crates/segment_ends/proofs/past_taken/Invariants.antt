@@ -1,13 +1,8 @@
 -- `segment_ends::past_taken` meets its contract. The loop's invariant: how the segment ends is told from `at` on. What is left of the input falls.
 -- Assumes nothing.
 use Prim.Native.Nat.{◌-◌}
-use mathlib.Core.Path.{sym, ◌∙◌}
-use native.Mathlib.Omega.{arith}
 use lib.ListN.{length}
-use borrow.Author.Rules.{rules}
-use borrow.Author.Tests.{not-false}
 use Rattle.segment_ends.specs.Releases.{Told}
-use Rattle.segment_ends.proofs.Passing.{told_taken}
 use Rattle.segment_ends.proofs.past_taken.Given as goal
 
 abbrev pub invariant-loop-at : goal.invariant-loop-at

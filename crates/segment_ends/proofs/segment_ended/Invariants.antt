@@ -1,14 +1,10 @@
 -- `segment_ends::segment_ended` meets its contract. The loop's invariant: how the segment ends is told from `at` on. What is left of the input
 -- falls. Assumes nothing.
 use Prim.Native.Nat.{◌≤◌, ◌-◌}
-use mathlib.Core.Path.{◌≡◌, refl, ◌∙◌}
-use native.Mathlib.Omega.{arith}
+use mathlib.Core.Path.{◌≡◌}
 use lib.ListN.{length}
-use borrow.Author.Rules.{rules}
 use Rattle.values.specs.Tokens.{tokens_at}
 use Rattle.scanner.specs.Scan.{scanned}
-use Rattle.scanner.proofs.Scanning.{scan_past}
-use Rattle.segment_ends.proofs.Passing.{scans_from_lem, moves_as}
 use Rattle.segment_ends.proofs.segment_ended.Given as goal
 
 abbrev pub invariant-loop-at : goal.invariant-loop-at

@@ -1,12 +1,8 @@
 -- `segment_ends::up_to_either` meets its contract. The loop's invariant: the bytes before `at` are others. What is left of the input falls.
 -- Assumes nothing.
-use Prim.Native.Nat.{◌≤◌, ◌-◌}
 use mathlib.Core.Path.{refl}
 use mathlib.Core.Bool.{false}
 use native.Mathlib.Omega.{arith}
-use lib.ListN.{length}
-use borrow.Author.Rules.{rules}
-use Rattle.scanner.specs.Scan.{Others}
 use Rattle.scanner.proofs.Scanning.{others_none, others_next}
 use Rattle.segment_ends.proofs.up_to_either.Goals as goal
 

@@ -1,6 +1,5 @@
 -- `stage_length::is_whole` meets its contract. Assumes nothing.
 use mathlib.Core.Bool.{false≢true}
-use borrow.Author.Rules.{rules}
 use Rattle.stage_length.proofs.is_whole.Goals as goal
 
 pub returns-then-not-is_normal : goal.returns-then-not-is_normal

@@ -1,10 +1,9 @@
 -- `stage_length::past_part` meets its contract: a part without empty ends counts its bytes without the line breaks, and what follows it is
 -- measured after it. Assumes nothing.
 use Prim.Native.Nat.{ℕ, ◌+◌}
-use mathlib.Core.Path.{◌≡◌, sym, ap, subst, ◌∙◌}
+use mathlib.Core.Path.{sym, ap, subst, ◌∙◌}
 use mathlib.Core.Bool.{◌&&◌}
 use native.Mathlib.Omega.{arith}
-use borrow.Author.Rules.{rules}
 use Rattle.characters.specs.declared.Characters.{Characters}
 use Rattle.ordinary_runs.specs.Runs.{quiet}
 use Rattle.stretches.specs.declared.Reached.{Reached}

@@ -1,6 +1,4 @@
 -- `stage_length::past_rest` meets its contract: both ways do. Assumes nothing.
-use native.Mathlib.Omega.{arith}
-use borrow.Author.Rules.{rules}
 use Rattle.stage_length.proofs.past_rest.Goals as goal
 
 pub returns-then-parted-s : goal.returns-then-parted-s

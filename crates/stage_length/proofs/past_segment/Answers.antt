@@ -1,14 +1,11 @@
 -- `stage_length::past_segment` meets its contract. The loop's invariant: with what is emitted from `at` on the text has the length that it has with
 -- what is emitted from the start; two bytes are spelled or held back for each byte passed, at most; and no fault lies after `at` that does not lie in
 -- the whole. What is left of the input falls. Assumes nothing.
-use Prim.Native.Nat.{◌-◌}
 use mathlib.Core.Path.{refl}
 use native.Mathlib.Omega.{arith}
-use lib.ListN.{length}
-use borrow.Author.Rules.{rules}
 use Rattle.scanner.proofs.Lexing.{lexes_as}
 use Rattle.ordinary_runs.proofs.Runs.{run_inside, none_held}
-use Rattle.stage_length.proofs.Passing.{Passing, passing_none, passing_byte, passing_separator, passing_fault, passing_run, passing_end, passing_terminator}
+use Rattle.stage_length.proofs.Passing.{passing_none, passing_byte, passing_separator, passing_fault, passing_run, passing_end, passing_terminator}
 use Rattle.stage_length.proofs.past_segment.Goals as goal
 
 pub loop-byte-init : goal.loop-byte-init

@@ -1,9 +1,5 @@
 -- `stretches::back_to_value` meets its contract. The loop's invariant: the place lies between the two. It falls. Assumes nothing.
 use Prim.Native.Nat.{◌≤◌}
-use mathlib.Core.Path.{sym, ◌∙◌}
-use native.Mathlib.Omega.{arith}
-use borrow.Author.Rules.{rules}
-use borrow.Author.Tests.{not-true}
 use Rattle.stretches.proofs.back_to_value.Given as goal
 
 abbrev pub invariant-loop-at : goal.invariant-loop-at

@@ -1,17 +1,9 @@
 -- `stretches::before_halt` meets its contract. The loop's invariant: the stretch halts at none of the bytes up to `at`, unless `first` bytes
 -- were passed before that. What is left of thirty-two falls. Assumes nothing.
 -- a byte follows, and the stretch does not halt there
-use Prim.Native.Nat.{ℕ, ◌+◌, ◌-◌, ◌≤◌, ◌<◌}
-use mathlib.Core.Path.{◌≡◌, sym, ◌∙◌}
-use mathlib.Core.Bool.{false}
-use mathlib.Core.List.{List}
+use mathlib.Core.Path.{sym, ◌∙◌}
 use native.Mathlib.Omega.{arith}
-use lib.ListN.{length, get_or}
-use borrow.Author.Rules.{rules}
-use Rattle.characters.specs.declared.Characters.{Characters}
-use Rattle.first_found.specs.First.{Upto}
 use Rattle.first_found.proofs.Firsts.{upto_none, upto_next}
-use Rattle.stretches.specs.Stretches.{halts}
 use Rattle.stretches.proofs.before_halt.Invariants.{Passed}
 use Rattle.stretches.proofs.before_halt.Goals as goal
 

@@ -2,15 +2,12 @@
 -- were passed before that. What is left of thirty-two falls. Assumes nothing.
 -- a byte follows, and the stretch does not halt there
 use Prim.Native.Nat.{ℕ, ◌+◌, ◌-◌, ◌≤◌, ◌<◌}
-use mathlib.Core.Path.{◌≡◌, sym, ◌∙◌}
+use mathlib.Core.Path.{◌≡◌}
 use mathlib.Core.Bool.{false}
 use mathlib.Core.List.{List}
-use native.Mathlib.Omega.{arith}
 use lib.ListN.{length, get_or}
-use borrow.Author.Rules.{rules}
 use Rattle.characters.specs.declared.Characters.{Characters}
 use Rattle.first_found.specs.First.{Upto}
-use Rattle.first_found.proofs.Firsts.{upto_none, upto_next}
 use Rattle.stretches.specs.Stretches.{halts}
 use Rattle.stretches.proofs.before_halt.Given as goal
 

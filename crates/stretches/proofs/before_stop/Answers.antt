@@ -1,8 +1,7 @@
 -- `stretches::before_stop` meets its contract: the stretch passes to where `closed` says, of all bytes or of those reached. Assumes nothing.
 use Prim.Native.Nat.{ℕ, ◌+◌, ◌-◌}
-use mathlib.Core.Path.{◌≡◌, sym, subst, ◌∙◌}
+use mathlib.Core.Path.{sym, subst, ◌∙◌}
 use native.Mathlib.Omega.{arith}
-use borrow.Author.Rules.{rules}
 use Rattle.release_marks.proofs.Reaching.{closed_holds}
 use Rattle.stretches.specs.Releases.{stays, Passes, Stopped}
 use Rattle.stretches.proofs.before_stop.Goals as goal
@@ -19,8 +18,7 @@ closed-requires c = (omega arith, sym c.is_marked_at.ensures ∙ c.if-is_marked_
 
 pub returns-then-count-eq32 : goal.returns-then-count-eq32
 returns-then-count-eq32 c =
-    let x = c.args in
-    (
+    let x = c.args in (
       omega (arith, c.closed.ensures),
       λ n v.
           closed_holds (Passes x.c n x.s.now) x.c x.s.now (x.from - 4) 32 (omega arith)
@@ -35,8 +33,7 @@ closed-requires-2 c =
 pub returns : goal.returns
 returns c =
     let x = c.args in
-    let stopped = c.first_stop-count in
-    (
+    let stopped = c.first_stop-count in (
       omega (arith, c.closed-2.ensures, stopped.ensures.0),
       λ n v.
           closed_holds (Passes x.c n x.s.now) x.c x.s.now (x.from - 4) stopped.result (omega arith)

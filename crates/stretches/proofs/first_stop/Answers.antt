@@ -1,14 +1,11 @@
 -- `stretches::first_stop` meets its contract. The loop's invariant: each byte up to the `k`th that comes before the first stop is reached, and
 -- the six places stand side by side. What is left of thirty-two falls. Assumes nothing.
-use Prim.Native.Nat.{◌+◌, ◌≤◌, ◌-◌}
-use mathlib.Core.Path.{◌≡◌, refl, sym, ◌∙◌}
-use mathlib.Core.Bool.{true}
-use Rattle.characters.specs.declared.Characters.{Characters}
-use Rattle.stretches.specs.Releases.{alike, Passes, stays}
+use Prim.Native.Nat.{◌+◌}
+use mathlib.Core.Path.{refl, sym, ◌∙◌}
+use Rattle.stretches.specs.Releases.{Passes, stays}
 use native.Mathlib.Omega.{arith}
-use borrow.Author.Rules.{rules}
 use Rattle.release_marks.specs.Marks.{marked_at}
-use Rattle.release_marks.proofs.Reaching.{Stopping, stopping_none, stopping_next}
+use Rattle.release_marks.proofs.Reaching.{stopping_none, stopping_next}
 use Rattle.stretches.proofs.Releasing.{passes_next, stops_there}
 use Rattle.stretches.proofs.first_stop.Goals as goal
 

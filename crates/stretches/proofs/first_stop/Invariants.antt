@@ -1,19 +1,15 @@
 -- `stretches::first_stop` meets its contract. The loop's invariant: each byte up to the `k`th that comes before the first stop is reached, and
 -- the six places stand side by side. What is left of thirty-two falls. Assumes nothing.
 use Prim.Native.Nat.{◌+◌, ◌≤◌, ◌-◌}
-use mathlib.Core.Path.{◌≡◌, refl, sym, ◌∙◌}
+use mathlib.Core.Path.{◌≡◌}
 use mathlib.Core.Bool.{true}
 use Rattle.characters.specs.declared.Characters.{Characters}
-use Rattle.stretches.specs.Releases.{alike, Passes, stays}
-use native.Mathlib.Omega.{arith}
-use borrow.Author.Rules.{rules}
-use Rattle.release_marks.specs.Marks.{marked_at}
-use Rattle.release_marks.proofs.Reaching.{Stopping, stopping_none, stopping_next}
-use Rattle.stretches.proofs.Releasing.{passes_next, stops_there}
+use Rattle.stretches.specs.Releases.{alike, Passes}
+use Rattle.release_marks.proofs.Reaching.{Stopping}
 use Rattle.stretches.proofs.first_stop.Given as goal
 
 abbrev pub invariant-loop-k : goal.invariant-loop-k
-invariant-loop-k l =    (l.k ≤ 32)
+invariant-loop-k l = (l.k ≤ 32)
     × (l.w ≡ l.from + l.k)
     × (l.x ≡ l.w + 1)
     × (l.y ≡ l.w + 1 + 1)

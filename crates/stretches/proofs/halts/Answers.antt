@@ -2,7 +2,6 @@
 use mathlib.Core.Path.{ap₂}
 use mathlib.Core.Bool.{Bool, not, ◌&&◌, ◌||◌}
 use lib.Dec.{eqb}
-use borrow.Author.Rules.{rules}
 use Rattle.characters.specs.Characters.{has_release}
 use Rattle.stretches.specs.Stretches.{halts}
 use Rattle.stretches.proofs.halts.Goals as goal

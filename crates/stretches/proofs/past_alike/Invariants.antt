@@ -1,13 +1,8 @@
 -- `stretches::past_alike` meets its contract. The loop's invariant: the stretch passes up to `at`. What is left of the input falls.
 -- Assumes nothing.
 use Prim.Native.Nat.{◌-◌}
-use mathlib.Core.Path.{refl}
-use native.Mathlib.Omega.{arith}
 use lib.ListN.{length}
-use borrow.Author.Rules.{rules}
-use borrow.Author.Tests.{not-false}
-use Rattle.stretches.specs.Releases.{PassesAlike, stays}
-use Rattle.stretches.proofs.Stretching.{passes_more}
+use Rattle.stretches.specs.Releases.{PassesAlike}
 use Rattle.stretches.proofs.past_alike.Given as goal
 
 abbrev pub invariant-loop-at : goal.invariant-loop-at

@@ -1,11 +1,6 @@
 -- `stretches::past_blocks` meets its contract. The loop's invariant: the stretch goes on up to `at`. What is left of the input falls.
 -- Assumes nothing.
-use Prim.Native.Nat.{◌≤◌, ◌-◌}
-use mathlib.Core.Path.{◌≡◌, ap, subst}
 use native.Mathlib.Omega.{arith}
-use lib.ListN.{length}
-use borrow.Author.Rules.{rules}
-use Rattle.stretches.specs.Stretches.{Goes}
 use Rattle.stretches.proofs.Steps.{goes_none, goes_more, goes_block}
 use Rattle.stretches.proofs.past_blocks.Goals as goal
 

@@ -1,10 +1,6 @@
 -- `stretches::past_last` meets its contract. The loop's invariant: the stretch goes on up to `at`. What is left of the input falls.
 -- Assumes nothing.
-use Prim.Native.Nat.{◌≤◌, ◌-◌}
 use native.Mathlib.Omega.{arith}
-use lib.ListN.{length}
-use borrow.Author.Rules.{rules}
-use Rattle.stretches.specs.Stretches.{Goes}
 use Rattle.stretches.proofs.Steps.{goes_none, goes_next}
 use Rattle.stretches.proofs.past_last.Goals as goal
 

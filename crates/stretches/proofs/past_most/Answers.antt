@@ -2,7 +2,6 @@
 use Prim.Native.Nat.{◌-◌}
 use mathlib.Core.Path.{sym, ◌∙◌}
 use native.Mathlib.Omega.{arith}
-use borrow.Author.Rules.{rules}
 use Rattle.stretches.proofs.Stretching.{goes_passes}
 use Rattle.stretches.proofs.past_most.Goals as goal
 

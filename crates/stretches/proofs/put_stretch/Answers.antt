@@ -1,13 +1,12 @@
 -- `stretches::put_stretch` meets its contract. The loop's invariant: what is left of the stretch, stored from here, gives what the whole, stored
 -- at the start, gives; and it fits. What is left falls. Assumes nothing.
-use Prim.Native.Nat.{ℕ, ◌+◌, ◌-◌, ◌≤◌}
-use mathlib.Core.Path.{◌≡◌, refl, sym, ap, ◌∙◌}
+use Prim.Native.Nat.{ℕ, ◌+◌, ◌-◌}
+use mathlib.Core.Path.{refl, sym, ap, ◌∙◌}
 use mathlib.Core.List.{List}
 use native.Mathlib.Omega.{arith}
-use lib.ListN.{length, set, get_or, length-set}
+use lib.ListN.{set, length-set}
 use lib.Seq.{sets}
-use borrow.Author.Rules.{rules}
-use Rattle.stretches.specs.Stretches.{respelled, respelling}
+use Rattle.stretches.specs.Stretches.{respelling}
 use Rattle.stretches.proofs.Steps.{respelling_first, respelling_none}
 use Rattle.stretches.proofs.put_stretch.Goals as goal
 

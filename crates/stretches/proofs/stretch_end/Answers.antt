@@ -2,7 +2,6 @@
 -- the last one of a value are emitted byte for byte. Assumes nothing.
 use Prim.Native.Nat.{◌-◌}
 use native.Mathlib.Omega.{arith}
-use borrow.Author.Rules.{rules}
 use Rattle.stretches.proofs.Stretching.{stretched, passes_least, passes_inside, passes_more, goes_passes}
 use Rattle.stretches.proofs.stretch_end.Goals as goal
 

@@ -1,7 +1,6 @@
 -- `value_list_text::put_record` meets its contract: first its separator is stored, then its value. Assumes nothing.
 use mathlib.Core.Path.{refl}
 use native.Mathlib.Omega.{arith}
-use borrow.Author.Rules.{rules}
 use Rattle.value_list_text.specs.Composing.{item_of}
 use Rattle.value_list_text.proofs.Composed.{separator_fits, value_fits, record_put}
 use Rattle.value_list_text.proofs.put_record.Goals as goal

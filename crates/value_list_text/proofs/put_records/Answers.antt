@@ -1,11 +1,10 @@
 -- `value_list_text::put_records` meets its contract. The loop's invariant: what is left of the records, stored from here, gives what all of
 -- them, stored at the start, give; and the records before `at` are passed. What is left of the table falls. Assumes nothing.
-use Prim.Native.Nat.{◌-◌, ◌+◌}
+use Prim.Native.Nat.{◌+◌}
 use mathlib.Core.Path.{refl, sym, ap, subst, ◌∙◌}
 use mathlib.Core.List.{[], ◌∷◌}
 use native.Mathlib.Omega.{arith}
-use borrow.Author.Rules.{rules}
-use lib.ListN.{length, drop}
+use lib.ListN.{drop}
 use Rattle.values.specs.Tokens.{separator}
 use Rattle.storing.proofs.Stores.{Goes, stored_length}
 use Rattle.emission_laws.specs.declared.Held.{Held}
@@ -14,7 +13,7 @@ use Rattle.held_separators.proofs.Steps.{tokens_fit, tokens_put, all_put_lem}
 use Rattle.operations.specs.ValueList.{listed_in}
 use Rattle.value_list_text.specs.Composing.{record_tokens, list_tokens, item_of}
 use Rattle.value_list_text.proofs.Composed.{text_length}
-use Rattle.value_list_text.proofs.Rows.{row_next, row_end, listed_few, listed_next, listed_end, Reached, reached_start, at_most, next_value, reached_next}
+use Rattle.value_list_text.proofs.Rows.{row_next, row_end, listed_few, listed_next, listed_end, reached_start, at_most, next_value, reached_next}
 use Rattle.value_list_text.proofs.put_records.Goals as goal
 
 pub loop-at-init : goal.loop-at-init

@@ -1,10 +1,9 @@
 -- `value_list_text::put_text` meets its contract: the advice, and the records from its last byte on. Assumes nothing.
 use native.Mathlib.Omega.{arith}
-use borrow.Author.Rules.{rules}
 use Rattle.characters.specs.Characters.{advice_of}
 use Rattle.storing.proofs.Stores.{stored_length}
 use Rattle.operations.specs.ValueList.{listed_in}
-use Rattle.value_list_text.proofs.Composed.{advice_fits, text_length, text_stored}
+use Rattle.value_list_text.proofs.Composed.{advice_fits, text_stored}
 use Rattle.value_list_text.proofs.put_text.Goals as goal
 
 pub put_advice-requires : goal.put_advice-requires

@@ -3,7 +3,6 @@ use mathlib.Core.Path.{ap}
 use mathlib.Core.List.{[], ◌∷◌}
 use native.Mathlib.Omega.{arith}
 use lib.ListN.{length}
-use borrow.Author.Rules.{rules}
 use Rattle.values.specs.Tokens.{separator}
 use Rattle.emission_laws.proofs.Steps.{after_most}
 use Rattle.value_lists.specs.Records.{entry_of}

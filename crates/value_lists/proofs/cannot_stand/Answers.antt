@@ -1,5 +1,5 @@
 -- `value_lists::cannot_stand` meets its contract: it makes the definition's tests. Assumes nothing.
-use Rattle.std.proofs.Common.{Bool, ◌||◌, ap, ◌∙◌, ap₂, rules}
+use Rattle.std.proofs.Common.{Bool, ◌||◌, ap, ◌∙◌, ap₂}
 use Rattle.operations.specs.Write.{lacks_release, cannot_stand}
 use Rattle.value_lists.proofs.cannot_stand.Goals as goal
 

@@ -1,5 +1,5 @@
 -- `value_lists::cannot_stand_there` meets its contract: it makes the definition's tests, the first by the places. Assumes nothing.
-use Rattle.std.proofs.Common.{◌≡◌, ℕ, ◌+◌, ◌-◌, Bool, ◌||◌, take, drop, ap, ◌∙◌, ap₂, arith, rules}
+use Rattle.std.proofs.Common.{◌≡◌, ℕ, ◌+◌, ◌-◌, Bool, ◌||◌, take, drop, ap, ◌∙◌, ap₂, arith}
 use Rattle.lists.specs.Lists.{any}
 use Rattle.characters.specs.Characters.{is_service}
 use Rattle.operations.specs.ValueList.{value_in}

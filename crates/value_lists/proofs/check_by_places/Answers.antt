@@ -1,5 +1,5 @@
 -- `value_lists::check_by_places` meets its contract. Assumes nothing.
-use Rattle.std.proofs.Common.{refl, rules}
+use Rattle.std.proofs.Common.{refl}
 use Rattle.value_lists.proofs.check_by_places.Goals as goal
 
 pub store_places-size-requires : goal.store_places-size-requires

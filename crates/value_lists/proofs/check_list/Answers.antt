@@ -1,5 +1,5 @@
 -- `value_lists::check_list` meets its contract: the table as a whole, then record by record. Assumes nothing.
-use Rattle.std.proofs.Common.{sym, ap, ◌∙◌, arith, rules}
+use Rattle.std.proofs.Common.{sym, ap, ◌∙◌, arith}
 use Rattle.refusals.specs.declared.Fault.TheVariants.{BadList}
 use Rattle.refusals.specs.Refusals.{outcome}
 use Rattle.operations.specs.Write.{bad_entry}

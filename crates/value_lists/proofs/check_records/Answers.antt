@@ -1,11 +1,9 @@
 -- `value_lists::check_records` meets its contract. The loop's invariant: the first record that fails is the first from here on.
 -- What is left of the table falls. Assumes nothing.
-use Rattle.std.proofs.Common.{◌≡◌, ◌+◌, ◌-◌, ◌≤◌, length, drop, sym, refl, ap, ◌∙◌, arith, rules}
+use Rattle.std.proofs.Common.{sym, refl, ap, ◌∙◌, arith}
 use Rattle.refusals.specs.declared.Fault.TheVariants.{BadList}
 use Rattle.refusals.specs.Refusals.{outcome}
-use Rattle.operations.specs.ValueList.{entries}
 use Rattle.operations.specs.Write.{bad_entry}
-use Rattle.value_lists.specs.Records.{first_record}
 use Rattle.value_lists.proofs.Records.{read_next, records_end, first_fails, first_passes, first_none}
 use Rattle.value_lists.proofs.check_records.Goals as goal
 

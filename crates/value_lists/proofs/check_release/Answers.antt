@@ -1,5 +1,5 @@
 -- `value_lists::check_release` meets its contract: both ways answer for the first record that fails, which is the lowest. Assumes nothing.
-use Rattle.std.proofs.Common.{sym, ap, ◌∙◌, rules}
+use Rattle.std.proofs.Common.{sym, ap, ◌∙◌}
 use Rattle.refusals.specs.declared.Fault.TheVariants.{NeedsRelease}
 use Rattle.refusals.specs.Refusals.{outcome}
 use Rattle.operations.specs.ValueList.{entries}

@@ -1,10 +1,10 @@
 -- `value_lists::check_there` meets its contract. The loop's invariant: the records before `at` pass, and the list from there on is
 -- good. What is left of the table falls. Assumes nothing.
-use Rattle.std.proofs.Common.{◌-◌, length, sym, ap, ◌∙◌, arith, rules}
+use Rattle.std.proofs.Common.{sym, ap, ◌∙◌, arith}
 use Rattle.refusals.specs.declared.Fault.TheVariants.{NeedsRelease}
 use Rattle.refusals.specs.Refusals.{outcome}
 use Rattle.operations.specs.Write.{cannot_stand}
-use Rattle.value_lists.proofs.Records.{Asked, asked_start, asked_value, asked_fails, asked_passes, asked_end}
+use Rattle.value_lists.proofs.Records.{asked_start, asked_value, asked_fails, asked_passes, asked_end}
 use Rattle.value_lists.proofs.check_there.Goals as goal
 
 pub loop-at-init : goal.loop-at-init

@@ -1,6 +1,6 @@
 -- `value_lists::holds_service` meets its contract. The loop's invariant: what holds of the whole value holds of what is left of it.
 -- Assumes nothing.
-use Rattle.std.proofs.Common.{◌≡◌, ◌+◌, ◌-◌, Bool, ◌||◌, length, drop, sym, refl, ap, ◌∙◌, arith, rules}
+use Rattle.std.proofs.Common.{◌+◌, Bool, ◌||◌, drop, sym, refl, ap, ◌∙◌, arith}
 use Rattle.lists.specs.Lists.{any}
 use Rattle.characters.specs.Characters.{is_service}
 use Rattle.service_places.proofs.Places.{any_next, any_end}

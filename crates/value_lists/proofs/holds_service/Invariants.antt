@@ -1,9 +1,8 @@
 -- `value_lists::holds_service` meets its contract. The loop's invariant: what holds of the whole value holds of what is left of it.
 -- Assumes nothing.
-use Rattle.std.proofs.Common.{◌≡◌, ◌+◌, ◌-◌, Bool, ◌||◌, length, drop, sym, refl, ap, ◌∙◌, arith, rules}
+use Rattle.std.proofs.Common.{◌≡◌, ◌-◌, length, drop}
 use Rattle.lists.specs.Lists.{any}
 use Rattle.characters.specs.Characters.{is_service}
-use Rattle.service_places.proofs.Places.{any_next, any_end}
 use Rattle.value_lists.proofs.holds_service.Given as goal
 
 abbrev pub invariant-loop-i : goal.invariant-loop-i

@@ -1,5 +1,5 @@
 -- `value_lists::is_bad` meets its contract: it makes the definition's tests, and asks for the value where it is there. Assumes nothing.
-use Rattle.std.proofs.Common.{ap, ◌∙◌, arith, rules, le-ltb, lt-ltb}
+use Rattle.std.proofs.Common.{ap, ◌∙◌, arith, le-ltb, lt-ltb}
 use Rattle.values.specs.Spelling.{leads_break}
 use Rattle.operations.specs.Write.{bad_entry}
 use Rattle.value_lists.specs.Records.{entry_of}

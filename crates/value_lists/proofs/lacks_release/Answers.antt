@@ -1,5 +1,5 @@
 -- `value_lists::lacks_release` meets its contract. Assumes nothing.
-use Rattle.std.proofs.Common.{rules, eq-eqb, ne_eqb}
+use Rattle.std.proofs.Common.{eq-eqb, ne_eqb}
 use Rattle.characters.specs.Characters.{has_release}
 use Rattle.operations.specs.Write.{lacks_release}
 use Rattle.value_lists.proofs.lacks_release.Goals as goal

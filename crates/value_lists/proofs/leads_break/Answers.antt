@@ -1,5 +1,5 @@
 -- `value_lists::leads_break` meets its contract: an empty value begins with nothing. Assumes nothing.
-use Rattle.std.proofs.Common.{◌∙◌, rules}
+use Rattle.std.proofs.Common.{◌∙◌}
 use Rattle.value_lists.proofs.Records.{leads_none, leads_byte}
 use Rattle.value_lists.proofs.leads_break.Goals as goal
 

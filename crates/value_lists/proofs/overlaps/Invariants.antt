@@ -1,5 +1,5 @@
 -- `value_lists::overlaps` is safe and ends: what is left of the table falls. Assumes nothing.
-use Rattle.std.proofs.Common.{◌+◌, ◌-◌, ◌≤◌, length, arith, rules}
+use Rattle.std.proofs.Common.{◌-◌, ◌≤◌, length}
 use Rattle.value_lists.proofs.overlaps.Given as goal
 
 abbrev pub invariant-loop-at : goal.invariant-loop-at

@@ -1,5 +1,5 @@
 -- `value_lists::value_of` meets its contract: from the start, as many bytes as the length says. Assumes nothing.
-use Rattle.std.proofs.Common.{◌≡◌, ℕ, ◌+◌, ◌-◌, take, drop, ap, arith, rules}
+use Rattle.std.proofs.Common.{◌≡◌, ℕ, ◌+◌, ◌-◌, take, drop, ap, arith}
 use Rattle.operations.specs.ValueList.{value_in}
 use Rattle.value_lists.proofs.value_of.Goals as goal
 
