@@ -89,7 +89,7 @@ sub check_areas {
 sub text_of {
     my ($folder, $ending) = @_;
     my @files;
-    find({ no_chdir => 1, wanted => sub { push @files, $_ if /\.$ending$/ } }, $folder);
+    find({ no_chdir => 1, wanted => sub { push @files, $_ if /\.$ending$/ && !m{/out/} } }, $folder);
     my $text = '';
     for my $file (sort @files) {
         open my $lines, '<', $file or die "$file: $!";
