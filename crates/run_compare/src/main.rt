@@ -2,7 +2,7 @@
 // `same KEPT` where KEPT is 1 or 2, the one that Keep hands back; `different`; or
 // `refused INPUT NUMBER PLACE` where INPUT is 1 or 2. The line of two of which one cannot be read is
 // `unreadable INPUT`, and standard error says why. It also says how the program is used where its
-// arguments are not pairs. A program in Rattle ends with status 0 whatever it says.
+// arguments are not pairs. It ends with status 0 whatever it says.
 #![tactic(auto)]
 
 ghost use Rattle.std.specs.Prelude.{◌*◌, ◌<◌, ◌^◌};

@@ -3,7 +3,7 @@
 // tag). It prints a line for each, `at OFFSET LENGTH VALUE` with the value as it is spelled there;
 // `absent`; or `refused NUMBER PLACE`. The line of an input that cannot be read is `unreadable`, and
 // standard error says why. It also says how the program is used where the four are not numbers of up
-// to nine digits. A program in Rattle ends with status 0 whatever it says.
+// to nine digits. It ends with status 0 whatever it says.
 #![tactic(auto)]
 
 use answers::Located;

@@ -4,7 +4,7 @@
 // or `different` where the marks differ. What Read refuses is `refused input NUMBER PLACE`, what Write
 // refuses `refused text NUMBER PLACE`. The line of an input that cannot be read is `unreadable`, and
 // standard error says why. It also says how the program is used where SERVICE is no six usable bytes,
-// before anything is read. A program in Rattle ends with status 0 whatever it says.
+// before anything is read. It ends with status 0 whatever it says.
 #![tactic(auto)]
 
 ghost use Rattle.run_respell.specs.Respelled.{Fitting};

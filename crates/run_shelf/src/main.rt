@@ -3,7 +3,7 @@
 // no such word, or a word has no operand that it can use, nothing is done, and standard error says how the program
 // is used. It prints a line for each step: `started`; `new SLOT` or `copy SLOT`; the kept text; `removed LENGTH`; `slots OCCUPIED LOWEST-FREE`; `sums
 // HELD DUPLICATES`; `carried` or `carried back`; or `refused NUMBER PLACE`. The line of a file that cannot be read
-// is `unreadable`, and standard error says why. A program in Rattle ends with status 0 whatever it says.
+// is `unreadable`, and standard error says why. It ends with status 0 whatever it says.
 #![tactic(auto)]
 
 use answers::Stored;
