@@ -18,7 +18,7 @@ sub list {
     while (<$listed>) {
         $text .= "\n### \u$1\n\n\u$2\n" if /^# (\w+): (.*)$/;
         $text .= "\n**$1**: $2\n\n| crate | what it is |\n|---|---|\n" if /^## (\w+): (.*)$/;
-        $text .= "| `$1` | " . first_sentence($1) . " |\n" if /^(\w+):/;
+        $text .= "| `$1` | " . first_sentence($1) . " |\n" if /^(\w+)(?: staticlib)?:/;
     }
     return "$text\n";
 }

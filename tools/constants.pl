@@ -1,5 +1,5 @@
 #!/usr/bin/env perl
-# Holds the library's constant tables to 64 bytes (paper 02, 2026-05). The library is the crate `surface` and
+# Holds the library's constant tables to 64 bytes (paper 02, 2026-05). The library is the crate `surface_c` and
 # all that it stands on in crates.txt. Run at the root; the gate runs it.
 #
 #   perl tools/constants.pl            what the source names
@@ -43,7 +43,8 @@ sub count_source {
     for my $crate (library()) {
         my $code = join "\n", map { slurp($_) } sort glob "crates/$crate/src/*.rt";
         $code =~ s{(?:^|\s)//.*}{}gm;        # comments,
-        $code =~ s{⌜.*?⌝|#\[.*?\]}{}gs;    # statements about the code, attributes
+        $code =~ s{^\s+(?:requires|ensures)\b.*?(?=^\s*(?:requires|ensures)\b|^\s*\{$)}{}gms;    # statements about the code,
+        $code =~ s{#!?\[.*?\]}{}gs;          # attributes
         push @{ $fields{$1} }, [$2 =~ /\w+: ([^,\n]+),/g] while $code =~ /\bstruct (\w+) \{(.*?)\}/gs;
         push @{ $fields{$1} }, [split /,\s*/, $2] while $code =~ /\bstruct (\w+)\((.*?)\);/gs;
         push @{ $number{$1} }, value_of($2) while $code =~ /\bconst (\w+): \w+ = (\w+);/g;
@@ -112,11 +113,11 @@ sub size_of {
 # What a name says, where it is said once.
 sub only { my ($said) = @_; return $said && @$said == 1 ? $said->[0] : undef }
 
-# The crates of the library: `surface`, and what it stands on.
+# The crates of the library: `surface_c`, and what it stands on.
 sub library {
-    my %stands_on = map { /^(\w+):([^#]*)/ ? ($1 => [split ' ', $2]) : () } split /\n/, slurp('crates.txt');
+    my %stands_on = map { /^(\w+)(?: staticlib)?:([^#]*)/ ? ($1 => [split ' ', $2]) : () } split /\n/, slurp('crates.txt');
     my (%seen, @left) = ();
-    @left = ('surface');
+    @left = ('surface_c');
     while (defined(my $crate = shift @left)) {
         push @left, @{ $stands_on{$crate} || [] } unless $seen{$crate}++;
     }

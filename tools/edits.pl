@@ -1,52 +1,57 @@
 #!/usr/bin/env perl
-# Holds the must-fail edits to what they are for. Each begins with a line that says which fact it is to break.
-# Where the check has tried it, the first error in its log (target/must-fail/CRATE/EDIT/.log) must be about
-# that fact, and not that a proof file no longer fits the code that the edit made: a need that is gone, a field
-# of the walk that is gone, more or fewer answers than there are needs. Such an edit is refused whatever it breaks.
-# Run at the root: the edits that were tried are read; with --all, an edit that was not tried is a fault too.
+# Holds the must-fail edits to what they are for. Each begins with a line that says which fact it is to break, and applies: each text
+# that it looks for stands once in its file. What `rt ci` says of an edit must be that the prover refuses it, and not only because a
+# proof file names what the edit took away: such an edit is refused whatever it breaks. Run at the root:
+#
+#     perl tools/edits.pl         the edits
+#     perl tools/edits.pl LOG     and what is said of each in LOG, which is what `rt ci` or `rt must-fail` printed
 use strict;
 use warnings;
 
-# what the check says where a proof file does not fit
-my @unfit = (
-    qr/has no `Need-[^`]*`,? ?that can be named from here/,
-    qr/has no field `/,
-    # the line that puts the answers together, where each answer by itself is right: there are more or fewer needs
-    qr/Proof\.antt:\d+:\d+: error: `[\w-]+-spec`: (?!.*was not admitted)/,
-);
-
-my $all = @ARGV && $ARGV[0] eq '--all';
+my ($log) = @ARGV;
+my %said = $log ? map { m{^rt: must-fail (\w+/\w+)\.edit: (.*)} ? ($1 => $2) : () } lines($log) : ();
 my ($faults, $read) = (0, 0);
-for my $edit (glob 'crates/*/must-fail/*.edit') {
-    my ($crate, $name) = $edit =~ m{crates/(\w+)/must-fail/(\w+)\.edit};
-    my ($title) = lines($edit);
+for my $path (glob 'crates/*/must-fail/*.edit') {
+    my ($crate, $name) = $path =~ m{crates/(\w+)/must-fail/(\w+)\.edit};
+    my ($title, @rest) = lines($path);
     fault("$crate/$name does not begin with a line that says which fact it is to break") if ($title // '') =~ /^(?:file|old|new):|^\s*$/;
-    my $log = "target/must-fail/$crate/$name/.log";
-    if (!-f $log) {
-        fault("$crate/$name was not tried") if $all;
-        next;
-    }
-    $read++;
-    my $first = first_error(lines($log));
-    my ($kind) = grep { $first =~ $_ } @unfit;
-    fault("$crate/$name is refused first because a proof file does not fit, and shows nothing: $first") if $kind;
+    my $why = misfit($crate, @rest);
+    fault("$crate/$name cannot be applied: $why") if $why;
+    next unless $log;
+    my $told = $said{"$crate/$name"} // '';
+    if ($told !~ /^refused, as it must be/) { fault("$crate/$name: " . ($told || 'it was not tried')) }
+    elsif ($told =~ /only because a proof file names/) { fault("$crate/$name is refused first because a proof file does not fit, and shows nothing: $told") }
+    else { $read++ }
 }
-print "$read must-fail edits are refused for what they break\n" unless $faults;
+print "$read must-fail edits are refused for what they break\n" if $log && !$faults;
 exit($faults ? 1 : 0);
 
-# The first error of a log, on one line: its own line and the indented ones after it.
-sub first_error {
-    my @lines = @_;
-    shift @lines while @lines && $lines[0] !~ /: error: /;
-    return '' unless @lines;
-    my $text = shift @lines;
-    $text .= ' ' . shift @lines while @lines && $lines[0] =~ /^\s/ && length $text < 600;
-    return substr $text =~ s/\s+/ /gr, 0, 400;
+# Why an edit cannot be applied, or nothing.
+sub misfit {
+    my ($crate, @lines) = @_;
+    my ($file, $old, $pairs, %text) = ('', undef, 0);
+    for (@lines) {
+        if (/^file: (.*)/) { $file = "crates/$crate/$1" }
+        elsif (/^old: (.*)/) {
+            return 'two texts to look for follow one another' if defined $old;
+            $old = $1;
+        } elsif (/^new: ?(.*)/) {
+            my $new = $1;
+            return 'a new text has no old one' unless defined $old;
+            return "there is no file $file" unless -f $file;
+            $text{$file} //= join "\n", lines($file);
+            my $found = () = $text{$file} =~ /\Q$old\E/g;
+            return "'$old' stands in $file $found times" if $found != 1;
+            $text{$file} =~ s/\Q$old\E/$new/;
+            ($old, $pairs) = (undef, $pairs + 1);
+        }
+    }
+    return $pairs && !defined $old ? '' : 'an old text has no new one';
 }
 
 sub lines {
     my ($path) = @_;
-    open my $file, '<', $path or die "$path: $!";
+    open my $file, '<', $path or die "$path: $!\n";
     chomp(my @lines = <$file>);
     return @lines;
 }

@@ -2,7 +2,7 @@
 # Lists every public function of crates/, crate by crate in the order of crates.txt, with what is
 # required of a caller and what it ensures; then every function that has a `requires`, and every public
 # one whose contract is no equation. Fails where a public function ensures nothing, but for those that
-# only print, where an operation has a `requires`, and where a contract leaves something open that
+# only print or ask the system, where an operation has a `requires`, and where a contract leaves something open that
 # docs/CONTRACTS.md does not name. Run at the root; its output is docs/FUNCTIONS.md, and the gate compares the two.
 use strict;
 use warnings;
@@ -10,8 +10,11 @@ use utf8;
 use File::Find;
 binmode $_, ':encoding(UTF-8)' for *STDOUT, *STDERR;
 
-# crates of which nothing can be ensured: no contract speaks of what is written to standard output
+# what nothing can be ensured of: no contract speaks of what is written to standard output, or of how a program was started
 my %prints = (printing => 1);
+my %asks = ('inputs::argument_count' => 1);
+# the crates that C and Rust link
+my %exports = (surface => 1, surface_c => 1);
 # the operations of paper 01, the second Judge of request 2026-08, Acknowledge of 2026-11, Export and Import of 2026-12; whatever `surface` exports for C and Rust is one too
 my %operation = map { $_ => 1 } qw(
     judge::judge normalise::normalise compare::compare compare::keep locate::locate locate::part read::read write::write
@@ -22,9 +25,10 @@ print <<"HEAD";
 # Every public function and its contract
 
 Made by `perl tools/functions.pl`; the gate fails where this list and the code differ, where a public function has no contract, but for
-those of `printing`, which are public for our own programs (no contract can speak of what is written to standard output), and where one of
-the operations, or a function of `surface`, has a `requires`. A helper that is public only for another crate of ours may have one; all
-functions that have one are listed at the end. `s .entry` is what was lent, `buffer .exit` what is there afterwards, `r` the answer.
+those of `printing` and for `inputs::argument_count`, which are public for our own programs (no contract can speak of what is written to
+standard output, or of how a program was started), and where one of the operations, or a function of `surface` or `surface_c`, has a `requires`. A helper that is public only for another crate of ours may have one; all
+functions that have one are listed at the end. `s.now` is what is lent to be read, `buffer.old` what is lent to be
+written, `buffer.new` what is there afterwards, `result` the answer.
 HEAD
 
 open my $listed, '<', 'crates.txt' or die "crates.txt: $!";
@@ -40,7 +44,7 @@ my %one_result = map { $_ => 1 } qw(
     SaysJudged SaysJudgedByTable SaysNormalised SaysCompared SaysKept SaysLocated SaysPart SaysListed SaysWritten SaysAcknowledged SaysExported SaysImported
     SaysStarted SaysPut SaysGot SaysRemoved SaysCounted SaysSummed SaysCarried SaysCarriedBack SaysReported
 ), 'read Reads', 'report Reports', 'shelf Puts', 'shelf Counts', 'shelf Sums', map { "$_ Puts" } qw(held_separators value_list_text received_pieces);
-for my $crate (map { /^(\w+):/ } <$listed>) {
+for my $crate (map { /^(\w+)(?: staticlib)?:/ } <$listed>) {
     my @sources;
     find({ no_chdir => 1, wanted => sub { push @sources, $_ if /\.rt$/ } }, "crates/$crate/src");
     my @functions = map { functions_of($_) } sort @sources;
@@ -91,7 +95,7 @@ sub open_parts {
     my ($f) = @_;
     my (@relations, @others, $equations);
     for my $clause (grep { /^ensures/ } @{ $f->{clauses} }) {
-        my ($said) = $clause =~ /⌜\s*(.*?)\s*⌝/s or next;
+        my ($said) = $clause =~ /^ensures(?: \w+)? \{\s*(.*?)\s*\}\s*$/s or next;
         for my $part (parts_of($said =~ s/\s+/ /gr)) {
             if ($part =~ /→/ && $part !~ /^[A-Z]/) { push @others, $part }
             elsif ($part =~ /^([A-Z]\w*)\b/) { push @relations, $1 }
@@ -138,9 +142,9 @@ sub functions_of {
 sub check {
     my ($crate, $f) = @_;
     return unless $f->{public};
-    fault("$f->{file}: no contract: $f->{name}") unless $f->{ensures} || $prints{$crate};
+    fault("$f->{file}: no contract: $f->{name}") unless $f->{ensures} || $prints{$crate} || $asks{"$crate\::$f->{name}"};
     fault("$f->{file}: an operation with a requires: $f->{name}")
-        if $f->{requires} && ($crate eq 'surface' || $operation{"$crate\::$f->{name}"});
+        if $f->{requires} && ($exports{$crate} || $operation{"$crate\::$f->{name}"});
 }
 
 sub fault {

@@ -16,7 +16,7 @@ use warnings;
 use File::Find;
 
 my ($faults, %declared) = (0);
-my %crate = map { $_ => 1 } map { /^(\w+):/ } lines('crates.txt');
+my %crate = map { $_ => 1 } map { /^(\w+)(?: staticlib)?:/ } lines('crates.txt');
 my %entry = map { $_ => 1 } map { /^(\d+)\. \*\*/ } lines('docs/DECISIONS.md');
 
 check_names($_) for 'README.md', sort grep { $_ ne 'docs/FUNCTIONS.md' } glob 'docs/*.md';

@@ -12,7 +12,7 @@ binmode STDOUT, ':encoding(UTF-8)';
 die "usage: perl tools/quotes.pl PAPER.md..\n" unless @ARGV;
 my $papers = plain(join ' ', map { text_of($_) } @ARGV);
 my @files;
-find({ no_chdir => 1, wanted => sub { push @files, $_ if /\.(?:rt|antt)$/ && !m{/target/} } }, 'crates');
+find({ no_chdir => 1, wanted => sub { push @files, $_ if /\.(?:rt|antt)$/ && !m{/(?:out|target)/} } }, 'crates');
 my $faults = 0;
 for my $file (sort @files) {
     for my $comment (comments_of(text_of($file))) {

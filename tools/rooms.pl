@@ -23,9 +23,9 @@ my %feature = map { $_ => 1 } qw(shelf mailbox table acknowledgement column);
 # edges against that order, each for one definition that stands in a room too high
 my %known = map { $_ => 1 } (
     'texts shelves',                         # total, a list's sum
-    'own_form_laws shelves',                 # isNormalForm
+    'own_form_laws shelves',                 # is_normal_form
     'trimming_laws operations',              # value lists
-    'trimmed_values control_elements',       # onlyValue
+    'trimmed_values control_elements',       # only_value
     'moving storing',                        # fill
 );
 my %without_code = (definitions => 1, laws => 1);
@@ -43,7 +43,7 @@ while (<$listed>) {
         fault("crates.txt has the subheading '$1', which is no area") unless exists $rank{$1};
         fault("crates.txt has the area '$1' after '$area'") if defined $area && $rank{$area} >= $rank{$1};
         $area = $1;
-    } elsif (/^(\w+):([^#]*)(?:# holds values of:(.*))?/) {
+    } elsif (/^(\w+)(?: staticlib)?:([^#]*)(?:# holds values of:(.*))?/) {
         my ($crate, $others, $held) = ($1, $2, $3 // '');
         fault("$crate stands under no heading of crates.txt") unless defined $room && defined $area;
         push @crates, $crate;
@@ -59,7 +59,7 @@ for my $crate (@crates) {
     fault("$crate is one of the $room_of{$crate} and has the function $1")
         if $without_code{ $room_of{$crate} } && $source =~ /^\h*(?:pub )?(?:extern "C" )?fn (\w+)/m;
     fault("a contract of $crate takes a definition from a file of proofs: $1")
-        while $source =~ /^\h*ghost use (Rattle·\w+(?:·proofs)?\.proofs\.\S+)/mg;
+        while $source =~ /^\h*ghost use (Rattle\.(?!std\.)\w+\.proofs\.\S+)/mg;
     for my $other (@{ $stands_on{$crate} }) {
         my $others_room = $room_of{$other} // 'kit';
         fault("$crate ($room_of{$crate}) stands on $other ($others_room), which its room may not")
@@ -68,7 +68,7 @@ for my $crate (@crates) {
         fault("$crate lists $other, which none of its files cites")
             unless $others_room eq 'kit'
             || $holds{$crate}{$other}
-            || "$source$specs_and_proofs" =~ /Rattle·$other\./
+            || "$source$specs_and_proofs" =~ /\bRattle\.$other\./
             || $source =~ /\b${other}::|\buse $other\b/;
     }
 }
@@ -89,7 +89,7 @@ sub check_areas {
 sub text_of {
     my ($folder, $ending) = @_;
     my @files;
-    find({ no_chdir => 1, wanted => sub { push @files, $_ if /\.$ending$/ } }, $folder);
+    find({ no_chdir => 1, wanted => sub { push @files, $_ if /\.$ending$/ && !m{/out/} } }, $folder);
     my $text = '';
     for my $file (sort @files) {
         open my $lines, '<', $file or die "$file: $!";

@@ -1,9 +1,9 @@
-#![tactic(auto)]
-
 // The inputs of a program: standard input, or a file that an argument names, read into a lent buffer;
 // the arguments; and the number that an argument spells. It promises that what was read lies within the
 // buffer, and which number a text is. Where an input cannot be read, standard error says why. What is done
 // with the bytes is left to the programs.
+#![tactic(auto)]
+
 mod number;
 mod wide;
 

@@ -1,8 +1,8 @@
-#![tactic(auto)]
-
 // What the programs print of an answer: words, the paper's number of a refusal and its place, one line
 // an answer; and what they say on standard error where something fails. It promises nothing of what is
 // written, which no contract can say.
+#![tactic(auto)]
+
 use answers::Compared;
 use refusals::Refusal;
 use std::io;

@@ -1,10 +1,10 @@
-#![tactic(auto)]
-
 // Acknowledges interchanges (request 2026-11): each file that an argument names, in order, or standard
 // input where there is no argument. What a caller lends is fixed here: the date and time `260106:0800`,
 // the control reference `A1` and the message identification `CONTRL:2:2:UN`. It prints a line for each:
 // the acknowledgement, or `refused NUMBER PLACE`. The line of an input that cannot be read is
-// `unreadable`, and standard error says why. A program in Rattle ends with status 0 whatever it says.
+// `unreadable`, and standard error says why. It ends with status 0 whatever it says.
+#![tactic(auto)]
+
 ghost use Rattle.run_acknowledge.specs.Told.{Fitting};
 
 use answers::Stored;

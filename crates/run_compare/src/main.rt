@@ -1,10 +1,10 @@
-#![tactic(auto)]
-
 // Compares interchanges: the files that its arguments name, two by two. It prints a line for each two,
 // `same KEPT` where KEPT is 1 or 2, the one that Keep hands back; `different`; or
 // `refused INPUT NUMBER PLACE` where INPUT is 1 or 2. The line of two of which one cannot be read is
 // `unreadable INPUT`, and standard error says why. It also says how the program is used where its
-// arguments are not pairs. A program in Rattle ends with status 0 whatever it says.
+// arguments are not pairs. It ends with status 0 whatever it says.
+#![tactic(auto)]
+
 ghost use Rattle.std.specs.Prelude.{◌*◌, ◌<◌, ◌^◌};
 
 use answers::Compared;
@@ -64,7 +64,9 @@ fn compare_pairs(rt: &HostRuntime, count: usize)
 fn main(rt: HostRuntime) {
     let count = inputs::argument_count(&rt);
     if count < 3 || count % 2 == 0 {
-        let _ = rt.stderr().write_all(b"usage: run_compare FIRST SECOND ..\n");
+        let _ = rt
+            .stderr()
+            .write_all(b"usage: run_compare FIRST SECOND ..\n");
         return;
     }
     compare_pairs(&rt, count / 2);

@@ -1,9 +1,9 @@
-#![tactic(auto)]
-
 // Judges interchanges: each file that an argument names, in order, or standard input where there is
 // no argument. It prints a line for each, `accepted SEGMENTS MESSAGES GROUPS LENGTH` with the length
 // of the normal form, or `refused NUMBER PLACE`. The line of an input that cannot be read is
-// `unreadable`, and standard error says why. A program in Rattle ends with status 0 whatever it says.
+// `unreadable`, and standard error says why. It ends with status 0 whatever it says.
+#![tactic(auto)]
+
 use answers::{Figures, Judged};
 use inputs::{ROOM, Source};
 use printing::{print_line, print_refused, print_value};

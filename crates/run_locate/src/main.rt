@@ -1,11 +1,11 @@
-#![tactic(auto)]
-
 // Locates a value: `locate SEGMENT ELEMENT REPEAT COMPONENT [FILE ..]` looks in each file, or in standard input
 // where none is named, for the value with these numbers, each from 0 in the contents (element 0 is the
 // tag). It prints a line for each, `at OFFSET LENGTH VALUE` with the value as it is spelled there;
 // `absent`; or `refused NUMBER PLACE`. The line of an input that cannot be read is `unreadable`, and
 // standard error says why. It also says how the program is used where the four are not numbers of up
-// to nine digits. A program in Rattle ends with status 0 whatever it says.
+// to nine digits. It ends with status 0 whatever it says.
+#![tactic(auto)]
+
 use answers::Located;
 use inputs::{Number, ROOM, Source};
 use printing::{print_line, print_refused, print_value};
@@ -70,9 +70,9 @@ fn argument(rt: &HostRuntime, i: usize) -> Number {
 }
 
 fn say_usage(rt: &HostRuntime) {
-    let _ = rt
-        .stderr()
-        .write_all(b"usage: run_locate SEGMENT ELEMENT REPEAT COMPONENT [FILE ..]\n");
+    let _ = rt.stderr().write_all(
+        b"usage: run_locate SEGMENT ELEMENT REPEAT COMPONENT [FILE ..]\n",
+    );
 }
 
 fn main(rt: HostRuntime) {

@@ -1,12 +1,12 @@
-#![tactic(auto)]
-
 // Respells interchanges: `respell SERVICE [FILE ..]` reads the values of each file, or of standard input
 // where none is named, and writes them under the six bytes SERVICE, as an advice has them: `;*.! ~`.
 // It prints the text written, and on the next line what Compare says of the input and that text: `same`,
 // or `different` where the marks differ. What Read refuses is `refused input NUMBER PLACE`, what Write
 // refuses `refused text NUMBER PLACE`. The line of an input that cannot be read is `unreadable`, and
 // standard error says why. It also says how the program is used where SERVICE is no six usable bytes,
-// before anything is read. A program in Rattle ends with status 0 whatever it says.
+// before anything is read. It ends with status 0 whatever it says.
+#![tactic(auto)]
+
 ghost use Rattle.run_respell.specs.Respelled.{Fitting};
 
 use answers::{Compared, Listed, Stored};

@@ -1,11 +1,11 @@
-#![tactic(auto)]
-
 // Plays a history of a shelf: `run_shelf SIZE [put FILE | get SLOT | remove SLOT | slots - | sums - | carry - |
 // back -] ..` starts an empty shelf of SIZE bytes and does what the arguments say, in order. Where one of them is
 // no such word, or a word has no operand that it can use, nothing is done, and standard error says how the program
 // is used. It prints a line for each step: `started`; `new SLOT` or `copy SLOT`; the kept text; `removed LENGTH`; `slots OCCUPIED LOWEST-FREE`; `sums
 // HELD DUPLICATES`; `carried` or `carried back`; or `refused NUMBER PLACE`. The line of a file that cannot be read
-// is `unreadable`, and standard error says why. A program in Rattle ends with status 0 whatever it says.
+// is `unreadable`, and standard error says why. It ends with status 0 whatever it says.
+#![tactic(auto)]
+
 use answers::Stored;
 use inputs::{Number, ROOM, Source};
 use printing::{print_line, print_refused, print_value};

@@ -1,0 +1,12 @@
+-- `run_respell::compare_in_place` is safe and ends: the normal form that was stored lies within the buffer. Assumes nothing.
+use Rattle.std.proofs.Common.{sym}
+use Rattle.std.proofs.lemmas.List.{length-take-le}
+use Rattle.run_respell.proofs.Fits.{form_within}
+use Rattle.run_respell.proofs.compare_in_place.Goals as goal
+
+pub slice_bounds-compare_text-end : goal.slice_bounds-compare_text-end
+slice_bounds-compare_text-end c = form_within _ _ c.normalise.ensures.0 c.in-Length.is c.normalise.ensures.1
+
+pub slice_bounds-compare_text-end-in-Length : goal.slice_bounds-compare_text-end-in-Length
+slice_bounds-compare_text-end-in-Length c =
+    sym (length-take-le _ _ (form_within _ _ c.normalise.ensures.0 c.in-Length.is c.normalise.ensures.1))
