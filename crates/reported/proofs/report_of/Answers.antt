@@ -1,6 +1,5 @@
 -- `reported::report_of` meets its contract: the interchange is not reported, or what is taken from it says. Assumes nothing.
 use mathlib.Core.Path.{sym, ◌∙◌}
-use borrow.Author.Rules.{rules}
 use Rattle.reported.proofs.Asked.{unreported_is, reported_is}
 use Rattle.reported.proofs.report_of.Goals as goal
 

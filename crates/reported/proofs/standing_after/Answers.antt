@@ -1,6 +1,5 @@
 -- `reported::standing_after` meets its contract: (10 11 12) answers, or what follows it. Assumes nothing.
 use mathlib.Core.Path.{refl, sym, ◌∙◌}
-use borrow.Author.Rules.{rules}
 use Rattle.lists.specs.Lists.{all, those}
 use Rattle.refusals.specs.Refusals.{answering}
 use Rattle.refusals.proofs.Stages.{failed_is, passed_is}

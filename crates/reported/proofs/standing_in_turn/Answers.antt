@@ -1,5 +1,4 @@
 -- `reported::standing_in_turn` meets its contract: 1 to 9 answer, or what follows them. Assumes nothing.
-use borrow.Author.Rules.{rules}
 use Rattle.stage_opening.proofs.Runs.{refused_is, passed_is}
 use Rattle.reported.proofs.Judged.{early_refused}
 use Rattle.reported.proofs.standing_in_turn.Goals as goal

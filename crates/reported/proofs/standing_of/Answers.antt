@@ -1,6 +1,5 @@
 -- `reported::standing_of` meets its contract: what the quick way does not pass is asked stage by stage. Assumes nothing.
 use mathlib.Core.Path.{refl, subst}
-use borrow.Author.Rules.{rules}
 use Rattle.stage_opening.proofs.Runs.{passed_is}
 use Rattle.judge.specs.Judging.{Quickly}
 use Rattle.reported.proofs.standing_of.Goals as goal

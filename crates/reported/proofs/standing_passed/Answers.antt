@@ -1,6 +1,5 @@
 -- `reported::standing_passed` meets its contract: 13 answers, or nothing. Assumes nothing.
 use mathlib.Core.Path.{refl, ◌∙◌}
-use borrow.Author.Rules.{rules}
 use Rattle.lists.specs.Lists.{all, those}
 use Rattle.stages.specs.Stages.{brackets, brackets_in}
 use Rattle.stages.proofs.Stages.{run_none}

@@ -1,7 +1,6 @@
 -- `reported::taken_from` meets its contract: the reference, the sender or the recipient is not as asked, or all are taken. Assumes nothing.
 use mathlib.Core.Path.{refl, ◌∙◌}
 use native.Mathlib.Omega.{arith}
-use borrow.Author.Rules.{rules}
 use borrow.Author.Tests.{not-true, not-false}
 use Rattle.reported.proofs.Pieces.{reference_tells, empty_tells, all_taken, by_reference, unreportable_by}
 use Rattle.reported.proofs.taken_from.Goals as goal
