@@ -1,6 +1,5 @@
 -- The list that a text gives has the shape of a list of segments; it is the list whose text it is, where there is one. The contents of an
 -- accepted interchange are such a list. Assumes nothing.
-use Rattle.std.specs.Prelude.{if◌then◌else◌}
 use Prim.Native.Nat.{ℕ, ◌≤◌}
 use mathlib.Core.Path.{◌≡◌, refl, sym, ap, ap₂, subst, ◌∙◌}
 use mathlib.Core.Bool.{Bool, true, false, not, ◌&&◌, ◌||◌}
