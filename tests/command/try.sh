@@ -527,15 +527,6 @@ expect 0 $'started\nnew 0\ncarried back\nrefused 19 0\nrefused 19 0\ncarried\nre
 expect 0 'refused 19 0' '' "$programs/run_shelf" 532
 expect 0 '' 'usage: run_shelf *' "$programs/run_shelf"
 expect 0 '' 'usage: run_shelf *' "$programs/run_shelf" put "$x"
-# whole words, each with an operand that it can use, or nothing is done; a slot is told as it was asked for
-expect 0 '' 'usage: run_shelf *' "$programs/run_shelf" 1000 put "$x" reset 0
-expect 0 '' 'usage: run_shelf *' "$programs/run_shelf" 1000 putt "$x"
-expect 0 '' 'usage: run_shelf *' "$programs/run_shelf" 1000 put "$x" get
-expect 0 '' 'usage: run_shelf *' "$programs/run_shelf" 1000 get x
-expect 0 '' 'usage: run_shelf *' "$programs/run_shelf" 1000 remove 18446744073709551616
-expect 0 '' 'usage: run_shelf *' "$programs/run_shelf" 1000 sums 0
-expect 0 $'started\nnew 0\nrefused 20 64\nrefused 20 1000000000\nrefused 20 4000000000\nrefused 20 18446744073709551615' '' \
-    "$programs/run_shelf" 1000 put "$x" get 64 remove 1000000000 get 4000000000 remove 18446744073709551615
 expect 0 $'started\nnew 0' '' small "$programs/run_shelf" 65536 put "$work/wide"
 expect 0 '' $'standard output: Bad *\nstandard output: Bad *' closed "$programs/run_shelf" 1000 put "$x"
 for name in judge compare locate respell; do

@@ -1,9 +1,8 @@
 // Plays a history of a shelf: `run_shelf SIZE [put FILE | get SLOT | remove SLOT | slots - | sums - | carry - |
-// back -] ..` starts an empty shelf of SIZE bytes and does what the arguments say, in order. Where one of them is
-// no such word, or a word has no operand that it can use, nothing is done, and standard error says how the program
-// is used. It prints a line for each step: `started`; `new SLOT` or `copy SLOT`; the kept text; `removed LENGTH`; `slots OCCUPIED LOWEST-FREE`; `sums
+// back -] ..` starts an empty shelf of SIZE bytes and does what the arguments say, in order. It prints a line for
+// each: `started`; `new SLOT` or `copy SLOT`; the kept text; `removed LENGTH`; `slots OCCUPIED LOWEST-FREE`; `sums
 // HELD DUPLICATES`; `carried` or `carried back`; or `refused NUMBER PLACE`. The line of a file that cannot be read
-// is `unreadable`, and standard error says why. It ends with status 0 whatever it says.
+// is `unreadable`, and standard error says why. A program in Rattle ends with status 0 whatever it says.
 #![tactic(auto)]
 
 use answers::Stored;
@@ -80,12 +79,14 @@ fn put_file(rt: &HostRuntime, s: &mut [u8], argument: usize) -> io::Result<()> {
     print_shelved(rt, shelf::put(s, &buf[..n]))
 }
 
-// The number that an argument spells. One that is missing, or longer than this buffer, is cut to no byte, and is
-// no number either.
-fn number_at(rt: &HostRuntime, argument: usize) -> Number {
-    let mut word = [0u8; 32];
+// The number that an argument spells; one that no slot has where it spells none.
+fn number_at(rt: &HostRuntime, argument: usize) -> usize {
+    let mut word = [0u8; 16];
     let n = inputs::argument(rt, argument, &mut word);
-    inputs::wide_number_of(&word[..n])
+    match inputs::number_of(&word[..n]) {
+        Number::Is(number) => number,
+        Number::NotOne => 1000000000,
+    }
 }
 
 fn print_done(rt: &impl Print, outcome: Outcome, done: &[u8]) -> io::Result<()> {
@@ -95,125 +96,30 @@ fn print_done(rt: &impl Print, outcome: Outcome, done: &[u8]) -> io::Result<()> 
     }
 }
 
-// What a word and its operand ask for. The file of a put is known by the number of its argument.
-#[derive(Clone, Copy)]
-enum Step {
-    Put(usize),
-    Get(usize),
-    Remove(usize),
-    Slots,
-    Sums,
-    Carry,
-    Back,
-    NotOne,
-}
-
-fn get_at(rt: &HostRuntime, argument: usize) -> Step {
-    match number_at(rt, argument) {
-        Number::Is(slot) => Step::Get(slot),
-        Number::NotOne => Step::NotOne,
-    }
-}
-
-fn remove_at(rt: &HostRuntime, argument: usize) -> Step {
-    match number_at(rt, argument) {
-        Number::Is(slot) => Step::Remove(slot),
-        Number::NotOne => Step::NotOne,
-    }
-}
-
-// The steps whose operand is a dash.
-fn plain_step(word: &[u8]) -> Step {
-    if texts::equal(word, b"slots") {
-        return Step::Slots;
-    }
-    if texts::equal(word, b"sums") {
-        return Step::Sums;
-    }
-    if texts::equal(word, b"carry") {
-        return Step::Carry;
-    }
-    if texts::equal(word, b"back") {
-        return Step::Back;
-    }
-    Step::NotOne
-}
-
-fn is_dash(rt: &HostRuntime, argument: usize) -> bool {
-    let mut operand = [0u8; 2];
-    let n = inputs::argument(rt, argument, &mut operand);
-    texts::equal(&operand[..n], b"-")
-}
-
-fn step_of(rt: &HostRuntime, word: &[u8], argument: usize) -> Step {
-    if texts::equal(word, b"put") {
-        return Step::Put(argument);
-    }
-    if texts::equal(word, b"get") {
-        return get_at(rt, argument);
-    }
-    if texts::equal(word, b"remove") {
-        return remove_at(rt, argument);
-    }
-    if is_dash(rt, argument) {
-        return plain_step(word);
-    }
-    Step::NotOne
-}
-
-// The step of a word and of the argument after it. A word that is longer than this buffer is cut to no byte, and
-// is none of ours.
-fn step_at(rt: &HostRuntime, word: usize, argument: usize) -> Step {
-    let mut letters = [0u8; 8];
-    let n = inputs::argument(rt, word, &mut letters);
-    step_of(rt, &letters[..n], argument)
-}
-
-fn is_step(rt: &HostRuntime, word: usize, argument: usize) -> bool {
-    match step_at(rt, word, argument) {
-        Step::Put(_) => true,
-        Step::Get(_) => true,
-        Step::Remove(_) => true,
-        Step::Slots => true,
-        Step::Sums => true,
-        Step::Carry => true,
-        Step::Back => true,
-        Step::NotOne => false,
-    }
-}
-
-fn do_step(rt: &HostRuntime, s: &mut [u8], step: Step) -> io::Result<()> {
-    match step {
-        Step::Put(argument) => put_file(rt, s, argument),
-        Step::Get(slot) => print_got(rt, s, slot),
-        Step::Remove(slot) => print_removed(rt, shelf::remove(s, slot)),
-        Step::Slots => print_slots(rt, shelf::slots(s)),
-        Step::Sums => print_sums(rt, shelf::sums(s)),
-        Step::Carry => print_done(rt, shelf_carrying::carry(s), b"carried"),
-        Step::Back => print_done(rt, shelf_carrying::carry_back(s), b"carried back"),
-        Step::NotOne => Ok(()),
-    }
-}
-
-// What a word asks for, of the file or the slot that the next argument names.
+// What a word asks for, by its first two letters, of the file or the slot that the next argument names.
 fn do_operation(rt: &HostRuntime, s: &mut [u8], word: usize, argument: usize) -> io::Result<()> {
-    do_step(rt, s, step_at(rt, word, argument))
-}
-
-// Every word from the second argument on is a step's, and has its operand.
-fn are_steps(rt: &HostRuntime, count: usize) -> bool {
-    let mut i = 2;
-    while i < count {
-        let next = i + 1;
-        if count <= next {
-            return false;
-        }
-        if !is_step(rt, i, next) {
-            return false;
-        }
-        i = next + 1;
+    let mut letters = [0u8; 16];
+    inputs::argument(rt, word, &mut letters);
+    let letter = letters[0];
+    if letter == b'p' {
+        return put_file(rt, s, argument);
     }
-    true
+    if letter == b'g' {
+        return print_got(rt, s, number_at(rt, argument));
+    }
+    if letter == b'r' {
+        return print_removed(rt, shelf::remove(s, number_at(rt, argument)));
+    }
+    if letter == b'c' {
+        return print_done(rt, shelf_carrying::carry(s), b"carried");
+    }
+    if letter == b'b' {
+        return print_done(rt, shelf_carrying::carry_back(s), b"carried back");
+    }
+    if letters[1] == b'u' {
+        return print_sums(rt, shelf::sums(s));
+    }
+    print_slots(rt, shelf::slots(s))
 }
 
 fn do_arguments(rt: &HostRuntime, s: &mut [u8], count: usize) {
@@ -241,15 +147,8 @@ fn say_usage(rt: &HostRuntime) {
 
 fn main(rt: HostRuntime) {
     let mut buf = [0u8; 65537];
-    let Number::Is(size) = number_at(&rt, 1) else {
-        say_usage(&rt);
-        return;
-    };
+    let size = number_at(&rt, 1);
     if 65537 < size {
-        say_usage(&rt);
-        return;
-    }
-    if !are_steps(&rt, inputs::argument_count(&rt)) {
         say_usage(&rt);
         return;
     }
