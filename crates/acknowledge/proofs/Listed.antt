@@ -219,6 +219,8 @@ module _ (s : List ℕ) (l : Lent) (r : Received) (unmet : cannot_be_acknowledge
   elements_items : (ps : List Part) (es : List (List (List Bytes))) → Lists ps es → gather items ps ≡ gather (list_element 1) es
   unfolding gather
   elements_items [] [] no_more = refl
+  elements_items [] (e ∷ es) h = elim h [ ]
+  elements_items (p ∷ ps) [] h = elim h [ ]
   elements_items (p ∷ ps) (e ∷ es) (d ◂ h) = ap₂ ◌++◌ d (elements_items ps es h)
 
   -- a segment: a tag, and its elements

@@ -1,6 +1,5 @@
 -- `acknowledge::acknowledge` meets its contract: 23 answers, or what follows it does. Assumes nothing.
 use mathlib.Core.Path.{subst}
-use borrow.Author.Rules.{rules}
 use Rattle.acknowledgement_parts.specs.Parts.{lent_by}
 use Rattle.reported.specs.Reporting.{Reports}
 use Rattle.acknowledge.proofs.Stages.{unreportable_refused, reportable_passed}

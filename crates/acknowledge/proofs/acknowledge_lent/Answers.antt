@@ -1,7 +1,6 @@
 -- `acknowledge::acknowledge_lent` meets its contract: 15 answers for the first lent list that is bad, or what follows it does.
 -- Assumes nothing.
 use mathlib.Core.Path.{sym, ◌∙◌}
-use borrow.Author.Rules.{rules}
 use Rattle.acknowledgement_parts.specs.Parts.{lent_by}
 use Rattle.acknowledge.proofs.Stages.{bad_date, bad_reference, bad_message, none_bad, lent_refused, lent_passed}
 use Rattle.acknowledge.proofs.acknowledge_lent.Goals as goal

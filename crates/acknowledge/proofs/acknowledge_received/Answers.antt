@@ -2,7 +2,6 @@
 -- list put together, and the characters those of the received one's normal form. Assumes nothing.
 use mathlib.Core.Path.{ap, ◌∙◌}
 use native.Mathlib.Omega.{arith}
-use borrow.Author.Rules.{rules}
 use Rattle.characters.specs.Characters.{usable}
 use Rattle.acknowledgement_parts.specs.Parts.{lent_by}
 use Rattle.acknowledge.specs.Rows.{row}

@@ -1,6 +1,5 @@
 -- `acknowledge::acknowledge_text` meets its contract: 1, then 14, then what Judge answers for the text. Assumes nothing.
 use native.Mathlib.Omega.{arith}
-use borrow.Author.Rules.{rules}
 use Rattle.characters.specs.Characters.{advice_of}
 use Rattle.storing.proofs.Stores.{stored_length}
 use Rattle.emission_laws.specs.Emission.{nothing, emitted}

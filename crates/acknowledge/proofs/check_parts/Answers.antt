@@ -1,13 +1,10 @@
 -- `acknowledge::check_parts` meets its contract. The loop's invariant: the first record that cannot stand is the first of the parts from `i` on. The parts that are left fall. Assumes nothing.
-use Prim.Native.Nat.{◌*◌, ◌-◌, ◌≤◌}
-use mathlib.Core.Path.{◌≡◌, refl, sym, ap, subst, ◌∙◌}
+use mathlib.Core.Path.{refl, sym, ap, subst, ◌∙◌}
 use lib.ListN.{length}
 use native.Mathlib.Omega.{arith}
-use borrow.Author.Rules.{rules}
 use Rattle.acknowledgement_parts.specs.declared.Part.{Part}
 use Rattle.acknowledgement_parts.specs.Parts.{lent_by, part_items, Fine, Stands, first_bare}
 use Rattle.refusals.specs.Refusals.{outcome}
-use Rattle.acknowledge.specs.Rows.{row, row_from}
 use Rattle.acknowledge.proofs.Rows.{part_bare, part_stands, none_left}
 use Rattle.acknowledge.proofs.check_parts.Goals as goal
 

@@ -1,8 +1,7 @@
 -- `acknowledge::put_parts` meets its contract. The loop's invariant: what is left of the parts, stored from the place reached, gives what all of them give. The parts that are left fall. Assumes nothing.
-use Prim.Native.Nat.{◌-◌, ◌≤◌}
+use Prim.Native.Nat.{◌≤◌}
 use mathlib.Core.Path.{sym, subst, ◌∙◌}
 use native.Mathlib.Omega.{arith}
-use borrow.Author.Rules.{rules}
 use Rattle.acknowledgement_parts.specs.declared.Part.{Part}
 use Rattle.acknowledgement_parts.specs.Parts.{lent_by, part_items, Fine}
 use Rattle.emission_laws.specs.Emission.{emitted, after}
@@ -12,7 +11,7 @@ use Rattle.storing.proofs.Stores.{stored_length}
 use Rattle.held_separators.specs.Putting.{Fits}
 use Rattle.refusals.specs.Limits.{most_bytes}
 use Rattle.value_list_text.specs.Advancing.{records_tokens, Appended}
-use Rattle.acknowledge.proofs.Rows.{Few, Storing, storing_start, part_few, part_most, part_fits, storing_next, end_fits, storing_end, whole_total, held_few}
+use Rattle.acknowledge.proofs.Rows.{Few, storing_start, part_few, part_most, part_fits, storing_next, end_fits, storing_end, whole_total, held_few}
 use Rattle.acknowledge.proofs.put_parts.Goals as goal
 
 pub loop-i-init : goal.loop-i-init

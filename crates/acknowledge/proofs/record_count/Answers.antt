@@ -1,12 +1,9 @@
 -- `acknowledge::record_count` meets its contract. The loop's invariant: what is counted and the records of the parts from `i` on are all. The parts that are left fall. Assumes nothing.
-use Prim.Native.Nat.{◌+◌, ◌*◌, ◌-◌, ◌≤◌}
-use mathlib.Core.Path.{◌≡◌, sym, ap, subst, ◌∙◌}
+use mathlib.Core.Path.{sym, ap, subst, ◌∙◌}
 use lib.ListN.{length}
 use native.Mathlib.Omega.{arith}
-use borrow.Author.Rules.{rules}
 use Rattle.acknowledgement_parts.specs.declared.Part.{Part}
 use Rattle.acknowledgement_parts.specs.Parts.{lent_by, part_items, Fine}
-use Rattle.acknowledge.specs.Rows.{row, row_from}
 use Rattle.acknowledge.proofs.Rows.{length_next, row_end}
 use Rattle.acknowledge.proofs.record_count.Goals as goal
 

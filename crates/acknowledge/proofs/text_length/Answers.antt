@@ -1,14 +1,11 @@
 -- `acknowledge::text_length` meets its contract. The loop's invariant: the parts before `i` are passed. The parts that are left fall. Assumes nothing.
-use Prim.Native.Nat.{◌-◌, ◌≤◌}
 use mathlib.Core.Path.{sym, ap, subst}
 use native.Mathlib.Omega.{arith}
-use borrow.Author.Rules.{rules}
 use Rattle.acknowledgement_parts.specs.declared.Part.{Part}
 use Rattle.acknowledgement_parts.specs.Parts.{lent_by, part_items, Fine}
 use Rattle.emission_laws.specs.declared.Held.{Held}
-use Rattle.refusals.specs.Limits.{most_bytes}
 use Rattle.value_list_text.specs.Advancing.{Advanced}
-use Rattle.acknowledge.proofs.Rows.{Few, Reached, reached_start, part_few, reached_next, reached_over, reached_end}
+use Rattle.acknowledge.proofs.Rows.{Few, reached_start, part_few, reached_next, reached_over, reached_end}
 use Rattle.acknowledge.proofs.text_length.Goals as goal
 
 pub loop-i-init : goal.loop-i-init
