@@ -16,7 +16,7 @@ use Rattle.lists.specs.Lists.{maybe}
 use Rattle.lists.proofs.Texts.{if_true, if_false}
 use Rattle.refusals.specs.declared.Refusal.{Refusal}
 use Rattle.stages.specs.Stages.{refusal_of}
-use Rattle.answers.specs.Answers.{Answer, given, refusedInput}
+use Rattle.answers.specs.Answers.{Answer, given, refused_input}
 use Rattle.operations.specs.Compare.{are_same, compare, Part, of_first, of_second, keep}
 use Rattle.operations.proofs.Answered.{compare_by}
 use Rattle.normal_form_laws.proofs.Theorems.{same_normal, same_exactly}
@@ -64,11 +64,11 @@ module _ (a b : List ℕ) where
 
   -- the answer has the number 0 only where both are accepted
   compare_accepted : (compare a b).number ≡ 0 → Allowed a × Allowed b
-  unfolding compare maybe refusedInput
+  unfolding compare maybe refused_input
   compare_accepted h = step (refusal_of a) refl (refusal_of b) refl h
     where
       step : (o : Option Refusal) → refusal_of a ≡ o → (p : Option Refusal) → refusal_of b ≡ p
-          → (maybe (maybe (given (word (are_same a b) ∷ [])) (refusedInput 2) p) (refusedInput 1) o).number ≡ 0
+          → (maybe (maybe (given (word (are_same a b) ∷ [])) (refused_input 2) p) (refused_input 1) o).number ≡ 0
           → Allowed a × Allowed b
       step none e none f h = ((allowed_exactly a).0 e, (allowed_exactly b).0 f)
       step none e (some r) f h = absurd (number_not_zero r.fault h)

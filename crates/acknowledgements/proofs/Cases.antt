@@ -8,7 +8,7 @@ use Rattle.lists.specs.Lists.{maybe}
 use Rattle.refusals.specs.declared.Refusal.{Refusal}
 use Rattle.answers.specs.declared.Stored.{Stored}
 use Rattle.answers.specs.declared.Stored.TheVariants as stored
-use Rattle.answers.specs.Answers.{given, refused, toldStored}
+use Rattle.answers.specs.Answers.{given, refused, told_stored}
 use Rattle.operations.specs.Judge.{stored_in, unless_refused}
 use Rattle.contracts.proofs.Told.{stored_tells}
 use Rattle.acknowledgements.specs.Lent.{Lent}
@@ -33,7 +33,7 @@ module _ (s : List ℕ) (l : Lent) (output : List ℕ) where
       → let text : List ℕ = acknowledgement_text s l in
       (r ≡ stored.Length (length text)) × (after ≡ text ++ drop (length text) output))
       × ((q : Refusal) → acknowledge_refusal s l output ≡ some q → (r ≡ stored.Refused q) × (after ≡ replicate (length output) 0))
-  unfolding toldStored
+  unfolding told_stored
   acknowledges r after h = (
     λ e.
         let told = written_given e in

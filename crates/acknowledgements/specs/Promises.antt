@@ -2,12 +2,12 @@
 -- leaves one result. Assumes nothing.
 use Rattle.std.specs.Prelude.{ℕ, ◌≡◌, List}
 use Rattle.answers.specs.declared.Stored.{Stored}
-use Rattle.answers.specs.Answers.{toldStored}
+use Rattle.answers.specs.Answers.{told_stored}
 use Rattle.acknowledgements.specs.Lent.{Lent}
 use Rattle.acknowledgements.specs.Acknowledgement.{acknowledge, acknowledge_output}
 
 abbrev pub Acknowledges : (s : List ℕ) (l : Lent) (output : List ℕ) → Stored → (after : List ℕ) → Type 0
-Acknowledges s l output r after = (toldStored r ≡ acknowledge s l output) × (after ≡ acknowledge_output s l output)
+Acknowledges s l output r after = (told_stored r ≡ acknowledge s l output) × (after ≡ acknowledge_output s l output)
 
 -- two results that it allows are equal; `proofs/Tight.antt` proves it
 abbrev pub Tight : Type 0

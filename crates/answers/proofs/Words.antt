@@ -11,7 +11,7 @@ use Rattle.answers.specs.declared.Stored.TheVariants as stored
 use Rattle.answers.specs.declared.Compared.TheVariants as compared
 use Rattle.answers.specs.declared.Located.TheVariants as located
 use Rattle.answers.specs.declared.Listed.TheVariants as listed
-use Rattle.answers.specs.Answers.{Answer, given, refused, refusedInput, accepted, toldJudged, toldStored, toldCompared, toldLocated, toldListed}
+use Rattle.answers.specs.Answers.{Answer, given, refused, refused_input, accepted, told_judged, told_stored, told_compared, told_located, told_listed}
 
 -- nothing is refused
 abbrev pub gives : List ℕ → Answer
@@ -22,7 +22,7 @@ abbrev pub refuses : Refusal → List ℕ → Answer
 refuses r values = record { number = number r.fault; values = values }
 
 pub judged_are : (i : Figures) (r : Refusal)
-    → (toldJudged (judged.Accepted i)
+    → (told_judged (judged.Accepted i)
     ≡ gives
     (i.characters.component
     ∷ i.characters.element
@@ -35,32 +35,32 @@ pub judged_are : (i : Figures) (r : Refusal)
     ∷ i.groups.0
     ∷ i.length
     ∷ []))
-    × (toldJudged (judged.Refused r) ≡ refuses r (r.place ∷ []))
-unfolding toldJudged accepted given refused spelled_out
+    × (told_judged (judged.Refused r) ≡ refuses r (r.place ∷ []))
+unfolding told_judged accepted given refused spelled_out
 judged_are i r = (refl, refl)
 
 pub stored_are : (n : ℕ) (r : Refusal)
-    → (toldStored (stored.Length n) ≡ gives (n ∷ [])) × (toldStored (stored.Refused r) ≡ refuses r (r.place ∷ []))
-unfolding toldStored given refused
+    → (told_stored (stored.Length n) ≡ gives (n ∷ [])) × (told_stored (stored.Refused r) ≡ refuses r (r.place ∷ []))
+unfolding told_stored given refused
 stored_are n r = (refl, refl)
 
 pub compared_are : (r : Refusal)
-    → (toldCompared compared.Same ≡ gives (1 ∷ []))
-    × (toldCompared compared.Different ≡ gives (0 ∷ []))
-    × (toldCompared (compared.FirstRefused r) ≡ refuses r (1 ∷ r.place ∷ []))
-    × (toldCompared (compared.SecondRefused r) ≡ refuses r (2 ∷ r.place ∷ []))
-unfolding toldCompared given refusedInput
+    → (told_compared compared.Same ≡ gives (1 ∷ []))
+    × (told_compared compared.Different ≡ gives (0 ∷ []))
+    × (told_compared (compared.FirstRefused r) ≡ refuses r (1 ∷ r.place ∷ []))
+    × (told_compared (compared.SecondRefused r) ≡ refuses r (2 ∷ r.place ∷ []))
+unfolding told_compared given refused_input
 compared_are r = (refl, refl, refl, refl)
 
 pub located_are : (offset size : ℕ) (r : Refusal)
-    → (toldLocated (located.At offset size) ≡ gives (offset ∷ size ∷ []))
-    × (toldLocated located.Absent ≡ gives [])
-    × (toldLocated (located.Refused r) ≡ refuses r (r.place ∷ []))
-unfolding toldLocated given refused
+    → (told_located (located.At offset size) ≡ gives (offset ∷ size ∷ []))
+    × (told_located located.Absent ≡ gives [])
+    × (told_located (located.Refused r) ≡ refuses r (r.place ∷ []))
+unfolding told_located given refused
 located_are offset size r = (refl, refl, refl)
 
 pub listed_are : (bytes numbers : ℕ) (r : Refusal)
-    → (toldListed (listed.Values bytes numbers) ≡ gives (bytes ∷ numbers ∷ []))
-    × (toldListed (listed.Refused r) ≡ refuses r (r.place ∷ []))
-unfolding toldListed given refused
+    → (told_listed (listed.Values bytes numbers) ≡ gives (bytes ∷ numbers ∷ []))
+    × (told_listed (listed.Refused r) ≡ refuses r (r.place ∷ []))
+unfolding told_listed given refused
 listed_are bytes numbers r = (refl, refl)

@@ -26,34 +26,34 @@ unfoldable pub refused : Refusal → Answer
 refused r = record { number = number r.fault; values = r.place ∷ [] }
 
 -- "refusal with 1st or 2nd input"
-unfoldable pub refusedInput : ℕ → Refusal → Answer
-refusedInput which r = record { number = number r.fault; values = which ∷ r.place ∷ [] }
+unfoldable pub refused_input : ℕ → Refusal → Answer
+refused_input which r = record { number = number r.fault; values = which ∷ r.place ∷ [] }
 
 -- "service characters, counts of segments, messages and groups, length of the normal form"
 unfoldable pub accepted : Figures → Answer
 accepted i = given (spelled_out i.characters ++ i.segments.0 ∷ i.messages.0 ∷ i.groups.0 ∷ i.length ∷ [])
 
-unfoldable pub toldJudged : Judged → Answer
-toldJudged (judged.Accepted i) = accepted i
-toldJudged (judged.Refused r) = refused r
+unfoldable pub told_judged : Judged → Answer
+told_judged (judged.Accepted i) = accepted i
+told_judged (judged.Refused r) = refused r
 
-unfoldable pub toldStored : Stored → Answer
-toldStored (stored.Length n) = given (n ∷ [])
-toldStored (stored.Refused r) = refused r
+unfoldable pub told_stored : Stored → Answer
+told_stored (stored.Length n) = given (n ∷ [])
+told_stored (stored.Refused r) = refused r
 
 -- 1 for "same", 0 for "different"
-unfoldable pub toldCompared : Compared → Answer
-toldCompared compared.Same = given (1 ∷ [])
-toldCompared compared.Different = given (0 ∷ [])
-toldCompared (compared.FirstRefused r) = refusedInput 1 r
-toldCompared (compared.SecondRefused r) = refusedInput 2 r
+unfoldable pub told_compared : Compared → Answer
+told_compared compared.Same = given (1 ∷ [])
+told_compared compared.Different = given (0 ∷ [])
+told_compared (compared.FirstRefused r) = refused_input 1 r
+told_compared (compared.SecondRefused r) = refused_input 2 r
 
 -- "offset and spelled length in the input", or nothing where it is absent
-unfoldable pub toldLocated : Located → Answer
-toldLocated (located.At offset length) = given (offset ∷ length ∷ [])
-toldLocated located.Absent = given []
-toldLocated (located.Refused r) = refused r
+unfoldable pub told_located : Located → Answer
+told_located (located.At offset length) = given (offset ∷ length ∷ [])
+told_located located.Absent = given []
+told_located (located.Refused r) = refused r
 
-unfoldable pub toldListed : Listed → Answer
-toldListed (listed.Values bytes numbers) = given (bytes ∷ numbers ∷ [])
-toldListed (listed.Refused r) = refused r
+unfoldable pub told_listed : Listed → Answer
+told_listed (listed.Values bytes numbers) = given (bytes ∷ numbers ∷ [])
+told_listed (listed.Refused r) = refused r

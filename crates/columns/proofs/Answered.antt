@@ -12,7 +12,7 @@ use Rattle.refusals.proofs.Stages.{one_place}
 use Rattle.stages.specs.Stages.{refusal_of}
 use Rattle.answers.specs.declared.Stored.{Stored}
 use Rattle.answers.specs.declared.Stored.TheVariants as stored
-use Rattle.answers.specs.Answers.{given, refused, toldStored}
+use Rattle.answers.specs.Answers.{given, refused, told_stored}
 use Rattle.operations.specs.Judge.{stored_in, unless_refused}
 use Rattle.operations.specs.Write.{write_stages, write_refusal}
 use Rattle.contracts.proofs.Told.{stored_tells}
@@ -37,7 +37,7 @@ pub exports_are : (buffer s : List ℕ) (r : Stored) (after : List ℕ) → Expo
     → (refusal_of s ≡ none → length (export_text s) ≤ length buffer
     → (r ≡ stored.Length (length (export_text s))) × (after ≡ export_text s ++ drop (length (export_text s)) buffer))
     × ((q : Refusal) → export_refusal buffer s ≡ some q → (r ≡ stored.Refused q) × (after ≡ buffer))
-unfolding toldStored
+unfolding told_stored
 exports_are buffer s r after h = (
   λ e fits.
       let told = exported buffer s e fits in
@@ -84,7 +84,7 @@ module _ (service columns output : List ℕ) where
       → let text : List ℕ = import_text service columns in
       (r ≡ stored.Length (length text)) × (after ≡ text ++ drop (length text) output))
       × ((q : Refusal) → import_refusal service columns output ≡ some q → (r ≡ stored.Refused q) × (after ≡ replicate (length output) 0))
-  unfolding toldStored
+  unfolding told_stored
   imports_are r after h = (
     λ e.
         let told = import_given e in

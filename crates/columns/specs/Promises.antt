@@ -2,15 +2,15 @@
 -- this leaves one result. Assumes nothing.
 use Rattle.std.specs.Prelude.{ℕ, ◌≡◌, List}
 use Rattle.answers.specs.declared.Stored.{Stored}
-use Rattle.answers.specs.Answers.{toldStored}
+use Rattle.answers.specs.Answers.{told_stored}
 use Rattle.columns.specs.Operations.{exports, export_buffer, imports, import_output}
 
 abbrev pub Exports : (buffer s : List ℕ) → Stored → (after : List ℕ) → Type 0
-Exports buffer s r after = (toldStored r ≡ exports buffer s) × (after ≡ export_buffer buffer s)
+Exports buffer s r after = (told_stored r ≡ exports buffer s) × (after ≡ export_buffer buffer s)
 
 abbrev pub Imports : (service columns output : List ℕ) → Stored → (after : List ℕ) → Type 0
 Imports service columns output r after =
-    (toldStored r ≡ imports service columns output) × (after ≡ import_output service columns output)
+    (told_stored r ≡ imports service columns output) × (after ≡ import_output service columns output)
 
 -- two results that a promise allows are equal; `proofs/Tight.antt` proves the record
 pub record Tight : Type 0 where

@@ -23,7 +23,7 @@ use Rattle.answers.specs.declared.Stored.{Stored}
 use Rattle.answers.specs.declared.Stored.TheVariants.{Length, Refused}
 use Rattle.answers.specs.declared.Compared.{Compared}
 use Rattle.answers.specs.declared.Compared.TheVariants.{Same, Different, FirstRefused, SecondRefused}
-use Rattle.answers.specs.Answers.{Answer, given, refused, refusedInput, toldStored, toldCompared}
+use Rattle.answers.specs.Answers.{Answer, given, refused, refused_input, told_stored, told_compared}
 use Rattle.contracts.specs.Promises.{Normalises}
 use Rattle.contracts.proofs.Told.{given_refused, given_is, refused_is}
 use Rattle.operations.specs.Judge.{figures_of, normalise_refusal, normalise, normalise_buffer}
@@ -72,10 +72,10 @@ form_is s e d =
 module _ (buffer s : List ℕ) {r : Stored} {after : List ℕ} (said : Normalises buffer s r after) where
   -- it is accepted, and its normal form stands in front
   pub form_stored : {n : ℕ} → r ≡ Length n → (refusal_of s ≡ none) × (n ≤ length after) × (n ≡ length (take n after)) × (take n after ≡ normal_form s)
-  unfolding normalise toldStored given
+  unfolding normalise told_stored given
   form_stored {n} d =
       let form = normal_form s in
-      let (passed, told) = given_is (length form ∷ []) (n ∷ []) (normalise_refusal buffer s) (sym (ap toldStored d) ∙ said.0) in
+      let (passed, told) = given_is (length form ∷ []) (n ∷ []) (normalise_refusal buffer s) (sym (ap told_stored d) ∙ said.0) in
       let long : n ≡ length form = ap (λ (l : List ℕ). get_or l 0 0) told in
       let holds = said.1 ∙ (normalise_given buffer s passed).1 in
       let fits : n ≤ length after = omega (arith, ap length holds, length-append form (drop (length form) buffer)) in
@@ -87,9 +87,9 @@ module _ (buffer s : List ℕ) {r : Stored} {after : List ℕ} (said : Normalise
 
   -- it is refused: where there is room, the refusal is its own
   pub form_refused : {q : Refusal} → Room buffer s → r ≡ Refused q → refusal_of s ≡ some q
-  unfolding normalise toldStored
+  unfolding normalise told_stored
   form_refused {q} room d =
-      let told = sym (ap toldStored d) ∙ said.0 in
+      let told = sym (ap told_stored d) ∙ said.0 in
       refuses told (refusal_of s) refl (refused_is (length (normal_form s) ∷ []) q (normalise_refusal buffer s) told)
     where
       refuses : refused q ≡ normalise buffer s → (o : Option Refusal) → refusal_of s ≡ o → normalise_refusal buffer s ≡ some q → o ≡ some q
@@ -99,41 +99,41 @@ module _ (buffer s : List ℕ) {r : Stored} {after : List ℕ} (said : Normalise
 -- ---- what is answered of the second, where the first is accepted and this is its normal form
 
 module _ (text second : List ℕ) where
-  pub text_refused : {r : Refusal} → refusal_of second ≡ some r → toldCompared (SecondRefused r) ≡ compared_to text second
-  unfolding compared_to toldCompared maybe
-  text_refused e = sym (ap (maybe (given ((if same text (normal_form second) then 1 else 0) ∷ [])) (refusedInput 2)) e)
+  pub text_refused : {r : Refusal} → refusal_of second ≡ some r → told_compared (SecondRefused r) ≡ compared_to text second
+  unfolding compared_to told_compared maybe
+  text_refused e = sym (ap (maybe (given ((if same text (normal_form second) then 1 else 0) ∷ [])) (refused_input 2)) e)
 
   module _ (f : refusal_of second ≡ none) where
     by_text : (t : Bool) → same text (normal_form second) ≡ t → given ((if t then 1 else 0) ∷ []) ≡ compared_to text second
     unfolding compared_to maybe
-    by_text t h = sym (ap₂ (λ (u : Bool) (o : Option Refusal). maybe (given ((if u then 1 else 0) ∷ [])) (refusedInput 2) o) h f)
+    by_text t h = sym (ap₂ (λ (u : Bool) (o : Option Refusal). maybe (given ((if u then 1 else 0) ∷ [])) (refused_input 2) o) h f)
 
-    pub text_same : same text (normal_form second) ≡ true → toldCompared Same ≡ compared_to text second
-    unfolding toldCompared
+    pub text_same : same text (normal_form second) ≡ true → told_compared Same ≡ compared_to text second
+    unfolding told_compared
     text_same h = by_text true h
 
-    pub text_differs : same text (normal_form second) ≡ false → toldCompared Different ≡ compared_to text second
-    unfolding toldCompared
+    pub text_differs : same text (normal_form second) ≡ false → told_compared Different ≡ compared_to text second
+    unfolding told_compared
     text_differs h = by_text false h
 
 -- what has the bytes of a normal form has that normal form
-pub bytes_form : (text second : List ℕ) → IsForm text → same text second ≡ true → toldCompared Same ≡ compared_to text second
+pub bytes_form : (text second : List ℕ) → IsForm text → same text second ≡ true → told_compared Same ≡ compared_to text second
 bytes_form text second form h =
     let e : text ≡ second = same_eq text second h in
-    subst (λ (s : List ℕ). toldCompared Same ≡ compared_to text s) e
+    subst (λ (s : List ℕ). told_compared Same ≡ compared_to text s) e
     (text_same text text form.0 (ap (same text) form.1 ∙ same_refl text))
 
 -- ---- what is answered
 
 module _ (first second : List ℕ) where
   -- the first is refused
-  pub first_refused : {r : Refusal} → refusal_of first ≡ some r → toldCompared (FirstRefused r) ≡ compare first second
-  unfolding toldCompared maybe
+  pub first_refused : {r : Refusal} → refusal_of first ≡ some r → told_compared (FirstRefused r) ≡ compare first second
+  unfolding told_compared maybe
   first_refused {r} e = sym (compare_by first second (some r) (refusal_of second) e refl)
 
   -- the second is, and the first is not
-  pub second_refused : {r : Refusal} → refusal_of first ≡ none → refusal_of second ≡ some r → toldCompared (SecondRefused r) ≡ compare first second
-  unfolding toldCompared maybe
+  pub second_refused : {r : Refusal} → refusal_of first ≡ none → refusal_of second ≡ some r → told_compared (SecondRefused r) ≡ compare first second
+  unfolding told_compared maybe
   second_refused {r} e f = sym (compare_by first second none (some r) e f)
 
   module _ (e : refusal_of first ≡ none) (f : refusal_of second ≡ none) where
@@ -145,13 +145,13 @@ module _ (first second : List ℕ) where
         (ap₂ (λ (a b : Option Refusal). maybe true (λ r. false) a && maybe true (λ r. false) b && same (normal_form first) (normal_form second)) e f ∙ h)
 
     -- both are accepted, and their normal forms are equal
-    pub forms_same : same (normal_form first) (normal_form second) ≡ true → toldCompared Same ≡ compare first second
-    unfolding toldCompared
+    pub forms_same : same (normal_form first) (normal_form second) ≡ true → told_compared Same ≡ compare first second
+    unfolding told_compared
     forms_same h = sym (by_forms true h)
 
   -- both are accepted, and what is answered of the second where the first's normal form is known is the answer
-  pub text_compared : {text : List ℕ} → refusal_of first ≡ none → text ≡ normal_form first → (r : Compared) → toldCompared r ≡ compared_to text second
-      → toldCompared r ≡ compare first second
+  pub text_compared : {text : List ℕ} → refusal_of first ≡ none → text ≡ normal_form first → (r : Compared) → told_compared r ≡ compared_to text second
+      → told_compared r ≡ compare first second
   text_compared {text} e d r told = told ∙ step (refusal_of second) refl
     where
       step : (o : Option Refusal) → refusal_of second ≡ o → compared_to text second ≡ compare first second
@@ -161,11 +161,11 @@ module _ (first second : List ℕ) where
       step (some r) f = sym (text_refused text second f) ∙ second_refused e f
 
   -- the second has the first's bytes
-  pub bytes_same : same first second ≡ true → (r : Compared) → toldCompared r ≡ compare first first → toldCompared r ≡ compare first second
+  pub bytes_same : same first second ≡ true → (r : Compared) → told_compared r ≡ compare first first → told_compared r ≡ compare first second
   bytes_same h r told = told ∙ ap (compare first) (same_eq first second h)
 
 -- an accepted input is the same as itself
-pub itself_same : (s : List ℕ) → refusal_of s ≡ none → toldCompared Same ≡ compare s s
+pub itself_same : (s : List ℕ) → refusal_of s ≡ none → told_compared Same ≡ compare s s
 itself_same s e = forms_same s s e e (same_refl (normal_form s))
 
 -- ---- what a caller of Compare learns
@@ -180,16 +180,16 @@ is_same Different = false
 is_same (FirstRefused r) = false
 is_same (SecondRefused r) = false
 
-told_so : (r : Compared) → is_same r ≡ says_same (toldCompared r)
-unfolding is_same says_same toldCompared given refusedInput same
+told_so : (r : Compared) → is_same r ≡ says_same (told_compared r)
+unfolding is_same says_same told_compared given refused_input same
 told_so Same = refl
 told_so Different = refl
 told_so (FirstRefused r) = refl
 told_so (SecondRefused r) = refl
 
 -- the answer says "same" exactly where the two are the same
-pub told_same : (first second : List ℕ) (r q : Compared) → toldCompared r ≡ compare first second → r ≡ q → is_same q ≡ are_same first second
-unfolding compare are_same is_accepted says_same given refusedInput same maybe
+pub told_same : (first second : List ℕ) (r q : Compared) → told_compared r ≡ compare first second → r ≡ q → is_same q ≡ are_same first second
+unfolding compare are_same is_accepted says_same given refused_input same maybe
 told_same first second r q e d =
     sym (ap is_same d) ∙ told_so r ∙ ap says_same e ∙ step (refusal_of first) (refusal_of second) (same (normal_form first) (normal_form second))
   where
@@ -197,7 +197,7 @@ told_same first second r q e d =
     accepts o = maybe true (λ r. false) o
 
     step : (a b : Option Refusal) (t : Bool)
-        → says_same (maybe (maybe (given ((if accepts a && accepts b && t then 1 else 0) ∷ [])) (refusedInput 2) b) (refusedInput 1) a)
+        → says_same (maybe (maybe (given ((if accepts a && accepts b && t then 1 else 0) ∷ [])) (refused_input 2) b) (refused_input 1) a)
         ≡ (accepts a && accepts b && t)
     step none none true = refl
     step none none false = refl

@@ -11,7 +11,7 @@ use lib.Seq.{length-take-le}
 use borrow.Author.Tests.{lt-ltb, le-ltb}
 use denote.Ref.{Bor}
 use Rattle.answers.specs.declared.Compared.{Compared}
-use Rattle.answers.specs.Answers.{toldCompared}
+use Rattle.answers.specs.Answers.{told_compared}
 use Rattle.operations.specs.Compare.{Part, of_first, of_second, are_same, compare, keep}
 use Rattle.contracts.specs.Promises.{IsPart, Handed}
 use Rattle.compare.specs.declared.Kept.{Kept}
@@ -37,7 +37,7 @@ module _ (first second : List ℕ) where
       step true false = le_refl (length first)
       step false shorter = zero-le
 
-  module _ {r q : Compared} (e : toldCompared r ≡ compare first second) (d : r ≡ q) where
+  module _ {r q : Compared} (e : told_compared r ≡ compare first second) (d : r ≡ q) where
     -- the two are not the same
     pub kept_none : is_same q ≡ false → part_of (First 0) ≡ keep first second
     unfolding keep part_of

@@ -10,7 +10,7 @@ use Rattle.refusals.specs.declared.Refusal.{Refusal}
 use Rattle.stages.specs.Stages.{refusal_of}
 use Rattle.answers.specs.declared.Compared.{Compared}
 use Rattle.answers.specs.declared.Compared.TheVariants.{Same, Different, FirstRefused, SecondRefused}
-use Rattle.answers.specs.Answers.{given, refusedInput, toldCompared}
+use Rattle.answers.specs.Answers.{given, refused_input, told_compared}
 use Rattle.contracts.proofs.Told.{compared_tells}
 use Rattle.operations.specs.Compare.{are_same, compare}
 use Rattle.operations.proofs.Answered.{compare_by}
@@ -25,8 +25,8 @@ answer_of none none true = Same
 answer_of none none false = Different
 
 answer_told : (o p : Option Refusal) (t : Bool)
-    → toldCompared (answer_of o p t) ≡ maybe (maybe (given ((if t then 1 else 0) ∷ [])) (refusedInput 2) p) (refusedInput 1) o
-unfolding answer_of toldCompared maybe
+    → told_compared (answer_of o p t) ≡ maybe (maybe (given ((if t then 1 else 0) ∷ [])) (refused_input 2) p) (refused_input 1) o
+unfolding answer_of told_compared maybe
 answer_told (some r) p t = refl
 answer_told none (some r) t = refl
 answer_told none none true = refl
@@ -36,7 +36,7 @@ module _ (first second : List ℕ) where
   abbrev answer : Compared
   answer = answer_of (refusal_of first) (refusal_of second) (are_same first second)
 
-  answered : toldCompared answer ≡ compare first second
+  answered : told_compared answer ≡ compare first second
   answered =
       answer_told (refusal_of first) (refusal_of second) (are_same first second)
       ∙ sym (compare_by first second (refusal_of first) (refusal_of second) refl refl)
@@ -72,12 +72,12 @@ turned_answer none (some r) t = refl
 turned_answer (some q) none t = refl
 turned_answer (some q) (some r) t = refl
 
-module _ (first second : List ℕ) {r q : Compared} (told : toldCompared r ≡ compare second first) (d : r ≡ q) where
+module _ (first second : List ℕ) {r q : Compared} (told : told_compared r ≡ compare second first) (d : r ≡ q) where
   -- where this was answered in the other order, and this refuses the first
-  pub turned_is : {o : Option Refusal} → refusal_of first ≡ o → toldCompared (turned q o) ≡ compare first second
+  pub turned_is : {o : Option Refusal} → refusal_of first ≡ o → told_compared (turned q o) ≡ compare first second
   turned_is e =
       let was : q ≡ answer second first = sym d ∙ compared_tells r (answer second first) (told ∙ sym (answered second first)) in
-      ap toldCompared
+      ap told_compared
       (ap (turned q) (sym e)
       ∙ ap (λ (c : Compared). turned c (refusal_of first)) was
       ∙ ap (λ (t : Bool). turned (answer_of (refusal_of second) (refusal_of first) t) (refusal_of first)) (same_either second first)

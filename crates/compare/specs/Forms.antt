@@ -4,7 +4,7 @@ use Rattle.std.proofs.Math.Option.{none}
 use Rattle.lists.specs.Lists.{same, maybe}
 use Rattle.stages.specs.Contents.{normal_form}
 use Rattle.stages.specs.Stages.{refusal_of}
-use Rattle.answers.specs.Answers.{Answer, given, refusedInput}
+use Rattle.answers.specs.Answers.{Answer, given, refused_input}
 
 -- the text is accepted, and is its own normal form
 abbrev pub IsForm : List ℕ → Type 0
@@ -16,4 +16,4 @@ Room buffer s = refusal_of s ≡ none → length (normal_form s) ≤ length buff
 
 -- what is answered of the second input, where the first is accepted and this is its normal form
 unfoldable pub compared_to : (text second : List ℕ) → Answer
-compared_to text second = maybe (given ((if same text (normal_form second) then 1 else 0) ∷ [])) (refusedInput 2) (refusal_of second)
+compared_to text second = maybe (given ((if same text (normal_form second) then 1 else 0) ∷ [])) (refused_input 2) (refusal_of second)

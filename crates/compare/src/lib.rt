@@ -10,7 +10,7 @@ ghost use Rattle.std.proofs.Math.Option.{none};
 ghost use Rattle.refusals.specs.Refusals.{answering};
 ghost use Rattle.stages.specs.Stages.{stages_in};
 ghost use Rattle.stage_opening.specs.Runs.{found_by};
-ghost use Rattle.answers.specs.Answers.{toldCompared};
+ghost use Rattle.answers.specs.Answers.{told_compared};
 ghost use Rattle.operations.specs.Compare.{keep as keep_of};
 ghost use Rattle.contracts.specs.Promises.{Compares, Keeps};
 ghost use Rattle.compare.specs.Forms.{IsForm, Room, compared_to};
@@ -40,7 +40,7 @@ fn compare_itself(s: &[u8], found: Found) -> Compared
 // stored in the buffer.
 fn compare_with(text: &[u8], buffer: &mut [u8], second: &[u8]) -> Compared
     requires { IsForm text.now × Room buffer.old second.now }
-    ensures { toldCompared result ≡ compared_to text.now second.now }
+    ensures { told_compared result ≡ compared_to text.now second.now }
 {
     if equal(text, second) {
         return Compared::Same;

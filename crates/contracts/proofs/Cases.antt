@@ -20,7 +20,7 @@ use Rattle.answers.specs.declared.Located.{Located}
 use Rattle.answers.specs.declared.Located.TheVariants as place
 use Rattle.answers.specs.declared.Listed.{Listed}
 use Rattle.answers.specs.declared.Listed.TheVariants as listed
-use Rattle.answers.specs.Answers.{given, toldJudged, toldStored, toldCompared, toldLocated, toldListed}
+use Rattle.answers.specs.Answers.{given, told_judged, told_stored, told_compared, told_located, told_listed}
 use Rattle.operations.specs.Judge.{figures_of}
 use Rattle.operations.specs.Compare.{are_same, Part, of_first, of_second, keep}
 use Rattle.operations.specs.Locate.{located, locate, part_offset}
@@ -35,7 +35,7 @@ use Rattle.contracts.proofs.Told.{judged_tells, stored_tells, compared_tells, lo
 
 pub judges : (s : List ℕ) (r : Judged) → Judges s r
     → (refusal_of s ≡ none → r ≡ judged.Accepted (figures_of s)) × ((q : Refusal) → refusal_of s ≡ some q → r ≡ judged.Refused q)
-unfolding toldJudged
+unfolding told_judged
 judges s r h = (
   λ e. judged_tells r (judged.Accepted (figures_of s)) (h ∙ (judge_is s).0 e),
   λ q e. judged_tells r (judged.Refused q) (h ∙ (judge_is s).1 q e),
@@ -45,7 +45,7 @@ judges s r h = (
 pub stores_form : (buffer s : List ℕ) (r : Stored) (after : List ℕ) → Normalises buffer s r after
     → refusal_of s ≡ none → length (normal_form s) ≤ length buffer
     → (r ≡ stored.Length (length (normal_form s))) × (after ≡ normal_form s ++ drop (length (normal_form s)) buffer)
-unfolding toldStored
+unfolding told_stored
 stores_form buffer s r after h e fits =
     let told = normalises buffer s e fits in
     (stored_tells r (stored.Length (length (normal_form s))) (h.0 ∙ told.0), h.1 ∙ told.1)
@@ -54,7 +54,7 @@ stores_form buffer s r after h e fits =
 pub compares : (a b : List ℕ) (r : Compared) → Compares a b r
     → ((q : Refusal) → refusal_of a ≡ some q → r ≡ FirstRefused q)
     × ((q : Refusal) → refusal_of a ≡ none → refusal_of b ≡ some q → r ≡ SecondRefused q)
-unfolding toldCompared
+unfolding told_compared
 compares a b r h = (
   λ q e. compared_tells r (FirstRefused q) (h ∙ first_refused a b e),
   λ q e d. compared_tells r (SecondRefused q) (h ∙ second_refused a b e d),
@@ -62,7 +62,7 @@ compares a b r h = (
 
 pub locates : (s : List ℕ) (segment element repeat component : ℕ) (r : Located) → Locates s segment element repeat component r
     → refusal_of s ≡ none → (v : Value) → located s segment element repeat component ≡ some v → r ≡ place.At v.offset v.spelled
-unfolding toldLocated
+unfolding told_located
 locates s segment element repeat component r h e v d =
     located_tells r (place.At v.offset v.spelled) (h ∙ locate_found s segment element repeat component e v d)
 
@@ -72,7 +72,7 @@ pub lists_values : (buffer table s : List ℕ) (r : Listed) (bytesAfter tableAft
     → (r ≡ listed.Values (length (value_bytes s)) (length (value_table s)))
     × (bytesAfter ≡ value_bytes s ++ drop (length (value_bytes s)) buffer)
     × (tableAfter ≡ value_table s ++ drop (length (value_table s)) table)
-unfolding toldListed
+unfolding told_listed
 lists_values buffer table s r bytesAfter tableAfter h e =
     let told = read_given buffer table s e in
     (listed_tells r (listed.Values (length (value_bytes s)) (length (value_table s))) (h.0 ∙ told.0), h.1 ∙ told.1, h.2 ∙ told.2)
@@ -82,7 +82,7 @@ pub stores_text : (service bytes table output : List ℕ) (r : Stored) (after : 
     → write_refusal service bytes table output ≡ none
     → let text : List ℕ = written_text service bytes table in
     (r ≡ stored.Length (length text)) × (after ≡ text ++ drop (length text) output)
-unfolding toldStored
+unfolding told_stored
 stores_text service bytes table output r after h e =
     let told = write_given service bytes table output e in
     (stored_tells r (stored.Length (length (written_text service bytes table))) (h.0 ∙ told.0), h.1 ∙ told.1)

@@ -20,7 +20,7 @@ use Rattle.answers.specs.declared.Located.{Located}
 use Rattle.answers.specs.declared.Located.TheVariants as located
 use Rattle.answers.specs.declared.Listed.{Listed}
 use Rattle.answers.specs.declared.Listed.TheVariants as listed
-use Rattle.answers.specs.Answers.{Answer, given, refused, refusedInput, accepted, toldJudged, toldStored, toldCompared, toldLocated, toldListed}
+use Rattle.answers.specs.Answers.{Answer, given, refused, refused_input, accepted, told_judged, told_stored, told_compared, told_located, told_listed}
 
 -- how many values an answer has, and the one at a number
 abbrev values : Answer → ℕ
@@ -57,8 +57,8 @@ refused_tells r q e =
     ap₂ (λ f p. record { fault = f; place = p }) (number_tells r.fault q.fault (ap (λ (a : Answer). a.number) e)) (ap (value 0) e)
 
 -- with the input that is refused
-input_tells : (which : ℕ) (r q : Refusal) → refusedInput which r ≡ refusedInput which q → r ≡ q
-unfolding refused refusedInput
+input_tells : (which : ℕ) (r q : Refusal) → refused_input which r ≡ refused_input which q → r ≡ q
+unfolding refused refused_input
 input_tells which r q e = refused_tells r q (ap (λ (a : Answer). record { number = a.number; values = drop 1 a.values }) e)
 
 -- what is given has the number 0, and no refusal has
@@ -66,8 +66,8 @@ pub given_refused : (l : List ℕ) (r : Refusal) → given l ≡ refused r → �
 unfolding given refused
 given_refused l r e = number_not_zero r.fault (sym (ap (λ (a : Answer). a.number) e))
 
-given_input : (l : List ℕ) (which : ℕ) (r : Refusal) → given l ≡ refusedInput which r → ⊥
-unfolding given refusedInput
+given_input : (l : List ℕ) (which : ℕ) (r : Refusal) → given l ≡ refused_input which r → ⊥
+unfolding given refused_input
 given_input l which r e = number_not_zero r.fault (sym (ap (λ (a : Answer). a.number) e))
 
 -- no accepted answer has the number and values of a refusal
@@ -91,22 +91,22 @@ refused_is values r (some q) e = ap some (sym (refused_tells r q e))
 
 -- ---- the answers
 
-pub judged_tells : (a b : Judged) → toldJudged a ≡ toldJudged b → a ≡ b
-unfolding toldJudged
+pub judged_tells : (a b : Judged) → told_judged a ≡ told_judged b → a ≡ b
+unfolding told_judged
 judged_tells (judged.Accepted i) (judged.Accepted j) e = ap judged.Accepted (accepted_tells i j e)
 judged_tells (judged.Accepted i) (judged.Refused r) e = absurd (different i r e)
 judged_tells (judged.Refused r) (judged.Accepted i) e = absurd (different i r (sym e))
 judged_tells (judged.Refused r) (judged.Refused q) e = ap judged.Refused (refused_tells r q e)
 
-pub stored_tells : (a b : Stored) → toldStored a ≡ toldStored b → a ≡ b
-unfolding toldStored given
+pub stored_tells : (a b : Stored) → told_stored a ≡ told_stored b → a ≡ b
+unfolding told_stored given
 stored_tells (stored.Length n) (stored.Length m) e = ap stored.Length (ap (value 0) e)
 stored_tells (stored.Length n) (stored.Refused r) e = absurd (given_refused (n ∷ []) r e)
 stored_tells (stored.Refused r) (stored.Length n) e = absurd (given_refused (n ∷ []) r (sym e))
 stored_tells (stored.Refused r) (stored.Refused q) e = ap stored.Refused (refused_tells r q e)
 
-pub compared_tells : (a b : Compared) → toldCompared a ≡ toldCompared b → a ≡ b
-unfolding toldCompared given refusedInput
+pub compared_tells : (a b : Compared) → told_compared a ≡ told_compared b → a ≡ b
+unfolding told_compared given refused_input
 compared_tells Same Same e = refl
 compared_tells Same Different e = absurd (omega (arith, ap (value 0) e))
 compared_tells Same (FirstRefused q) e = absurd (given_input (1 ∷ []) 1 q e)
@@ -124,8 +124,8 @@ compared_tells (SecondRefused r) Different e = absurd (given_input (0 ∷ []) 2 
 compared_tells (SecondRefused r) (FirstRefused q) e = absurd (omega (arith, ap (value 0) e))
 compared_tells (SecondRefused r) (SecondRefused q) e = ap SecondRefused (input_tells 2 r q e)
 
-pub located_tells : (a b : Located) → toldLocated a ≡ toldLocated b → a ≡ b
-unfolding toldLocated given
+pub located_tells : (a b : Located) → told_located a ≡ told_located b → a ≡ b
+unfolding told_located given
 located_tells (located.At o n) (located.At p m) e = ap₂ located.At (ap (value 0) e) (ap (value 1) e)
 located_tells (located.At o n) located.Absent e = absurd (omega (arith, ap values e))
 located_tells (located.At o n) (located.Refused r) e = absurd (given_refused (o ∷ n ∷ []) r e)
@@ -136,8 +136,8 @@ located_tells (located.Refused q) (located.At p m) e = absurd (given_refused (p 
 located_tells (located.Refused q) located.Absent e = absurd (given_refused [] q (sym e))
 located_tells (located.Refused q) (located.Refused r) e = ap located.Refused (refused_tells q r e)
 
-pub listed_tells : (a b : Listed) → toldListed a ≡ toldListed b → a ≡ b
-unfolding toldListed given
+pub listed_tells : (a b : Listed) → told_listed a ≡ told_listed b → a ≡ b
+unfolding told_listed given
 listed_tells (listed.Values n m) (listed.Values k l) e = ap₂ listed.Values (ap (value 0) e) (ap (value 1) e)
 listed_tells (listed.Values n m) (listed.Refused r) e = absurd (given_refused (n ∷ m ∷ []) r e)
 listed_tells (listed.Refused r) (listed.Values n m) e = absurd (given_refused (n ∷ m ∷ []) r (sym e))

@@ -7,7 +7,7 @@ use Rattle.answers.specs.declared.Stored.{Stored}
 use Rattle.answers.specs.declared.Compared.{Compared}
 use Rattle.answers.specs.declared.Located.{Located}
 use Rattle.answers.specs.declared.Listed.{Listed}
-use Rattle.answers.specs.Answers.{toldJudged, toldStored, toldCompared, toldLocated, toldListed}
+use Rattle.answers.specs.Answers.{told_judged, told_stored, told_compared, told_located, told_listed}
 use Rattle.operations.specs.Judge.{judge, normalise, normalise_buffer}
 use Rattle.operations.specs.Compare.{Part, of_first, of_second, compare, keep}
 use Rattle.operations.specs.Locate.{locate, part_offset, part_length}
@@ -17,24 +17,24 @@ use Rattle.operations.specs.Write.{write, write_output}
 -- ---- answers and lent buffers: an answer is fixed by its number and its values
 
 abbrev pub Judges : (s : List ℕ) → Judged → Type 0
-Judges s r = toldJudged r ≡ judge s
+Judges s r = told_judged r ≡ judge s
 
 abbrev pub Normalises : (buffer s : List ℕ) → Stored → (after : List ℕ) → Type 0
-Normalises buffer s r after = (toldStored r ≡ normalise buffer s) × (after ≡ normalise_buffer buffer s)
+Normalises buffer s r after = (told_stored r ≡ normalise buffer s) × (after ≡ normalise_buffer buffer s)
 
 abbrev pub Compares : (first second : List ℕ) → Compared → Type 0
-Compares first second r = toldCompared r ≡ compare first second
+Compares first second r = told_compared r ≡ compare first second
 
 abbrev pub Locates : (s : List ℕ) (segment element repeat component : ℕ) → Located → Type 0
-Locates s segment element repeat component r = toldLocated r ≡ locate s segment element repeat component
+Locates s segment element repeat component r = told_located r ≡ locate s segment element repeat component
 
 abbrev pub Reads : (buffer table s : List ℕ) → Listed → (bytesAfter tableAfter : List ℕ) → Type 0
 Reads buffer table s r bytesAfter tableAfter =
-    (toldListed r ≡ read buffer table s) × (bytesAfter ≡ read_bytes buffer table s) × (tableAfter ≡ read_table buffer table s)
+    (told_listed r ≡ read buffer table s) × (bytesAfter ≡ read_bytes buffer table s) × (tableAfter ≡ read_table buffer table s)
 
 abbrev pub Writes : (service bytes table output : List ℕ) → Stored → (after : List ℕ) → Type 0
 Writes service bytes table output r after =
-    (toldStored r ≡ write service bytes table output) × (after ≡ write_output service bytes table output)
+    (told_stored r ≡ write service bytes table output) × (after ≡ write_output service bytes table output)
 
 -- ---- slices that are handed back
 

@@ -14,7 +14,7 @@ use Rattle.answers.specs.Answers.{Answer, given}
 use Rattle.shelves.specs.declared.Shelved.{Shelved}
 use Rattle.shelves.specs.declared.Shelved.TheVariants as shelved
 use Rattle.shelves.specs.declared.Slots.TheVariants as slots
-use Rattle.shelves.specs.Answers.{newAt, copy_at, toldShelved, toldSlots}
+use Rattle.shelves.specs.Answers.{new_at, copy_at, told_shelved, told_slots}
 use Rattle.shelves.specs.declared.TwoSums.{TwoSums}
 use Rattle.shelves.specs.Layout.{Layout, version_two, total, occupied, free, duplicates_of, kept, held}
 use Rattle.shelves.specs.Operations.{put}
@@ -83,7 +83,7 @@ module _ (l : Layout) (sums : 21 ≤ l.pairs) where
       → all is_accepted (before ++ input ∷ behind) ≡ true → Room l s (before ++ input ∷ behind)
       → (m after : List ℕ) (r : Shelved) → PutAll l s before m → Puts l m input r after
       → (slot : ℕ) × ((r ≡ shelved.New slot) ⊎ (r ≡ shelved.Copy slot))
-  unfolding toldShelved Each
+  unfolding told_shelved Each
   none_refused s before input behind sane accepted room m after r all p =
       let (each, left) =
       ready_behind l sums before (input ∷ behind) s m (each_accepted (before ++ input ∷ behind) accepted)
@@ -91,7 +91,7 @@ module _ (l : Layout) (sums : 21 ≤ l.pairs) where
       let (slot, told) = (put_step l sums m input (map normal_form behind) after r each.0 left p).1 in (
         slot,
         ⊎_elim
-            (λ (e : put l m input ≡ newAt slot). inl (shelved_tells r (shelved.New slot) (p.0 ∙ e)))
+            (λ (e : put l m input ≡ new_at slot). inl (shelved_tells r (shelved.New slot) (p.0 ∙ e)))
             (λ (e : put l m input ≡ copy_at slot). inr (shelved_tells r (shelved.Copy slot) (p.0 ∙ e)))
             told,
       )
@@ -122,7 +122,7 @@ module _ (l : Layout) (sums : 21 ≤ l.pairs) where
   first_value a = get_or a.values 0 0
 
   told_occupied : (s : List ℕ) → Sound l s → (n j : ℕ) → Counts l s (slots.Numbers n j) → n ≡ length (occupied s)
-  unfolding toldSlots given
+  unfolding told_slots given
   told_occupied s sane n j h = ap first_value (h ∙ slots_given l s sane)
 
   slots_alike : (s t : List ℕ) → Sound l s → Sound l t → Alike l s t

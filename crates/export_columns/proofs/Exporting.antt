@@ -19,7 +19,7 @@ use Rattle.emission_laws.proofs.Cases.{reading_known}
 use Rattle.normal_form_laws.proofs.Normal.{contents_shaped}
 use Rattle.judge.proofs.Bodies.{accepted_ended}
 use Rattle.answers.specs.declared.Stored.TheVariants.{Length, Refused}
-use Rattle.answers.specs.Answers.{given, toldStored}
+use Rattle.answers.specs.Answers.{given, told_stored}
 use Rattle.operations.specs.Judge.{short_for, unless_refused}
 use Rattle.operations.proofs.Answered.{input_answers, last_answers, short_answers, room_answers, front_stored}
 use Rattle.stage_walks.specs.Walks.{refuse}
@@ -69,7 +69,7 @@ module _ (s : List ℕ) (c : Characters) (start : ℕ) (buffer : List ℕ) {n : 
 module _ (buffer s : List ℕ) where
   -- a refusal answers, and the buffer is unchanged
   refuses : {r : Refusal} → export_refusal buffer s ≡ some r → Exports buffer s (Refused r) buffer
-  unfolding exports export_buffer maybe unless_refused toldStored
+  unfolding exports export_buffer maybe unless_refused told_stored
   refuses e = (sym (rw e), sym (rw e))
 
   pub judge_refuses : {r : Refusal} → refusal_of s ≡ some r → Exports buffer s (Refused r) buffer
@@ -86,7 +86,7 @@ module _ (buffer s : List ℕ) where
         ∙ ap (refuse BufferShort) (sym e))
 
     pub text_stored : {after : List ℕ} → n ≤ length buffer → after ≡ sets buffer 0 (export_text s) → Exports buffer s (Length n) after
-    unfolding exports export_buffer export_refusal answering maybe unless_refused toldStored
+    unfolding exports export_buffer export_refusal answering maybe unless_refused told_stored
     text_stored h p =
         let fits : length (export_text s) ≤ length buffer = omega (arith, e, h) in
         let passes : export_refusal buffer s ≡ none =

@@ -16,7 +16,7 @@ use Rattle.refusals.specs.declared.Refusal.{Refusal}
 use Rattle.refusals.specs.Limits.{most_bytes}
 use Rattle.values.specs.Spelling.{Bytes, leads_break}
 use Rattle.answers.specs.declared.Stored.{Stored}
-use Rattle.answers.specs.Answers.{given, refused, toldStored}
+use Rattle.answers.specs.Answers.{given, refused, told_stored}
 use Rattle.operations.specs.Judge.{unless_refused, stored_in}
 use Rattle.operations.specs.ValueList.{Item, list_bytes, list_table}
 use Rattle.operations.specs.Write.{bad_list, write_refusal}
@@ -67,12 +67,12 @@ lines_good s taken few =
 
 module _ (service s output : List ℕ) {r : Stored} {after : List ℕ} where
   pub other_refused : is_columns s ≡ false → Refuses (record { fault = NoColumns; place = 0 }) output r after → Imports service s output r after
-  unfolding toldStored
+  unfolding told_stored
   other_refused e w =
       let no : import_refusal service s output ≡ some (record { fault = NoColumns; place = 0 }) =
       column_laws.any_other service s output (λ list t. true≢false (sym ((exactly s).1 (list, t)) ∙ e)) in
       let zero = column_laws.import_zero service s output no in
-      (ap toldStored w.0 ∙ sym zero.0, w.1 ∙ sym zero.1)
+      (ap told_stored w.0 ∙ sym zero.0, w.1 ∙ sym zero.1)
 
   pub columns_passed : is_columns s ≡ true → WritesAfter 0 service (bytes_read s) (table_read s) output r after → Imports service s output r after
   unfolding imports import_output import_text bytes_read table_read write_refusal

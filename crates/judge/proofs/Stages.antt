@@ -48,7 +48,7 @@ use Rattle.stage_order.specs.declared.Ordered.TheVariants as ordered_as_lem
 use Rattle.stage_order.specs.Ordering.{ordered_by, ordered_as}
 use Rattle.answers.specs.declared.Judged.{Judged}
 use Rattle.answers.specs.declared.Judged.TheVariants as judged_as
-use Rattle.answers.specs.Answers.{toldJudged, accepted, refused}
+use Rattle.answers.specs.Answers.{told_judged, accepted, refused}
 use Rattle.operations.specs.Judge.{figures_of, judge}
 use Rattle.judge.specs.Judging.{after, judged}
 use Rattle.judge.proofs.Bodies.{none_outside, body_tokens_lem, short, begun, sound, form_length, measure_bound}
@@ -330,11 +330,11 @@ module _ (s : List ℕ) (n : ℕ) (e : n ≡ length (normal_form s)) where
 
 module _ (s : List ℕ) where
   -- the answer has the paper's number and values
-  told : {r : Judged} {o : Option Refusal} → r ≡ judged s o → refusal_of s ≡ o → toldJudged r ≡ judge s
-  unfolding judge judged toldJudged maybe
-  told {r} {o} e d = ap toldJudged e ∙ step o ∙ sym (ap (maybe (accepted (figures_of s)) refused) d)
+  told : {r : Judged} {o : Option Refusal} → r ≡ judged s o → refusal_of s ≡ o → told_judged r ≡ judge s
+  unfolding judge judged told_judged maybe
+  told {r} {o} e d = ap told_judged e ∙ step o ∙ sym (ap (maybe (accepted (figures_of s)) refused) d)
     where
-      step : (o : Option Refusal) → toldJudged (judged s o) ≡ maybe (accepted (figures_of s)) refused o
+      step : (o : Option Refusal) → told_judged (judged s o) ≡ maybe (accepted (figures_of s)) refused o
       step none = refl
       step (some q) = refl
 
@@ -353,11 +353,11 @@ module _ (s : List ℕ) where
   short_accepted e h = whole e (one_place NormalTooLong (length (normal_form s)) [] (le-ltb most_bytes (length (normal_form s)) h))
 
   -- one of 1 to 12 answers
-  pub earlier_answers : {r : Refusal} → answering (stages_in s 1 12) ≡ some r → toldJudged (judged_as.Refused r) ≡ judge s
+  pub earlier_answers : {r : Refusal} → answering (stages_in s 1 12) ≡ some r → told_judged (judged_as.Refused r) ≡ judge s
   unfolding judged maybe or_else
   earlier_answers {r} e = told refl (earlier_refuses e)
 
   -- none of them does
-  pub last_answers : {r : Judged} → answering (stages_in s 1 12) ≡ none → r ≡ judged s (answering (stages_in s 13 13)) → toldJudged r ≡ judge s
+  pub last_answers : {r : Judged} → answering (stages_in s 1 12) ≡ none → r ≡ judged s (answering (stages_in s 13 13)) → told_judged r ≡ judge s
   unfolding or_else
   last_answers e d = told d (whole e refl)

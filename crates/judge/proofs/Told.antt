@@ -9,7 +9,7 @@ use Rattle.refusals.specs.declared.Refusal.{Refusal}
 use Rattle.answers.specs.declared.Figures.{Figures}
 use Rattle.answers.specs.declared.Judged.{Judged}
 use Rattle.answers.specs.declared.Judged.TheVariants.{Accepted, Refused}
-use Rattle.answers.specs.Answers.{given, accepted, toldJudged}
+use Rattle.answers.specs.Answers.{given, accepted, told_judged}
 use Rattle.stages.specs.Contents.{normal_form}
 use Rattle.stages.specs.Stages.{refusal_of}
 use Rattle.operations.specs.Judge.{figures_of, judge}
@@ -20,15 +20,15 @@ module _ (s : List ℕ) where
   -- it is accepted, and these are its figures
   pub told_accepted : {i : Figures} {answer : Judged} → Judges s answer → answer ≡ Accepted i
       → (refusal_of s ≡ none) × (i ≡ figures_of s)
-  unfolding toldJudged judge accepted given
+  unfolding told_judged judge accepted given
   told_accepted {i} e d =
-      let (passed, said) = given_is (accepted (figures_of s)).values (accepted i).values (refusal_of s) (sym (ap toldJudged d) ∙ e) in
+      let (passed, said) = given_is (accepted (figures_of s)).values (accepted i).values (refusal_of s) (sym (ap told_judged d) ∙ e) in
       (passed, accepted_tells i (figures_of s) (ap given said))
 
   -- this refusal answers
   pub told_refused : {r : Refusal} {answer : Judged} → Judges s answer → answer ≡ Refused r → refusal_of s ≡ some r
-  unfolding toldJudged judge accepted given
-  told_refused {r} e d = refused_is (accepted (figures_of s)).values r (refusal_of s) (sym (ap toldJudged d) ∙ e)
+  unfolding told_judged judge accepted given
+  told_refused {r} e d = refused_is (accepted (figures_of s)).values r (refusal_of s) (sym (ap told_judged d) ∙ e)
 
 -- what is known of an interchange that was accepted
 module _ (s : List ℕ) {i : Figures} (e : i ≡ figures_of s) where

@@ -17,7 +17,7 @@ use Rattle.stage_opening.specs.declared.Found.{Found}
 use Rattle.stage_opening.specs.Runs.{found_by}
 use Rattle.answers.specs.declared.Judged.{Judged}
 use Rattle.answers.specs.declared.Judged.TheVariants.{Refused}
-use Rattle.answers.specs.Answers.{refused, accepted, toldJudged}
+use Rattle.answers.specs.Answers.{refused, accepted, told_judged}
 use Rattle.operations.specs.Judge.{figures_of}
 use Rattle.judge.specs.Judging.{judged}
 use Rattle.judge.proofs.Bodies.{body_tokens_lem}
@@ -35,8 +35,8 @@ use Rattle.stage_structure.specs.Stopping.{stopped_at}
 -- ---- 21
 
 module _ (table s : List ℕ) {answer : Outcome} (e : answer ≡ found_at (first_fault table)) where
-  pub table_refused : {r : Refusal} → answer ≡ Failed r → toldJudged (Refused r) ≡ judge_by_table table s
-  unfolding toldJudged
+  pub table_refused : {r : Refusal} → answer ≡ Failed r → told_judged (Refused r) ≡ judge_by_table table s
+  unfolding told_judged
   table_refused {r} d = step (first_fault table) refl (sym e ∙ d)
     where
       step : (o : Option ℕ) → first_fault table ≡ o → found_at o ≡ Failed r → refused r ≡ judge_by_table table s
@@ -56,8 +56,8 @@ module _ (table s : List ℕ) {answer : Outcome} (e : answer ≡ found_at (first
 module _ (table s : List ℕ) (sound : is_sound table ≡ true) where
   -- ---- 1 to 12
 
-  pub earlier-refused : {r : Refusal} → answering (stages_in s 1 12) ≡ some r → toldJudged (Refused r) ≡ judge_by_table table s
-  unfolding toldJudged
+  pub earlier-refused : {r : Refusal} → answering (stages_in s 1 12) ≡ some r → told_judged (Refused r) ≡ judge_by_table table s
+  unfolding told_judged
   earlier-refused {r} e = sym (earlier_answers table s r (sound_none table sound) e).0
 
   -- ---- 22, then 13
@@ -78,8 +78,8 @@ module _ (table s : List ℕ) (sound : is_sound table ≡ true) where
         ∙ first_answers table s sound passed (stages_in s 13 13)
         ∙ ap (λ (o : Option ℕ). or_else (refusal_at o) (answering (stages_in s 13 13))) d))
 
-    pub bodies-refused : {r : Refusal} → answer ≡ Failed r → toldJudged (Refused r) ≡ judge_by_table table s
-    unfolding toldJudged maybe or_else
+    pub bodies-refused : {r : Refusal} → answer ≡ Failed r → told_judged (Refused r) ≡ judge_by_table table s
+    unfolding told_judged maybe or_else
     bodies-refused {r} d = step (first_stop (structure_of table) (segments_of s)) refl (sym stop_is ∙ d)
       where
         step : (o : Option ℕ) → first_stop (structure_of table) (segments_of s) ≡ o → stopped_at o ≡ Failed r → refused r ≡ judge_by_table table s
@@ -88,14 +88,14 @@ module _ (table s : List ℕ) (sound : is_sound table ≡ true) where
             let q : r ≡ record { fault = UnmatchedBody; place = p } = cc in
             ap refused q ∙ answered k
 
-    pub length_answers : answer ≡ Passed → {r : Judged} → r ≡ judged s (answering (stages_in s 13 13)) → toldJudged r ≡ judge_by_table table s
-    unfolding toldJudged judged maybe or_else
+    pub length_answers : answer ≡ Passed → {r : Judged} → r ≡ judged s (answering (stages_in s 13 13)) → told_judged r ≡ judge_by_table table s
+    unfolding told_judged judged maybe or_else
     length_answers d {r} h =
-        ap toldJudged h
+        ap told_judged h
         ∙ told (answering (stages_in s 13 13))
         ∙ answered (step (first_stop (structure_of table) (segments_of s)) (sym stop_is ∙ d))
       where
-        told : (o : Option Refusal) → toldJudged (judged s o) ≡ maybe (accepted (figures_of s)) refused o
+        told : (o : Option Refusal) → told_judged (judged s o) ≡ maybe (accepted (figures_of s)) refused o
         told none = refl
         told (some r) = refl
 

@@ -30,7 +30,7 @@ use Rattle.judge.proofs.Told.{characters_of_lem}
 use Rattle.answers.specs.declared.Figures.{Figures}
 use Rattle.answers.specs.declared.Located.{Located}
 use Rattle.answers.specs.declared.Located.TheVariants.{At, Absent, Refused}
-use Rattle.answers.specs.Answers.{Answer, given, refused, toldLocated}
+use Rattle.answers.specs.Answers.{Answer, given, refused, told_located}
 use Rattle.operations.specs.Judge.{figures_of}
 use Rattle.operations.specs.Locate.{located, locate}
 use Rattle.operations.proofs.Answered.{part_in, part_told}
@@ -40,8 +40,8 @@ use Rattle.locate.specs.Locating.{answer_of, Inside, part_of}
 
 module _ (s : List ℕ) (segment element repeat component : ℕ) where
   -- Judge's refusal answers
-  pub locate_refused : {r : Refusal} → refusal_of s ≡ some r → toldLocated (Refused r) ≡ locate s segment element repeat component
-  unfolding locate toldLocated maybe
+  pub locate_refused : {r : Refusal} → refusal_of s ≡ some r → told_located (Refused r) ≡ locate s segment element repeat component
+  unfolding locate told_located maybe
   locate_refused e = sym (ap (maybe _ refused) e)
 
   -- ---- an accepted interchange
@@ -81,14 +81,14 @@ module _ (s : List ℕ) (segment element repeat component : ℕ) where
         ∙ of_segment_lem (tokens_at i.characters s start)
 
     pub locate_found : {f : Found} → f ≡ placed (value_at (trimmed (segment_at i.characters s start)) element repeat component)
-        → toldLocated (answer_of f) ≡ locate s segment element repeat component
-    unfolding locate maybe toldLocated placed
+        → told_located (answer_of f) ≡ locate s segment element repeat component
+    unfolding locate maybe told_located placed
     locate_found e =
-        ap (λ (f : Found). toldLocated (answer_of f)) (e ∙ ap placed (sym located_is))
+        ap (λ (f : Found). told_located (answer_of f)) (e ∙ ap placed (sym located_is))
         ∙ told (located s segment element repeat component)
         ∙ sym (ap (maybe (maybe (given []) (λ v. given (v.offset ∷ v.spelled ∷ [])) (located s segment element repeat component)) refused) a)
       where
-        told : (o : Option Value) → toldLocated (answer_of (placed o)) ≡ maybe (given []) (λ v. given (v.offset ∷ v.spelled ∷ [])) o
+        told : (o : Option Value) → told_located (answer_of (placed o)) ≡ maybe (given []) (λ v. given (v.offset ∷ v.spelled ∷ [])) o
         told none = refl
         told (some v) = refl
 
@@ -102,25 +102,25 @@ answer_inside s found.Absent h = h
 pub found_inside : (s : List ℕ) {r : Located} {o n : ℕ} → Inside s r → r ≡ At o n → o + n ≤ length s
 found_inside s h e = subst (Inside s) e h
 
-module _ (s : List ℕ) (segment element repeat component : ℕ) {r : Located} (told : toldLocated r ≡ locate s segment element repeat component) where
+module _ (s : List ℕ) (segment element repeat component : ℕ) {r : Located} (told : told_located r ≡ locate s segment element repeat component) where
   part_is : (l : Located) → r ≡ l
-      → record { offset = (part_in (toldLocated l).values).0; length = (part_in (toldLocated l).values).1 } ≡ part_of s segment element repeat component
+      → record { offset = (part_in (told_located l).values).0; length = (part_in (told_located l).values).1 } ≡ part_of s segment element repeat component
   unfolding part_of
   part_is l e =
       ap (λ (p : ℕ × ℕ). record { offset = p.0; length = p.1 })
-      (ap (λ (a : Answer). part_in a.values) (ap toldLocated (sym e) ∙ told) ∙ part_told s segment element repeat component)
+      (ap (λ (a : Answer). part_in a.values) (ap told_located (sym e) ∙ told) ∙ part_told s segment element repeat component)
 
   -- the part that was found, or zero bytes at the input's start
   pub part_found : {o n : ℕ} → r ≡ At o n → record { offset = o; length = n } ≡ part_of s segment element repeat component
-  unfolding toldLocated given part_in
+  unfolding told_located given part_in
   part_found e = part_is _ e
 
   pub part_absent : r ≡ Absent → record { offset = 0; length = 0 } ≡ part_of s segment element repeat component
-  unfolding toldLocated given part_in
+  unfolding told_located given part_in
   part_absent e = part_is Absent e
 
   pub part_refused : {q : Refusal} → r ≡ Refused q → record { offset = 0; length = 0 } ≡ part_of s segment element repeat component
-  unfolding toldLocated refused part_in
+  unfolding told_located refused part_in
   part_refused e = part_is _ e
 
 -- as many bytes of the input from there on are handed back

@@ -18,11 +18,11 @@ use Rattle.mailbox_files.specs.Pieces.{pieces}
 use Rattle.mailbox_files.specs.Report.{most_file, report_over, no_figures, with_figures, file_refusal, report}
 
 -- 1 at 0
-abbrev pub tooLongAtZero : Refusal
-tooLongAtZero = record { fault = TooLong; place = 0 }
+abbrev pub too_long_at_zero : Refusal
+too_long_at_zero = record { fault = TooLong; place = 0 }
 
 module _ (file : List ℕ) where
-  refusal-by : {long : Bool} → ltb most_file (length file) ≡ long → file_refusal file ≡ (if long then some tooLongAtZero else none)
+  refusal-by : {long : Bool} → ltb most_file (length file) ≡ long → file_refusal file ≡ (if long then some too_long_at_zero else none)
   unfolding file_refusal answering
   refusal-by e = one_place TooLong 0 [] e
 
@@ -32,7 +32,7 @@ module _ (file : List ℕ) where
   answered e = ap (maybe (with_figures (given []) (report_over (pieces file))) (λ (r : Refusal). with_figures (refused r) no_figures)) e
 
   -- "a longer file answers 1 at 0"
-  pub report-long : most_file < length file → report file ≡ with_figures (refused tooLongAtZero) no_figures
+  pub report-long : most_file < length file → report file ≡ with_figures (refused too_long_at_zero) no_figures
   unfolding maybe
   report-long h = answered (refusal-by (lt-ltb most_file (length file) h))
 

@@ -32,7 +32,7 @@ use Rattle.stage_opening.specs.Runs.{found_by}
 use Rattle.judge.proofs.Bodies.{accepted_ended}
 use Rattle.judge.proofs.Stages.{repetition_is, measurable, short_accepted}
 use Rattle.answers.specs.declared.Stored.TheVariants.{Length, Refused}
-use Rattle.answers.specs.Answers.{given, toldStored}
+use Rattle.answers.specs.Answers.{given, told_stored}
 use Rattle.contracts.specs.Promises.{Normalises}
 use Rattle.operations.specs.Judge.{short_for, stored_in, normalise_refusal}
 use Rattle.operations.proofs.Answered.{input_answers, front_stored, normalise_refused, normalises, form_short_lem}
@@ -74,7 +74,7 @@ module _ (s : List ℕ) (a : refusal_of s ≡ none) {c : Characters} {start : �
 module _ (buffer s : List ℕ) where
   -- a refusal answers, and the buffer is unchanged
   refuses : {r : Refusal} → normalise_refusal buffer s ≡ some r → Normalises buffer s (Refused r) buffer
-  unfolding toldStored
+  unfolding told_stored
   refuses e = let (told, held) = normalise_refused buffer s e in (sym told, sym held)
 
   pub judge_refuses : {r : Refusal} → refusal_of s ≡ some r → Normalises buffer s (Refused r) buffer
@@ -103,7 +103,7 @@ module _ (buffer s : List ℕ) where
     -- it is stored, and the rest of the buffer is as it was
     pub form_stored : {n : ℕ} (c : Characters) (text first after : List ℕ) → n ≡ length (normal_form s) → n ≤ length buffer
         → normal_form s ≡ advice_of c ++ text → first ≡ sets buffer 0 (advice_of c) → after ≡ sets first 9 text → Normalises buffer s (Length n) after
-    unfolding toldStored stored_in
+    unfolding told_stored stored_in
     form_stored {n} c text first after e h w p q =
         let (told, held) = normalises buffer s a (omega (arith, e, h)) in (
           ap (λ (k : ℕ). given (k ∷ [])) e ∙ sym told,

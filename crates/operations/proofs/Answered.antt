@@ -18,7 +18,7 @@ use Rattle.refusals.proofs.Stages.{answering_append, one_place}
 use Rattle.values.specs.Values.{Value}
 use Rattle.stages.specs.Contents.{normal_form}
 use Rattle.stages.specs.Stages.{stages, refusal_of}
-use Rattle.answers.specs.Answers.{given, refused, refusedInput, accepted}
+use Rattle.answers.specs.Answers.{given, refused, refused_input, accepted}
 use Rattle.operations.specs.Judge.{figures_of, judge, short_for, stored_in, unless_refused, normalise_refusal, normalise, normalise_buffer}
 use Rattle.operations.specs.Compare.{are_same, compare}
 use Rattle.operations.specs.Locate.{located, locate, part_offset, part_length}
@@ -31,10 +31,10 @@ unfolding judge
 judge_by s o e = ap (maybe (accepted (figures_of s)) refused) e
 
 pub compare_by : (a b : List ℕ) (o p : Option Refusal) → refusal_of a ≡ o → refusal_of b ≡ p
-    → compare a b ≡ maybe (maybe (given ((if are_same a b then 1 else 0) ∷ [])) (refusedInput 2) p) (refusedInput 1) o
+    → compare a b ≡ maybe (maybe (given ((if are_same a b then 1 else 0) ∷ [])) (refused_input 2) p) (refused_input 1) o
 unfolding compare
 compare_by a b o p =
-    ap₂ (λ (o p : Option Refusal). maybe (maybe (given ((if are_same a b then 1 else 0) ∷ [])) (refusedInput 2) p) (refusedInput 1) o)
+    ap₂ (λ (o p : Option Refusal). maybe (maybe (given ((if are_same a b then 1 else 0) ∷ [])) (refused_input 2) p) (refused_input 1) o)
 
 -- ---- Locate's companion
 

@@ -19,7 +19,7 @@ use Rattle.segments.specs.Kinds.{is}
 use Rattle.segments.specs.Order.{segments_in, messages_in, groups_in}
 use Rattle.stages.specs.Contents.{segments_of, kinds_of, normal_form}
 use Rattle.stages.specs.Stages.{refusal_of}
-use Rattle.answers.specs.Answers.{given, refused, refusedInput, accepted}
+use Rattle.answers.specs.Answers.{given, refused, refused_input, accepted}
 use Rattle.operations.specs.Judge.{figures_of, judge, stored_in, unless_refused}
 use Rattle.operations.specs.Compare.{is_accepted, are_same, compare, of_first, of_second, keep}
 use Rattle.operations.specs.Locate.{located}
@@ -70,11 +70,11 @@ same_says a b =
 
 -- "same, different, or refusal with 1st or 2nd input (1st is judged first)"
 module _ (a b : List ℕ) where
-  pub first_refused : {r : Refusal} → refusal_of a ≡ some r → compare a b ≡ refusedInput 1 r
+  pub first_refused : {r : Refusal} → refusal_of a ≡ some r → compare a b ≡ refused_input 1 r
   unfolding compare maybe
   first_refused e = rw e
 
-  pub second_refused : {r : Refusal} → refusal_of a ≡ none → refusal_of b ≡ some r → compare a b ≡ refusedInput 2 r
+  pub second_refused : {r : Refusal} → refusal_of a ≡ none → refusal_of b ≡ some r → compare a b ≡ refused_input 2 r
   unfolding compare maybe
   second_refused h e = rw (h, e)
 

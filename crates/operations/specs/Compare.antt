@@ -3,7 +3,7 @@ use Rattle.std.specs.Prelude.{ℕ, Bool, true, false, ◌&&◌, List, [], ◌∷
 use Rattle.lists.specs.Lists.{same, maybe}
 use Rattle.stages.specs.Contents.{normal_form}
 use Rattle.stages.specs.Stages.{refusal_of}
-use Rattle.answers.specs.Answers.{Answer, given, refusedInput}
+use Rattle.answers.specs.Answers.{Answer, given, refused_input}
 
 -- "Two interchanges are the same when both are accepted and their normal forms are equal."
 unfoldable pub is_accepted : List ℕ → Bool
@@ -16,8 +16,8 @@ are_same first second = is_accepted first && is_accepted second && same (normal_
 unfoldable pub compare : List ℕ → List ℕ → Answer
 compare first second =
     maybe
-    (maybe (given ((if are_same first second then 1 else 0) ∷ [])) (refusedInput 2) (refusal_of second))
-    (refusedInput 1)
+    (maybe (given ((if are_same first second then 1 else 0) ∷ [])) (refused_input 2) (refusal_of second))
+    (refused_input 1)
     (refusal_of first)
 
 -- a part of the first input or of the second

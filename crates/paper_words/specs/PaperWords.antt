@@ -203,18 +203,18 @@ answer n values = record { number = n; values = values }
 pub record Told : Type 0 where
   -- "service characters, counts of segments, messages and groups, length of the normal form"; "the length"; "same, different"; ..
   pub given : (i : Figures) (m n : ℕ)
-      → (toldJudged (judged.Accepted i) ≡ answer 0 (six i.characters ++ i.segments.0 ∷ i.messages.0 ∷ i.groups.0 ∷ i.length ∷ []))
-      × (toldStored (stored.Length n) ≡ answer 0 (n ∷ []))
-      × (toldCompared compared.Same ≡ answer 0 (1 ∷ [])) × (toldCompared compared.Different ≡ answer 0 (0 ∷ []))
-      × (toldLocated (located.At m n) ≡ answer 0 (m ∷ n ∷ [])) × (toldLocated located.Absent ≡ answer 0 [])
-      × (toldListed (listed.Values m n) ≡ answer 0 (m ∷ n ∷ []))
+      → (told_judged (judged.Accepted i) ≡ answer 0 (six i.characters ++ i.segments.0 ∷ i.messages.0 ∷ i.groups.0 ∷ i.length ∷ []))
+      × (told_stored (stored.Length n) ≡ answer 0 (n ∷ []))
+      × (told_compared compared.Same ≡ answer 0 (1 ∷ [])) × (told_compared compared.Different ≡ answer 0 (0 ∷ []))
+      × (told_located (located.At m n) ≡ answer 0 (m ∷ n ∷ [])) × (told_located located.Absent ≡ answer 0 [])
+      × (told_listed (listed.Values m n) ≡ answer 0 (m ∷ n ∷ []))
   -- "or a refusal"; "with 1st or 2nd input"
   pub refused : (r : Refusal)
       → let n : ℕ = number r.fault in
-      (toldJudged (judged.Refused r) ≡ answer n (r.place ∷ [])) × (toldStored (stored.Refused r) ≡ answer n (r.place ∷ []))
-      × (toldLocated (located.Refused r) ≡ answer n (r.place ∷ [])) × (toldListed (listed.Refused r) ≡ answer n (r.place ∷ []))
-      × (toldCompared (compared.FirstRefused r) ≡ answer n (1 ∷ r.place ∷ []))
-      × (toldCompared (compared.SecondRefused r) ≡ answer n (2 ∷ r.place ∷ []))
+      (told_judged (judged.Refused r) ≡ answer n (r.place ∷ [])) × (told_stored (stored.Refused r) ≡ answer n (r.place ∷ []))
+      × (told_located (located.Refused r) ≡ answer n (r.place ∷ [])) × (told_listed (listed.Refused r) ≡ answer n (r.place ∷ []))
+      × (told_compared (compared.FirstRefused r) ≡ answer n (1 ∷ r.place ∷ []))
+      × (told_compared (compared.SecondRefused r) ≡ answer n (2 ∷ r.place ∷ []))
 
 abbrev pub item : ℕ → Bytes → Item
 item kind value = record { kind = kind; value = value }

@@ -25,7 +25,7 @@ use Rattle.values.proofs.Steps.{at_separator, ends_yes, ends_no}
 use Rattle.stages.specs.Stages.{refusal_of}
 use Rattle.answers.specs.declared.Figures.{Figures}
 use Rattle.answers.specs.declared.Located.TheVariants.{Refused}
-use Rattle.answers.specs.Answers.{toldLocated}
+use Rattle.answers.specs.Answers.{told_located}
 use Rattle.operations.specs.Judge.{figures_of}
 use Rattle.operations.specs.Locate.{locate}
 use Rattle.scanner.specs.Scan.{segment_at}

@@ -22,7 +22,7 @@ use Rattle.judge.proofs.Bodies.{accepted_ended}
 use Rattle.read_counts.specs.Tally.{table_of}
 use Rattle.read_counts.proofs.Contents.{contents_bytes, contents_table}
 use Rattle.answers.specs.declared.Listed.TheVariants.{Values, Refused}
-use Rattle.answers.specs.Answers.{given, toldListed}
+use Rattle.answers.specs.Answers.{given, told_listed}
 use Rattle.operations.specs.Judge.{stored_in}
 use Rattle.contracts.specs.Promises.{Reads}
 use Rattle.operations.specs.Read.{value_bytes, value_table, read_refusal}
@@ -61,7 +61,7 @@ module _ (s : List ℕ) (a : refusal_of s ≡ none) {c : Characters} {start : �
 module _ (buffer table s : List ℕ) where
   -- a refusal answers, and both buffers are unchanged
   refuses : {r : Refusal} → read_refusal buffer table s ≡ some r → Reads buffer table s (Refused r) buffer table
-  unfolding toldListed
+  unfolding told_listed
   refuses e = let (told, bytes, numbers) = read_refused buffer table s e in (sym told, sym bytes, sym numbers)
 
   pub judge_refuses : {r : Refusal} → refusal_of s ≡ some r → Reads buffer table s (Refused r) buffer table
@@ -82,7 +82,7 @@ module _ (buffer table s : List ℕ) where
       pub list_stored : {m : ℕ} {bytes numbers bytesAfter tableAfter : List ℕ} → m ≡ length (value_table s) → m ≤ length table
           → value_bytes s ≡ bytes → value_table s ≡ numbers → bytesAfter ≡ sets buffer 0 bytes → tableAfter ≡ sets table 0 numbers
           → Reads buffer table s (Values n m) bytesAfter tableAfter
-      unfolding toldListed stored_in
+      unfolding told_listed stored_in
       list_stored {m} f k v w p q =
           let fits : length (value_bytes s) ≤ length buffer = omega (arith, e, h) in
           let room : length (value_table s) ≤ length table = omega (arith, f, k) in

@@ -6,7 +6,7 @@ use native.Mathlib.Omega.{arith}
 use lib.ListN.{length, take, length-take}
 use Rattle.answers.specs.declared.Stored.{Stored}
 use Rattle.answers.specs.declared.Stored.TheVariants.{Length, Refused}
-use Rattle.answers.specs.Answers.{Answer, given, toldStored}
+use Rattle.answers.specs.Answers.{Answer, given, told_stored}
 use Rattle.contracts.proofs.Told.{given_is}
 use Rattle.acknowledgements.specs.Lent.{Lent}
 use Rattle.acknowledgements.specs.Acknowledgement.{acknowledgement_text, acknowledge_refusal, acknowledge}
@@ -15,7 +15,7 @@ use Rattle.acknowledgement_laws.proofs.Theorems.{acknowledgements}
 use Rattle.run_acknowledge.specs.Told.{Fitting}
 
 pub text_fits : (s : List ℕ) (l : Lent) (output : List ℕ) (r : Stored) (after : List ℕ) → Acknowledges s l output r after → Fitting r after
-unfolding acknowledge toldStored given
+unfolding acknowledge told_stored given
 text_fits s l output (Length n) after (says, left) =
     let text = acknowledgement_text s l in
     let size : n ∷ [] ≡ length text ∷ [] = (given_is (length text ∷ []) (n ∷ []) (acknowledge_refusal s l output) says).1 in

@@ -10,7 +10,7 @@ use Rattle.answers.specs.declared.Listed.{Listed}
 use Rattle.answers.specs.declared.Listed.TheVariants.{Values}
 use Rattle.answers.specs.declared.Stored.{Stored}
 use Rattle.answers.specs.declared.Stored.TheVariants.{Length}
-use Rattle.answers.specs.Answers.{toldListed, toldStored}
+use Rattle.answers.specs.Answers.{told_listed, told_stored}
 use Rattle.stages.specs.Contents.{normal_form}
 use Rattle.operations.specs.Judge.{stored_in, unless_refused, normalise_refusal, normalise, normalise_buffer}
 use Rattle.operations.specs.Read.{value_bytes, value_table, read_refusal, read, read_bytes, read_table}
@@ -29,10 +29,10 @@ fits new buffer other e h k =
     let whole = e ∙ ap (λ (o : Option Refusal). unless_refused o (stored_in buffer new) other) h in
     omega (arith, k, ap length whole ∙ length-append new (drop (length new) buffer))
 
-module _ (buffer table s : List ℕ) {r : Listed} {n m : ℕ} (says : toldListed r ≡ read buffer table s) (is : r ≡ Values n m) where
+module _ (buffer table s : List ℕ) {r : Listed} {n m : ℕ} (says : told_listed r ≡ read buffer table s) (is : r ≡ Values n m) where
   given_values : (read_refusal buffer table s ≡ none) × (n ∷ m ∷ [] ≡ length (value_bytes s) ∷ length (value_table s) ∷ [])
-  unfolding read toldListed
-  given_values = given_is (length (value_bytes s) ∷ length (value_table s) ∷ []) (n ∷ m ∷ []) (read_refusal buffer table s) (sym (ap toldListed is) ∙ says)
+  unfolding read told_listed
+  given_values = given_is (length (value_bytes s) ∷ length (value_table s) ∷ []) (n ∷ m ∷ []) (read_refusal buffer table s) (sym (ap told_listed is) ∙ says)
 
   pub bytes_within : {after : List ℕ} → after ≡ read_bytes buffer table s → n ≤ length after
   unfolding read_bytes
@@ -46,21 +46,21 @@ module _ (buffer table s : List ℕ) {r : Listed} {n m : ℕ} (says : toldListed
       let same = given_values.1 in
       fits (value_table s) table table e given_values.0 (cc)
 
-module _ (service bytes table output : List ℕ) {r : Stored} {n : ℕ} (says : toldStored r ≡ write service bytes table output) (is : r ≡ Length n) where
+module _ (service bytes table output : List ℕ) {r : Stored} {n : ℕ} (says : told_stored r ≡ write service bytes table output) (is : r ≡ Length n) where
   pub text_within : {after : List ℕ} → after ≡ write_output service bytes table output → n ≤ length after
-  unfolding write write_output toldStored
+  unfolding write write_output told_stored
   text_within e =
       let text : List ℕ = written_text service bytes table in
-      let found = given_is (length text ∷ []) (n ∷ []) (write_refusal service bytes table output) (sym (ap toldStored is) ∙ says) in
+      let found = given_is (length text ∷ []) (n ∷ []) (write_refusal service bytes table output) (sym (ap told_stored is) ∙ says) in
       let same = found.1 in
       fits text output (replicate (length output) 0) e found.0 (cc)
 
-module _ (buffer s : List ℕ) {r : Stored} {n : ℕ} (says : toldStored r ≡ normalise buffer s) (is : r ≡ Length n) where
+module _ (buffer s : List ℕ) {r : Stored} {n : ℕ} (says : told_stored r ≡ normalise buffer s) (is : r ≡ Length n) where
   pub form_within : {after : List ℕ} → after ≡ normalise_buffer buffer s → n ≤ length after
-  unfolding normalise normalise_buffer toldStored
+  unfolding normalise normalise_buffer told_stored
   form_within e =
       let form : List ℕ = normal_form s in
-      let found = given_is (length form ∷ []) (n ∷ []) (normalise_refusal buffer s) (sym (ap toldStored is) ∙ says) in
+      let found = given_is (length form ∷ []) (n ∷ []) (normalise_refusal buffer s) (sym (ap told_stored is) ∙ says) in
       let same = found.1 in
       fits form buffer buffer e found.0 (cc)
 

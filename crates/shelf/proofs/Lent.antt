@@ -19,7 +19,7 @@ use Rattle.shelves.specs.declared.TwoSums.TheVariants as sums
 use Rattle.shelves.specs.Layout.{Layout, version_two, slot_count, below, map_of, held_figure, duplicates_of, bit, is_occupied, base, pair_place, start_of, length_of, held, end_of}
 use Rattle.shelves.specs.Soundness.{sound}
 use Rattle.shelves.specs.Summary.{summary_of, put_new, put_copy, removed, map_and_held}
-use Rattle.shelves.specs.Answers.{toldShelved, toldSums}
+use Rattle.shelves.specs.Answers.{told_shelved, told_sums}
 use Rattle.shelves.specs.Operations.{pair_of, lowest_free, put_refusal, with_text, with_copy, slot_refusal, pair_without, texts_without, without}
 use Rattle.shelves.proofs.Answered.{nineteen, sums_refused, sums_given, put_refused}
 use Rattle.shelves.proofs.Sound.{Sound, says_sound}
@@ -70,7 +70,7 @@ module _ (l : Layout) (s : List ℕ) (u : Summary) (h : Heads s u) (sane : sound
   stays = ap (stored_back s) (sym h.0) ∙ back_same s u h long
 
   pub refused_text : (input : List ℕ) {r : Refusal} → put_refusal l s input ≡ some r → PutsText l s input (placed.Refused r) s
-  unfolding toldShelved shelved_of after_put PutFits
+  unfolding told_shelved shelved_of after_put PutFits
   refused_text input e = let d = put_refused l s input e in ((sym d.0, stays ∙ sym d.1), tt)
 
   pub refused_slot : (slot : ℕ) {r : Refusal} → slot_refusal l s slot ≡ some r → TakesText l s slot (stored.Refused r) s
@@ -124,11 +124,11 @@ module _ (l : Layout) (s : List ℕ) (u : Summary) (h : Heads s u) (sane : sound
 
 module _ (l : Layout) (s : List ℕ) where
   pub sums_unsound : sound l s ≡ false → Sums l s (sums.Refused nineteen)
-  unfolding toldSums
+  unfolding told_sums
   sums_unsound e = sym (sums_refused l s e)
 
   pub sums_sound : (u : Summary) → Heads s u → 21 ≤ l.pairs → sound l s ≡ true → Sums l s (sums.Numbers u.held u.duplicates)
-  unfolding toldSums
+  unfolding told_sums
   sums_sound u h room sane =
       ap₂ (λ (n d : ℕ). given (n ∷ d ∷ [])) (heads_held s u h ∙ ((says_sound l s).0 sane).summed room) (heads_duplicates s u h) ∙ sym (sums_given l s sane)
 

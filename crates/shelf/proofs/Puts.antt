@@ -16,7 +16,7 @@ use Rattle.shelves.specs.declared.Summary.{Summary}
 use Rattle.shelves.specs.declared.Shelved.TheVariants as shelved
 use Rattle.shelves.specs.Layout.{Layout, slot_count, is_occupied, free, pair_place, end_of}
 use Rattle.shelves.specs.Soundness.{sound}
-use Rattle.shelves.specs.Answers.{newAt, toldShelved}
+use Rattle.shelves.specs.Answers.{new_at, told_shelved}
 use Rattle.shelves.specs.Operations.{pair_of, lowest_free, copy_of, with_text}
 use Rattle.shelves.proofs.Answered.{nineteen, put_refused, put_unsound, put_judged, put_copy, put_full, put_roomless, put_new_lem}
 use Rattle.shelf_contracts.specs.Promises.{Puts}
@@ -39,7 +39,7 @@ module _ (l : Layout) (s form : List ℕ) where
 
   module _ (u : Summary) (h : Heads s u) (sums : 21 ≤ l.pairs) (sane : sound l s ≡ true) where
     pub puts_copy : {k : ℕ} → copy_of l s form ≡ some k → PutsForm l s form (Copy k) s
-    unfolding toldShelved shelved_of after_put PutFits
+    unfolding told_shelved shelved_of after_put PutFits
     puts_copy c input a e =
         let d = put_copy l s input sane a (ap (copy_of l s) e ∙ c) in ((sym d.0, copied l s u h sane sums ∙ sym d.1), tt)
 
@@ -55,10 +55,10 @@ module _ (l : Layout) (s form : List ℕ) where
 
       pub puts_new : is_empty (free s) ≡ false → end_of l s + length form ≤ length s → {slot : ℕ} {after : List ℕ} → slot ≡ lowest_free l s
           → (slot < slot_count) × (is_occupied s slot ≡ false) → after ≡ stowed l s form → PutsForm l s form (New slot (length form)) after
-      unfolding toldShelved shelved_of after_put PutFits
+      unfolding told_shelved shelved_of after_put PutFits
       puts_new q i p f g input a e =
           let d = put_new_lem l s input sane a (ap (copy_of l s) e ∙ fresh) q (omega (arith, ap length e)) in (
-            (ap newAt p ∙ sym d.0, added l s u h sane sums form p g ∙ ap (with_text l s) (sym e) ∙ sym d.1),
+            (ap new_at p ∙ sym d.0, added l s u h sane sums form p g ∙ ap (with_text l s) (sym e) ∙ sym d.1),
             new_fits l s u h sane sums form i f,
           )
 
@@ -66,7 +66,7 @@ module _ (l : Layout) (s form : List ℕ) where
 
 -- what is refused first
 pub puts_unsound : (l : Layout) (s input : List ℕ) {r : Bool} → r ≡ sound l s → r ≡ false → Puts l s input (shelved.Refused nineteen) s
-unfolding toldShelved
+unfolding told_shelved
 puts_unsound l s input e f = let d = put_refused l s input (put_unsound l s input (sym e ∙ f)) in (sym d.0, sym d.1)
 
 pub puts_judged : (l : Layout) (s input : List ℕ) (u : Summary) → Heads s u → sound l s ≡ true → {q : Refusal} → refusal_of input ≡ some q

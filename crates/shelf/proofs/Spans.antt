@@ -10,11 +10,11 @@ use lib.ListN.{length, take, drop, length-take, length-drop}
 use denote.Ref.{Bor}
 use Rattle.refusals.specs.declared.Refusal.{Refusal}
 use Rattle.answers.specs.declared.Stored.TheVariants.{Length, Refused}
-use Rattle.answers.specs.Answers.{given, toldStored}
+use Rattle.answers.specs.Answers.{given, told_stored}
 use Rattle.shelves.specs.declared.Slots.TheVariants as slots
 use Rattle.shelves.specs.Layout.{Layout, map_of, is_occupied, occupied, start_of, length_of}
 use Rattle.shelves.specs.Soundness.{sound}
-use Rattle.shelves.specs.Answers.{toldSlots}
+use Rattle.shelves.specs.Answers.{told_slots}
 use Rattle.shelves.specs.Operations.{slot_refusal, remove, without}
 use Rattle.shelves.proofs.Answered.{nineteen, slots_refused, slots_given, slot_refused, slot_given}
 use Rattle.slot_map.specs.Slots.{occupied_count, lowest_free_in}
@@ -31,11 +31,11 @@ module _ (l : Layout) (s : List ℕ) (slot : ℕ) where
         let d = slot_refused l s slot e in sym (ap₂ (λ (a n : ℕ). record { offset = a; length = n }) d.1 d.2)
 
     pub measures_refused : Measures l s slot (Refused r)
-    unfolding toldStored
+    unfolding told_stored
     measures_refused = sym (slot_refused l s slot e).0
 
     pub removes_refused : Removes l s slot (Refused r) s
-    unfolding toldStored remove
+    unfolding told_stored remove
     removes_refused = let d = slot_refused l s slot e in (sym d.0, sym d.3)
 
   module _ (e : slot_refusal l s slot ≡ none) {n : ℕ} (q : n ≡ length_of l s slot) where
@@ -45,11 +45,11 @@ module _ (l : Layout) (s : List ℕ) (slot : ℕ) where
         let d = slot_given l s slot e in ap₂ (λ (a n : ℕ). record { offset = a; length = n }) (p ∙ sym d.1) (q ∙ sym d.2)
 
     pub measures_kept : Measures l s slot (Length n)
-    unfolding toldStored
+    unfolding told_stored
     measures_kept = ap (λ (k : ℕ). given (k ∷ [])) q ∙ sym (slot_given l s slot e).0
 
     pub removes_kept : {after : List ℕ} → after ≡ without l s slot → Removes l s slot (Length n) after
-    unfolding toldStored remove
+    unfolding told_stored remove
     removes_kept g = let d = slot_given l s slot e in (ap (λ (k : ℕ). given (k ∷ [])) q ∙ sym d.0, g ∙ sym d.3)
 
 -- the part as a slice
@@ -76,11 +76,11 @@ handed l whole slot {part} p e h b q =
 
 module _ (l : Layout) (s : List ℕ) where
   pub counts_unsound : {r : Bool} → r ≡ sound l s → r ≡ false → Counts l s (slots.Refused nineteen)
-  unfolding toldSlots
+  unfolding told_slots
   counts_unsound e f = sym (slots_refused l s (sym e ∙ f))
 
   pub counts_sound : {r : Bool} → r ≡ sound l s → r ≡ true → {m n k : ℕ} → m ≡ map_of s → n ≡ occupied_count m → k ≡ lowest_free_in m
       → Counts l s (slots.Numbers n k)
-  unfolding toldSlots occupied is_occupied occupied_count
+  unfolding told_slots occupied is_occupied occupied_count
   counts_sound e f d p q =
       ap₂ (λ (n k : ℕ). given (n ∷ k ∷ [])) (p ∙ ap occupied_count d) (lowest_by l s d q) ∙ sym (slots_given l s (sym e ∙ f))

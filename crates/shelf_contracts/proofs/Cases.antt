@@ -15,7 +15,7 @@ use Rattle.stages.specs.Contents.{normal_form}
 use Rattle.stages.specs.Stages.{refusal_of}
 use Rattle.answers.specs.declared.Stored.{Stored}
 use Rattle.answers.specs.declared.Stored.TheVariants as stored
-use Rattle.answers.specs.Answers.{toldStored}
+use Rattle.answers.specs.Answers.{told_stored}
 use Rattle.contracts.specs.Promises.{IsPart}
 use Rattle.contracts.proofs.Told.{stored_tells}
 use Rattle.shelves.specs.declared.Shelved.{Shelved}
@@ -26,7 +26,7 @@ use Rattle.shelves.specs.declared.TwoSums.{TwoSums}
 use Rattle.shelves.specs.declared.TwoSums.TheVariants as sums
 use Rattle.shelves.specs.Layout.{Layout, duplicates_of, Occupied, occupied, free, start_of, length_of, held, end_of}
 use Rattle.shelves.specs.Soundness.{is_sized, sound}
-use Rattle.shelves.specs.Answers.{toldShelved, toldSlots, toldSums, told_outcome}
+use Rattle.shelves.specs.Answers.{told_shelved, told_slots, told_sums, told_outcome}
 use Rattle.shelves.specs.Operations.{empty_shelf, lowest_free, copy_of, put_refusal, with_text, with_copy, slot_refusal, got_offset, got_length, remove, without}
 use Rattle.shelves.proofs.Answered.{nineteen, start_refused, start_done, slots_refused, slots_given, sums_refused, sums_given, put_refused, put_copy, put_new_lem, slot_there, slot_refused, slot_given}
 use Rattle.shelf_contracts.specs.Promises.{Starts, Puts, Gets, Measures, Removes, Counts, Sums}
@@ -46,7 +46,7 @@ module _ (l : Layout) where
   -- where something refuses it: the refusal, and the shelf as it was
   pub puts_nothing : (s input : List ℕ) (r : Shelved) (after : List ℕ) → Puts l s input r after
       → (q : Refusal) → put_refusal l s input ≡ some q → (r ≡ shelved.Refused q) × (after ≡ s)
-  unfolding toldShelved
+  unfolding told_shelved
   puts_nothing s input r after h q e =
       let told = put_refused l s input e in (shelved_tells r (shelved.Refused q) (h.0 ∙ told.0), h.1 ∙ told.1)
 
@@ -55,7 +55,7 @@ module _ (l : Layout) where
       → ((k : ℕ) → copy_of l s (normal_form input) ≡ some k → (r ≡ shelved.Copy k) × (after ≡ with_copy l s))
       × (copy_of l s (normal_form input) ≡ none → is_empty (free s) ≡ false → end_of l s + length (normal_form input) ≤ length s
       → (r ≡ shelved.New (lowest_free l s)) × (after ≡ with_text l s (normal_form input)))
-  unfolding toldShelved
+  unfolding told_shelved
   puts s input r after h sane accepted = (
     λ k e. let told = put_copy l s input sane accepted e in (shelved_tells r (shelved.Copy k) (h.0 ∙ told.0), h.1 ∙ told.1),
     λ fresh some fits.
@@ -84,7 +84,7 @@ module _ (l : Layout) where
   pub measures : (s : List ℕ) (slot : ℕ) (r : Stored) → Measures l s slot r
       → (sound l s ≡ true → Occupied s slot → r ≡ stored.Length (length_of l s slot))
       × ((q : Refusal) → slot_refusal l s slot ≡ some q → r ≡ stored.Refused q)
-  unfolding toldStored
+  unfolding told_stored
   measures s slot r h = (
     λ sane o. stored_tells r (stored.Length (length_of l s slot)) (h ∙ (slot_given l s slot (unrefused s slot sane o)).0),
     λ q e. stored_tells r (stored.Refused q) (h ∙ (slot_refused l s slot e).0),
@@ -94,7 +94,7 @@ module _ (l : Layout) where
   pub removes : (s : List ℕ) (slot : ℕ) (r : Stored) (after : List ℕ) → Removes l s slot r after
       → (sound l s ≡ true → Occupied s slot → (r ≡ stored.Length (length_of l s slot)) × (after ≡ without l s slot))
       × ((q : Refusal) → slot_refusal l s slot ≡ some q → (r ≡ stored.Refused q) × (after ≡ s))
-  unfolding toldStored remove
+  unfolding told_stored remove
   removes s slot r after h = (
     λ sane o.
         let told = slot_given l s slot (unrefused s slot sane o) in
@@ -105,7 +105,7 @@ module _ (l : Layout) where
   -- how many slots are occupied, then the lowest free one
   pub counts : (s : List ℕ) (r : Slots) → Counts l s r
       → (sound l s ≡ true → r ≡ slots.Numbers (length (occupied s)) (lowest_free l s)) × (sound l s ≡ false → r ≡ slots.Refused nineteen)
-  unfolding toldSlots
+  unfolding told_slots
   counts s r h = (
     λ e. slots_tells r (slots.Numbers (length (occupied s)) (lowest_free l s)) (h ∙ slots_given l s e),
     λ e. slots_tells r (slots.Refused nineteen) (h ∙ slots_refused l s e),
@@ -114,7 +114,7 @@ module _ (l : Layout) where
   -- the text bytes held, then the duplicates found
   pub summed : (s : List ℕ) (r : TwoSums) → Sums l s r
       → (sound l s ≡ true → r ≡ sums.Numbers (held l s) (duplicates_of s)) × (sound l s ≡ false → r ≡ sums.Refused nineteen)
-  unfolding toldSums
+  unfolding told_sums
   summed s r h = (
     λ e. sums_tells r (sums.Numbers (held l s) (duplicates_of s)) (h ∙ sums_given l s e),
     λ e. sums_tells r (sums.Refused nineteen) (h ∙ sums_refused l s e),

@@ -14,7 +14,7 @@ use Rattle.shelves.specs.declared.Slots.{Slots}
 use Rattle.shelves.specs.declared.Slots.TheVariants as slots
 use Rattle.shelves.specs.declared.TwoSums.{TwoSums}
 use Rattle.shelves.specs.declared.TwoSums.TheVariants as sums
-use Rattle.shelves.specs.Answers.{newAt, copy_at, toldShelved, toldSlots, toldSums, told_outcome}
+use Rattle.shelves.specs.Answers.{new_at, copy_at, told_shelved, told_slots, told_sums, told_outcome}
 
 -- the value of an answer at a number
 abbrev value : ℕ → Answer → ℕ
@@ -27,8 +27,8 @@ outcome_tells Passed (Failed r) e = absurd (given_refused [] r e)
 outcome_tells (Failed r) Passed e = absurd (given_refused [] r (sym e))
 outcome_tells (Failed r) (Failed q) e = ap Failed (refused_tells r q e)
 
-pub shelved_tells : (a b : Shelved) → toldShelved a ≡ toldShelved b → a ≡ b
-unfolding toldShelved newAt copy_at given
+pub shelved_tells : (a b : Shelved) → told_shelved a ≡ told_shelved b → a ≡ b
+unfolding told_shelved new_at copy_at given
 shelved_tells (shelved.New k) (shelved.New m) e = ap shelved.New (ap (value 0) e)
 shelved_tells (shelved.New k) (shelved.Copy m) e = absurd (omega (arith, ap (value 1) e))
 shelved_tells (shelved.New k) (shelved.Refused r) e = absurd (given_refused (k ∷ 1 ∷ []) r e)
@@ -39,15 +39,15 @@ shelved_tells (shelved.Refused r) (shelved.New m) e = absurd (given_refused (m �
 shelved_tells (shelved.Refused r) (shelved.Copy m) e = absurd (given_refused (m ∷ 0 ∷ []) r (sym e))
 shelved_tells (shelved.Refused r) (shelved.Refused q) e = ap shelved.Refused (refused_tells r q e)
 
-pub slots_tells : (a b : Slots) → toldSlots a ≡ toldSlots b → a ≡ b
-unfolding toldSlots given
+pub slots_tells : (a b : Slots) → told_slots a ≡ told_slots b → a ≡ b
+unfolding told_slots given
 slots_tells (slots.Numbers n m) (slots.Numbers k j) e = ap₂ slots.Numbers (ap (value 0) e) (ap (value 1) e)
 slots_tells (slots.Numbers n m) (slots.Refused r) e = absurd (given_refused (n ∷ m ∷ []) r e)
 slots_tells (slots.Refused r) (slots.Numbers k j) e = absurd (given_refused (k ∷ j ∷ []) r (sym e))
 slots_tells (slots.Refused r) (slots.Refused q) e = ap slots.Refused (refused_tells r q e)
 
-pub sums_tells : (a b : TwoSums) → toldSums a ≡ toldSums b → a ≡ b
-unfolding toldSums given
+pub sums_tells : (a b : TwoSums) → told_sums a ≡ told_sums b → a ≡ b
+unfolding told_sums given
 sums_tells (sums.Numbers n m) (sums.Numbers k j) e = ap₂ sums.Numbers (ap (value 0) e) (ap (value 1) e)
 sums_tells (sums.Numbers n m) (sums.Refused r) e = absurd (given_refused (n ∷ m ∷ []) r e)
 sums_tells (sums.Refused r) (sums.Numbers k j) e = absurd (given_refused (k ∷ j ∷ []) r (sym e))

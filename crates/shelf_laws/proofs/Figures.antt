@@ -12,7 +12,7 @@ use lib.ListN.{get_or}
 use Rattle.refusals.specs.declared.Refusal.{Refusal}
 use Rattle.answers.specs.Answers.{given, refused}
 use Rattle.shelves.specs.Layout.{Layout, held_figure, duplicates_of, held}
-use Rattle.shelves.specs.Answers.{newAt, copy_at}
+use Rattle.shelves.specs.Answers.{new_at, copy_at}
 use Rattle.shelves.specs.Operations.{lowest_free, put, put_shelf, remove_shelf}
 use Rattle.shelves.proofs.Sound.{Sound}
 use Rattle.shelf_laws.specs.Histories.{Operation, puts, gets, removes, is_given, is_copy, after, copied, after_all, all_copied}
@@ -27,8 +27,8 @@ refused_not_copy : (r : Refusal) → is_copy (refused r) ≡ false
 unfolding is_copy
 refused_not_copy r = ap (λ (b : Bool). b && eqb (get_or (refused r).values 1 0) 0) (refused_not_given r)
 
-new_not_copy : (k : ℕ) → is_copy (newAt k) ≡ false
-unfolding is_copy is_given newAt given
+new_not_copy : (k : ℕ) → is_copy (new_at k) ≡ false
+unfolding is_copy is_given new_at given
 new_not_copy k = refl
 
 copy_is_copy : (k : ℕ) → is_copy (copy_at k) ≡ true

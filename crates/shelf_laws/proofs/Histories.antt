@@ -16,7 +16,7 @@ use Rattle.refusals.proofs.Order.{number_not_zero}
 use Rattle.stages.specs.Contents.{normal_form}
 use Rattle.answers.specs.Answers.{Answer, given, refused}
 use Rattle.shelves.specs.Layout.{Layout, length_of, held, end_of}
-use Rattle.shelves.specs.Answers.{newAt, copy_at}
+use Rattle.shelves.specs.Answers.{new_at, copy_at}
 use Rattle.shelves.specs.Operations.{lowest_free, put, put_shelf, remove, remove_shelf}
 use Rattle.shelves.proofs.Sound.{Sound}
 use Rattle.shelves.proofs.Copied.{held_as_lem}
@@ -40,8 +40,8 @@ copy_not_new : (k : ℕ) → is_new (copy_at k) ≡ false
 unfolding is_new is_given copy_at given
 copy_not_new k = refl
 
-new_is_new : (k : ℕ) → is_new (newAt k) ≡ true
-unfolding is_new is_given newAt given
+new_is_new : (k : ℕ) → is_new (new_at k) ≡ true
+unfolding is_new is_given new_at given
 new_is_new k = refl
 
 module _ (l : Layout) (head : 13 ≤ l.pairs) (s : List ℕ) where

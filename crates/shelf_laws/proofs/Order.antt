@@ -22,7 +22,7 @@ use Rattle.contracts.proofs.Told.{given_refused, refused_tells}
 use Rattle.acceptance_laws.proofs.Stages.{refused_exactly}
 use Rattle.shelves.specs.Layout.{Layout, slot_count, is_occupied, Occupied, Free, duplicates_of, occupied, free, length_of, held, end_of}
 use Rattle.shelves.specs.Soundness.{is_sized, sound}
-use Rattle.shelves.specs.Answers.{newAt}
+use Rattle.shelves.specs.Answers.{new_at}
 use Rattle.shelves.specs.Operations.{start, lowest_free, slots_of, sums_of, copy_of, put, slot_refusal, length_answer, remove}
 use Rattle.shelves.proofs.Sound.{says_sized}
 use Rattle.shelves.proofs.Answered.{nineteen, start_refused, start_done, slots_refused, slots_given, sums_refused, sums_given, put_refused, put_unsound, put_judged, put_copy, put_full, put_roomless, put_new_lem, slot_unsound, slot_free, slot_there, slot_refused, slot_given}
@@ -118,7 +118,7 @@ module _ (l : Layout) (s : List ℕ) where
           (put_refused l s input (put_roomless l s input new.0 new.1 not_there (some_free l s k f) h)).0
 
       -- and else it is kept
-      pub then_kept : (k : ℕ) → Free s k → end_of l s + length form ≤ length s → (j : ℕ) × (put l s input ≡ newAt j) × (j ≤ k)
+      pub then_kept : (k : ℕ) → Free s k → end_of l s + length form ≤ length s → (j : ℕ) × (put l s input ≡ new_at j) × (j ≤ k)
       then_kept k f h =
           (lowest_free l s, (put_new_lem l s input new.0 new.1 not_there (some_free l s k f) h).0, lowest_least l s k f)
 

@@ -18,7 +18,7 @@ use Rattle.answers.specs.Answers.{Answer, given, refused}
 use Rattle.contracts.proofs.Told.{given_refused}
 use Rattle.shelves.specs.Layout.{Layout, Occupied, free, text_of, end_of}
 use Rattle.shelves.specs.Soundness.{sound}
-use Rattle.shelves.specs.Answers.{newAt, copy_at}
+use Rattle.shelves.specs.Answers.{new_at, copy_at}
 use Rattle.shelves.specs.Operations.{lowest_free, copy_of, put_refusal, put, put_shelf}
 use Rattle.shelves.proofs.Sound.{Sound, says_sound}
 use Rattle.shelves.proofs.Answered.{put_refused, put_unsound, put_judged, put_copy, put_full, put_roomless, put_new_lem}
@@ -47,7 +47,7 @@ module _ (l : Layout) (s input : List ℕ) where
     pub fresh : (k : ℕ) → Occupied s k → text_of l s k ≡ normal_form input → ⊥
     pub lowest : LowestFree s (lowest_free l s)
     pub room : end_of l s + length (normal_form input) ≤ length s
-    pub answer : put l s input ≡ newAt (lowest_free l s)
+    pub answer : put l s input ≡ new_at (lowest_free l s)
     pub adds : Added l s (normal_form input) (lowest_free l s) (put_shelf l s input)
 
   abbrev pub Cases : Type 0
@@ -122,20 +122,20 @@ module _ (l : Layout) (s input : List ℕ) where
 abbrev value : ℕ → Answer → ℕ
 value k a = get_or a.values k 0
 
-pub new_not_refused : (k : ℕ) (r : Refusal) → newAt k ≡ refused r → ⊥
-unfolding newAt
+pub new_not_refused : (k : ℕ) (r : Refusal) → new_at k ≡ refused r → ⊥
+unfolding new_at
 new_not_refused k r e = given_refused (k ∷ 1 ∷ []) r e
 
 pub copy_not_refused : (k : ℕ) (r : Refusal) → copy_at k ≡ refused r → ⊥
 unfolding copy_at
 copy_not_refused k r e = given_refused (k ∷ 0 ∷ []) r e
 
-pub new_not_copy : (k j : ℕ) → newAt k ≡ copy_at j → ⊥
-unfolding newAt copy_at given
+pub new_not_copy : (k j : ℕ) → new_at k ≡ copy_at j → ⊥
+unfolding new_at copy_at given
 new_not_copy k j e = omega (arith, ap (value 1) e)
 
-pub new_slot : (k j : ℕ) → newAt k ≡ newAt j → k ≡ j
-unfolding newAt given
+pub new_slot : (k j : ℕ) → new_at k ≡ new_at j → k ≡ j
+unfolding new_at given
 new_slot k j e = ap (value 0) e
 
 pub copy_slot : (k j : ℕ) → copy_at k ≡ copy_at j → k ≡ j

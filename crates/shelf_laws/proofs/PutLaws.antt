@@ -10,7 +10,7 @@ use Rattle.stages.specs.Contents.{normal_form}
 use Rattle.stages.specs.Stages.{refusal_of}
 use Rattle.answers.specs.Answers.{given, refused}
 use Rattle.shelves.specs.Layout.{Layout, Occupied, occupied, text_of}
-use Rattle.shelves.specs.Answers.{newAt, copy_at}
+use Rattle.shelves.specs.Answers.{new_at, copy_at}
 use Rattle.shelves.specs.Operations.{lowest_free, slots_of, put, with_copy, put_shelf}
 use Rattle.shelves.proofs.Sound.{Sound, says_sound}
 use Rattle.shelves.proofs.Answered as answered
@@ -54,7 +54,7 @@ module _ (l : Layout) (head : 13 ≤ l.pairs) (s input : List ℕ) where
       (put_cases l s input head)
 
   -- every slot but that of a new text says what it said
-  pub others_stay : (k : ℕ) → Sound l s → (put l s input ≡ newAt k → ⊥) → SaysAlike l s after k
+  pub others_stay : (k : ℕ) → Sound l s → (put l s input ≡ new_at k → ⊥) → SaysAlike l s after k
   others_stay k was other =
       ⊎_elim (λ (c : Refusing l s input). subst (λ (t : List ℕ). SaysAlike l s t k) (sym c.stays) (refl, refl))
       (⊎_elim copied stored)
@@ -69,7 +69,7 @@ module _ (l : Layout) (head : 13 ≤ l.pairs) (s input : List ℕ) where
 
       stored : Storing l s input → SaysAlike l s after k
       stored c =
-          let d : k ≡ lowest_free l s → ⊥ = λ e. other (c.answer ∙ ap newAt (sym e)) in
+          let d : k ≡ lowest_free l s → ⊥ = λ e. other (c.answer ∙ ap new_at (sym e)) in
           alike l head k s after ((says_sound l s).1 was) ((says_sound l after).1 (stored_sound c))
           (λ h. c.adds.occupied_other k h d)
           (λ h. c.adds.length_other k h d)
@@ -95,7 +95,7 @@ module _ (l : Layout) (head : 13 ≤ l.pairs) (s input : List ℕ) where
   of_new c = record { is = stored_sound c; there = (c.lowest.is_free.0, c.adds.occupied_this); holds = c.adds.text_this }
 
   -- the case of an answer with a new text
-  pub new_case : (slot : ℕ) → put l s input ≡ newAt slot → Storing l s input × (lowest_free l s ≡ slot)
+  pub new_case : (slot : ℕ) → put l s input ≡ new_at slot → Storing l s input × (lowest_free l s ≡ slot)
   new_case slot e =
       ⊎_elim (λ (c : Refusing l s input). absurd (new_not_refused slot c.refusal (sym e ∙ c.answer)))
       (⊎_elim (λ (c : Copying l s input). absurd (new_not_copy slot c.slot (sym e ∙ c.answer)))
@@ -127,7 +127,7 @@ module _ (l : Layout) (head : 13 ≤ l.pairs) (s input : List ℕ) where
       let c = kept_there slot k in there l after other slot c.is c.there accepted (e ∙ sym c.holds)
 
   -- what the map says of a shelf into which a new text went
-  pub slots_say : (slot : ℕ) → put l s input ≡ newAt slot
+  pub slots_say : (slot : ℕ) → put l s input ≡ new_at slot
       → (slots_of l s ≡ given (length (occupied s) ∷ slot ∷ [])) × (length (occupied after) ≡ length (occupied s) + 1)
   slots_say slot e =
       let (c, at) = new_case slot e in (

@@ -14,7 +14,7 @@ use Rattle.answers.specs.Answers.{given, refused}
 use Rattle.contracts.proofs.Told.{given_refused}
 use Rattle.shelves.specs.Layout.{Layout, is_occupied, Occupied, Free, occupied, start_of, length_of, text_of, end_of}
 use Rattle.shelves.specs.Soundness.{sound}
-use Rattle.shelves.specs.Answers.{newAt}
+use Rattle.shelves.specs.Answers.{new_at}
 use Rattle.shelves.specs.Operations.{lowest_free, copy_of, put, got_offset, got_length, length_answer, remove, remove_shelf}
 use Rattle.shelves.proofs.Sound.{Sound, says_sound}
 use Rattle.shelves.proofs.Answered as answered
@@ -84,7 +84,7 @@ module _ (l : Layout) (head : 13 ≤ l.pairs) (s : List ℕ) (slot : ℕ) where
   -- a text that then fits is kept, and a new one in a slot not above that one
   pub room_again : (n : ℕ) (input : List ℕ) → remove l s slot ≡ given (n ∷ []) → refusal_of input ≡ none
       → end_of l s + length (normal_form input) ≤ length s + n
-      → (k : ℕ) × Keeps l after input k × (put l after input ≡ newAt k → k ≤ slot)
+      → (k : ℕ) × Keeps l after input k × (put l after input ≡ new_at k → k ≤ slot)
   room_again n input e accepted fits = step (copy_of l after (normal_form input)) refl
     where
       c : Taking l s slot
@@ -100,7 +100,7 @@ module _ (l : Layout) (head : 13 ≤ l.pairs) (s : List ℕ) (slot : ℕ) where
       room = omega (arith, (frees n e).2, c.takes.long)
 
       step : (o : Option ℕ) → copy_of l after (normal_form input) ≡ o
-          → (k : ℕ) × Keeps l after input k × (put l after input ≡ newAt k → k ≤ slot)
+          → (k : ℕ) × Keeps l after input k × (put l after input ≡ new_at k → k ≤ slot)
       step none q =
           let d = answered.put_new_lem l after input sane accepted q (some_free l after slot free) room in
           (lowest_free l after, inl d.0, λ p. lowest_least l after slot free)
@@ -110,7 +110,7 @@ module _ (l : Layout) (head : 13 ≤ l.pairs) (s : List ℕ) (slot : ℕ) where
 
   -- what was removed is gone: put again, it is new, in a slot not above that one
   pub gone : (n : ℕ) (input : List ℕ) → remove l s slot ≡ given (n ∷ []) → refusal_of input ≡ none → normal_form input ≡ got l s slot
-      → (k : ℕ) × (put l after input ≡ newAt k) × (k ≤ slot)
+      → (k : ℕ) × (put l after input ≡ new_at k) × (k ≤ slot)
   gone n input e accepted same = then_kept l after input new slot free room
     where
       c : Taking l s slot

@@ -15,7 +15,7 @@ use Rattle.answers.specs.Answers.{refused}
 use Rattle.contracts.proofs.Told.{given_refused}
 use Rattle.shelves.specs.Layout.{Layout, version_one, version_two, duplicates_of, is_occupied, Free, occupied, heading, start_of, held, end_of}
 use Rattle.shelves.specs.Soundness.{is_sized}
-use Rattle.shelves.specs.Answers.{newAt}
+use Rattle.shelves.specs.Answers.{new_at}
 use Rattle.shelves.specs.Operations.{start, empty_shelf, start_shelf, put, put_shelf}
 use Rattle.shelves.proofs.Sound.{says_sized, says_sound}
 use Rattle.shelves.proofs.Sound as clauses
@@ -87,7 +87,7 @@ module _ (l : Layout) (head : 13 ≤ l.pairs) where
 
   -- ---- a new text's place
 
-  new_place : (s input : List ℕ) (slot : ℕ) → put l s input ≡ newAt slot
+  new_place : (s input : List ℕ) (slot : ℕ) → put l s input ≡ new_at slot
       → Free s slot × ((k : ℕ) → k < slot → is_occupied s k ≡ true) × (start_of l (put_shelf l s input) slot ≡ end_of l s)
       × (end_of l (put_shelf l s input) ≡ end_of l s + length (normal_form input))
   new_place s input slot e =

@@ -10,7 +10,7 @@ use Rattle.stages.specs.Stages.{refusal_of}
 use Rattle.answers.specs.Answers.{Answer, given, refused}
 use Rattle.shelves.specs.Layout.{Layout, Occupied, Free, held_figure, duplicates_of, is_occupied, occupied, start_of, text_of, held, end_of}
 use Rattle.shelves.specs.Soundness.{is_sized, sound}
-use Rattle.shelves.specs.Answers.{newAt, copy_at}
+use Rattle.shelves.specs.Answers.{new_at, copy_at}
 use Rattle.shelves.specs.Operations.{start, start_shelf, slots_of, sums_of, put, with_copy, put_shelf, got_offset, got_length, length_answer, remove, remove_shelf}
 use Rattle.shelf_laws.specs.InWords.{SoundInWords}
 use Rattle.shelf_laws.specs.Histories.{Operation, after_all, all_put, all_removed, all_copied}
@@ -29,7 +29,7 @@ module _ (l : Layout) where
 
   -- Put answers this slot, of a new text or of a copy
   abbrev pub Keeps : (s input : List ℕ) (slot : ℕ) → Type 0
-  Keeps s input slot = (put l s input ≡ newAt slot) ⊎ (put l s input ≡ copy_at slot)
+  Keeps s input slot = (put l s input ≡ new_at slot) ⊎ (put l s input ≡ copy_at slot)
 
   -- an accepted interchange whose normal form is not in the sound shelf: "a new text"
   abbrev pub New : (s input : List ℕ) → Type 0
@@ -59,7 +59,7 @@ pub record Shelf (l : Layout) : Type 0 where
   pub put_roomless : (s input : List ℕ) (k : ℕ) → New l s input → Free s k → length s < end_of l s + length (normal_form input)
       → put l s input ≡ refused_at NoRoom (length (normal_form input))
   pub put_kept : (s input : List ℕ) (k : ℕ) → New l s input → Free s k → end_of l s + length (normal_form input) ≤ length s
-      → (j : ℕ) × (put l s input ≡ newAt j) × (j ≤ k)
+      → (j : ℕ) × (put l s input ≡ new_at j) × (j ≤ k)
   pub not_occupied : (s : List ℕ) (slot : ℕ) → Sound l s → (Occupied s slot → ⊥)
       → (length_answer l s slot ≡ refused_at FreeSlot slot) × (remove l s slot ≡ refused_at FreeSlot slot)
   -- a refused call changes nothing
@@ -73,15 +73,15 @@ pub record Shelf (l : Layout) : Type 0 where
   pub remove_sound : (s : List ℕ) (slot : ℕ) → Sound l s → Sound l (remove_shelf l s slot)
   -- what was put is got back, and every other slot, occupied or free or above 63, says what it said
   pub put_get : (s input : List ℕ) (slot : ℕ) → Keeps l s input slot → got l (put_shelf l s input) slot ≡ normal_form input
-  pub put_others : (s input : List ℕ) (k : ℕ) → Sound l s → (put l s input ≡ newAt k → ⊥)
+  pub put_others : (s input : List ℕ) (k : ℕ) → Sound l s → (put l s input ≡ new_at k → ⊥)
       → (length_answer l (put_shelf l s input) k ≡ length_answer l s k) × (got l (put_shelf l s input) k ≡ got l s k)
   pub remove_others : (s : List ℕ) (slot k : ℕ) → Sound l s → (k ≡ slot → ⊥)
       → (length_answer l (remove_shelf l s slot) k ≡ length_answer l s k) × (got l (remove_shelf l s slot) k ≡ got l s k)
   -- a new text goes behind the last one and into the lowest free slot, which the map tells; one slot more is occupied
-  pub put_place : (s input : List ℕ) (slot : ℕ) → put l s input ≡ newAt slot
+  pub put_place : (s input : List ℕ) (slot : ℕ) → put l s input ≡ new_at slot
       → Free s slot × ((k : ℕ) → k < slot → is_occupied s k ≡ true) × (start_of l (put_shelf l s input) slot ≡ end_of l s)
       × (end_of l (put_shelf l s input) ≡ end_of l s + length (normal_form input))
-  pub put_slots : (s input : List ℕ) (slot : ℕ) → put l s input ≡ newAt slot
+  pub put_slots : (s input : List ℕ) (slot : ℕ) → put l s input ≡ new_at slot
       → (slots_of l s ≡ given (length (occupied s) ∷ slot ∷ [])) × (length (occupied (put_shelf l s input)) ≡ length (occupied s) + 1)
   -- the same interchange under any spelling is kept once
   pub put_again : (s input other : List ℕ) (slot : ℕ) → Keeps l s input slot → refusal_of other ≡ none → normal_form other ≡ normal_form input
@@ -96,10 +96,10 @@ pub record Shelf (l : Layout) : Type 0 where
       → length (occupied (remove_shelf l s slot)) + 1 ≡ length (occupied s)
   -- what was removed is gone: put again, it is new; and its slot and its bytes are free for any text
   pub remove_gone : (s : List ℕ) (slot n : ℕ) (input : List ℕ) → remove l s slot ≡ given (n ∷ []) → refusal_of input ≡ none
-      → normal_form input ≡ got l s slot → (k : ℕ) × (put l (remove_shelf l s slot) input ≡ newAt k) × (k ≤ slot)
+      → normal_form input ≡ got l s slot → (k : ℕ) × (put l (remove_shelf l s slot) input ≡ new_at k) × (k ≤ slot)
   pub remove_put : (s : List ℕ) (slot n : ℕ) (input : List ℕ) → remove l s slot ≡ given (n ∷ []) → refusal_of input ≡ none
       → end_of l s + length (normal_form input) ≤ length s + n
-      → (k : ℕ) × Keeps l (remove_shelf l s slot) input k × (put l (remove_shelf l s slot) input ≡ newAt k → k ≤ slot)
+      → (k : ℕ) × Keeps l (remove_shelf l s slot) input k × (put l (remove_shelf l s slot) input ≡ new_at k → k ≤ slot)
   -- the two sums of a sound shelf, as its head has them; the second "rises by one at each put that finds its copy, and stays at
   -- 4,294,967,295", and no other call but Start changes it
   pub sums_given : (s : List ℕ) → WithSums l → Sound l s → (sums_of l s ≡ given (held l s ∷ duplicates_of s ∷ [])) × (held_figure s ≡ held l s)

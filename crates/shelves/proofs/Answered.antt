@@ -19,7 +19,7 @@ use Rattle.operations.specs.Judge.{unless_refused}
 use Rattle.operations.proofs.Answered.{input_answers, last_answers}
 use Rattle.shelves.specs.Layout.{Layout, slot_count, duplicates_of, is_occupied, occupied, free, start_of, length_of, held, end_of}
 use Rattle.shelves.specs.Soundness.{is_sized, sound}
-use Rattle.shelves.specs.Answers.{newAt, copy_at}
+use Rattle.shelves.specs.Answers.{new_at, copy_at}
 use Rattle.shelves.specs.Operations.{start_refusal, start, empty_shelf, start_shelf, unsound, lowest_free, slots_of, sums_of, copy_of, no_free_slot, no_room, for_new, put_refusal, put, with_text, with_copy, put_shelf, slot_refusal, got_offset, got_length, length_answer, without, remove_shelf}
 
 -- 19 at 0
@@ -84,17 +84,17 @@ module _ (l : Layout) where
       pub put_refused : {r : Refusal} → put_refusal l s input ≡ some r → (put l s input ≡ refused r) × (put_shelf l s input ≡ s)
       unfolding put put_shelf maybe unless_refused
       put_refused e = (
-        ap (maybe (maybe (newAt (lowest_free l s)) copy_at (copy_of l s form)) refused) e,
+        ap (maybe (maybe (new_at (lowest_free l s)) copy_at (copy_of l s form)) refused) e,
         ap (λ (o : Option Refusal). unless_refused o (maybe (with_text l s form) (λ k. with_copy l s) (copy_of l s form)) s) e,
       )
 
       -- not refused: the copy's slot, or the lowest free one
       pub put_done : put_refusal l s input ≡ none
-          → (put l s input ≡ maybe (newAt (lowest_free l s)) copy_at (copy_of l s form))
+          → (put l s input ≡ maybe (new_at (lowest_free l s)) copy_at (copy_of l s form))
           × (put_shelf l s input ≡ maybe (with_text l s form) (λ k. with_copy l s) (copy_of l s form))
       unfolding put put_shelf maybe unless_refused
       put_done e = (
-        ap (maybe (maybe (newAt (lowest_free l s)) copy_at (copy_of l s form)) refused) e,
+        ap (maybe (maybe (new_at (lowest_free l s)) copy_at (copy_of l s form)) refused) e,
         ap (λ (o : Option Refusal). unless_refused o (maybe (with_text l s form) (λ k. with_copy l s) (copy_of l s form)) s) e,
       )
 
@@ -118,7 +118,7 @@ module _ (l : Layout) where
         unfolding for_new maybe answering
         put_copy c =
             let d = put_done (put_later sane accepted ∙ ap (λ (o : Option ℕ). answering (maybe (no_free_slot l s ∷ no_room l s form ∷ []) (λ k. []) o)) c) in
-            (d.0 ∙ ap (maybe (newAt (lowest_free l s)) copy_at) c, d.1 ∙ ap (maybe (with_text l s form) (λ k. with_copy l s)) c)
+            (d.0 ∙ ap (maybe (new_at (lowest_free l s)) copy_at) c, d.1 ∙ ap (maybe (with_text l s form) (λ k. with_copy l s)) c)
 
         module _ (fresh : copy_of l s form ≡ none) where
           as_new : put_refusal l s input ≡ answering (no_free_slot l s ∷ no_room l s form ∷ [])
@@ -149,11 +149,11 @@ module _ (l : Layout) where
 
           -- "else it goes behind the last text and into the lowest free slot"
           pub put_new_lem : is_empty (free s) ≡ false → end_of l s + length form ≤ length s
-              → (put l s input ≡ newAt (lowest_free l s)) × (put_shelf l s input ≡ with_text l s form)
+              → (put l s input ≡ new_at (lowest_free l s)) × (put_shelf l s input ≡ with_text l s form)
           unfolding maybe
           put_new_lem e h =
               let d = put_done (put_unrefused e h) in
-              (d.0 ∙ ap (maybe (newAt (lowest_free l s)) copy_at) fresh, d.1 ∙ ap (maybe (with_text l s form) (λ k. with_copy l s)) fresh)
+              (d.0 ∙ ap (maybe (new_at (lowest_free l s)) copy_at) fresh, d.1 ∙ ap (maybe (with_text l s form) (λ k. with_copy l s)) fresh)
 
     -- ---- Get and Remove
 

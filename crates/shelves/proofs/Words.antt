@@ -26,7 +26,7 @@ use Rattle.shelves.specs.declared.TwoSums.TheVariants as sums
 use Rattle.shelves.specs.Layout.{version_one, version_two, below, total, map_of, held_figure, duplicates_of, bit, is_occupied, Occupied, occupied, free, has_sums, base, heading, pair_place, start_of, length_of, text_of, kept, held, end_of}
 use Rattle.shelves.specs.Soundness.{is_sized, is_summed, sound}
 use Rattle.shelves.specs.Summary.{put_new, put_copy, removed, map_and_held, duplicates_in}
-use Rattle.shelves.specs.Answers.{newAt, copy_at, toldShelved, toldSlots, toldSums, told_outcome}
+use Rattle.shelves.specs.Answers.{new_at, copy_at, told_shelved, told_slots, told_sums, told_outcome}
 use Rattle.shelves.specs.Operations.{pair_of, empty_shelf, unsound, lowest_free, no_free_slot, no_room, length_answer, remove}
 use Rattle.shelves.proofs.Passing.{passing_has}
 
@@ -163,16 +163,16 @@ kept_are s form = (
 -- ---- the answers, by number and values
 
 pub told_so : (r : Refusal)
-    → (toldShelved (shelved.New 3) ≡ given (3 ∷ 1 ∷ []))
-    × (toldShelved (shelved.Copy 3) ≡ given (3 ∷ 0 ∷ []))
-    × (toldShelved (shelved.Refused r) ≡ refused r)
-    × (toldSlots (slots.Numbers 5 2) ≡ given (5 ∷ 2 ∷ []))
-    × (toldSlots (slots.Refused r) ≡ refused r)
-    × (toldSums (sums.Numbers 93 7) ≡ given (93 ∷ 7 ∷ []))
-    × (toldSums (sums.Refused r) ≡ refused r)
+    → (told_shelved (shelved.New 3) ≡ given (3 ∷ 1 ∷ []))
+    × (told_shelved (shelved.Copy 3) ≡ given (3 ∷ 0 ∷ []))
+    × (told_shelved (shelved.Refused r) ≡ refused r)
+    × (told_slots (slots.Numbers 5 2) ≡ given (5 ∷ 2 ∷ []))
+    × (told_slots (slots.Refused r) ≡ refused r)
+    × (told_sums (sums.Numbers 93 7) ≡ given (93 ∷ 7 ∷ []))
+    × (told_sums (sums.Refused r) ≡ refused r)
     × (told_outcome Passed ≡ given [])
     × (told_outcome (Failed r) ≡ refused r)
-unfolding toldShelved toldSlots toldSums told_outcome newAt copy_at
+unfolding told_shelved told_slots told_sums told_outcome new_at copy_at
 told_so r = (refl, refl, refl, refl, refl, refl, refl, refl, refl)
 
 -- "Remove answers the length": as Get's companion says it, or what refuses it

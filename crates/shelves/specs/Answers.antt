@@ -11,24 +11,24 @@ use Rattle.shelves.specs.declared.TwoSums.{TwoSums}
 use Rattle.shelves.specs.declared.TwoSums.TheVariants as sums
 
 -- the slot, and 1 for a text that is new, 0 for the copy of one that is there
-unfoldable pub newAt : ℕ → Answer
-newAt slot = given (slot ∷ 1 ∷ [])
+unfoldable pub new_at : ℕ → Answer
+new_at slot = given (slot ∷ 1 ∷ [])
 
 unfoldable pub copy_at : ℕ → Answer
 copy_at slot = given (slot ∷ 0 ∷ [])
 
-unfoldable pub toldShelved : Shelved → Answer
-toldShelved (shelved.New slot) = newAt slot
-toldShelved (shelved.Copy slot) = copy_at slot
-toldShelved (shelved.Refused r) = refused r
+unfoldable pub told_shelved : Shelved → Answer
+told_shelved (shelved.New slot) = new_at slot
+told_shelved (shelved.Copy slot) = copy_at slot
+told_shelved (shelved.Refused r) = refused r
 
-unfoldable pub toldSlots : Slots → Answer
-toldSlots (slots.Numbers occupied lowest_free) = given (occupied ∷ lowest_free ∷ [])
-toldSlots (slots.Refused r) = refused r
+unfoldable pub told_slots : Slots → Answer
+told_slots (slots.Numbers occupied lowest_free) = given (occupied ∷ lowest_free ∷ [])
+told_slots (slots.Refused r) = refused r
 
-unfoldable pub toldSums : TwoSums → Answer
-toldSums (sums.Numbers held duplicates) = given (held ∷ duplicates ∷ [])
-toldSums (sums.Refused r) = refused r
+unfoldable pub told_sums : TwoSums → Answer
+told_sums (sums.Numbers held duplicates) = given (held ∷ duplicates ∷ [])
+told_sums (sums.Refused r) = refused r
 
 -- what Start says
 unfoldable pub told_outcome : Outcome → Answer

@@ -13,7 +13,7 @@ use Rattle.answers.specs.Answers.{Answer, given, refused}
 use Rattle.operations.specs.Judge.{unless_refused}
 use Rattle.shelves.specs.Layout.{Layout, slot_count, map_place, duplicates_place, below, duplicates_of, is_occupied, occupied, free, heading, pair_place, start_of, length_of, text_of, held, end_of}
 use Rattle.shelves.specs.Soundness.{is_sized, sound}
-use Rattle.shelves.specs.Answers.{newAt, copy_at}
+use Rattle.shelves.specs.Answers.{new_at, copy_at}
 use Rattle.shelves.specs.Summary.{summary_of, put_new, put_copy, removed, map_and_held, duplicates_in}
 
 -- a slot's pair
@@ -79,7 +79,7 @@ module _ (l : Layout) where
   -- "if its normal form is there, the answer is that slot; else it goes .. into the lowest free slot"; and whether the text is new
   unfoldable pub put : (s input : List ℕ) → Answer
   put s input =
-      maybe (maybe (newAt (lowest_free s)) copy_at (copy_of s (normal_form input))) refused (put_refusal s input)
+      maybe (maybe (new_at (lowest_free s)) copy_at (copy_of s (normal_form input))) refused (put_refusal s input)
 
   -- "behind the last text and into the lowest free slot"
   unfoldable pub with_text : List ℕ → (form : List ℕ) → List ℕ

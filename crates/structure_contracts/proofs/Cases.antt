@@ -8,7 +8,7 @@ use Rattle.refusals.specs.Refusals.{answering}
 use Rattle.stages.specs.Stages.{stages_in, refusal_of}
 use Rattle.answers.specs.declared.Judged.{Judged}
 use Rattle.answers.specs.declared.Judged.TheVariants as judged
-use Rattle.answers.specs.Answers.{toldJudged}
+use Rattle.answers.specs.Answers.{told_judged}
 use Rattle.operations.specs.Judge.{figures_of}
 use Rattle.operations.proofs.Cases.{judge_is}
 use Rattle.contracts.proofs.Told.{judged_tells}
@@ -24,7 +24,7 @@ pub judges_by_table : (table s : List ℕ) (r : Judged) → JudgesByTable table 
     × ((p : ℕ) → table_faults table ≡ [] → answering (stages_in s 1 12) ≡ none → Memᴰ p (unmatched_bodies table s)
     → ((q : ℕ) → Memᴰ q (unmatched_bodies table s) → p ≤ q) → r ≡ judged.Refused (record { fault = UnmatchedBody; place = p }))
     × (table_faults table ≡ [] → ((p : ℕ) → Memᴰ p (unmatched_bodies table s) → ⊥) → refusal_of s ≡ none → r ≡ judged.Accepted (figures_of s))
-unfolding toldJudged
+unfolding told_judged
 judges_by_table table s r h = (
   λ n m low. judged_tells r (judged.Refused (record { fault = UnsoundTable; place = n })) (h ∙ unsound_answers table s n m low),
   λ p sound e m low.

@@ -2,8 +2,8 @@
 -- byte of them changes. Assumes nothing.
 use Rattle.std.specs.Prelude.{ℕ, ◌≡◌, List}
 use Rattle.answers.specs.declared.Judged.{Judged}
-use Rattle.answers.specs.Answers.{toldJudged}
+use Rattle.answers.specs.Answers.{told_judged}
 use Rattle.message_structures.specs.Judging.{judge_by_table}
 
 abbrev pub JudgesByTable : (table s : List ℕ) → Judged → Type 0
-JudgesByTable table s r = toldJudged r ≡ judge_by_table table s
+JudgesByTable table s r = told_judged r ≡ judge_by_table table s

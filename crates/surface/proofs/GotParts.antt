@@ -7,7 +7,7 @@ use lib.ListN.{length, get_or}
 use Rattle.refusals.specs.declared.Refusal.{Refusal}
 use Rattle.answers.specs.declared.Stored.{Stored}
 use Rattle.answers.specs.declared.Stored.TheVariants.{Length, Refused}
-use Rattle.answers.specs.Answers.{Answer, given, refused, toldStored}
+use Rattle.answers.specs.Answers.{Answer, given, refused, told_stored}
 use Rattle.contracts.proofs.Told.{given_is, refused_is}
 use Rattle.shelves.specs.Layout as shelf
 use Rattle.shelves.specs.Layout.{version_two, base, start_of, length_of}
@@ -23,9 +23,9 @@ module _ (s : List ℕ) (slot : ℕ) {answer : Stored} where
   -- nothing refuses it, where a length was told, and this is the length
   told_length : {n : ℕ} → Measures version_two s slot answer → answer ≡ Length n
       → (slot_refusal version_two s slot ≡ none) × (n ≡ length_of version_two s slot)
-  unfolding toldStored length_answer
+  unfolding told_stored length_answer
   told_length {n} e d =
-      let h = given_is (length_of version_two s slot ∷ []) (n ∷ []) (slot_refusal version_two s slot) (sym (ap toldStored d) ∙ e) in
+      let h = given_is (length_of version_two s slot ∷ []) (n ∷ []) (slot_refusal version_two s slot) (sym (ap told_stored d) ∙ e) in
       (h.0, ap (λ (l : List ℕ). get_or l 0 0) h.1)
 
   -- its pair lies in the shelf
@@ -45,8 +45,8 @@ module _ (s : List ℕ) (slot : ℕ) {answer : Stored} where
 
   pub told_refused : {r : Refusal} → Measures version_two s slot answer → answer ≡ Refused r
       → got_of (refused r) 0 0 ≡ got_of (length_answer version_two s slot) (got_offset version_two s slot) (got_length version_two s slot)
-  unfolding toldStored length_answer
+  unfolding told_stored length_answer
   told_refused {r} e d =
-      let h = refused_is (length_of version_two s slot ∷ []) r (slot_refusal version_two s slot) (sym (ap toldStored d) ∙ e) in
+      let h = refused_is (length_of version_two s slot ∷ []) r (slot_refusal version_two s slot) (sym (ap told_stored d) ∙ e) in
       let g = slot_refused version_two s slot h in
       sym (ap (λ (x : Answer). got_of x (got_offset version_two s slot) (got_length version_two s slot)) g.0 ∙ ap₂ (got_of (refused r)) g.1 g.2)

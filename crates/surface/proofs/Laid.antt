@@ -7,7 +7,7 @@ use Rattle.refusals.specs.declared.Fault.{Fault}
 use Rattle.refusals.specs.declared.Fault.TheVariants.{TooLong, UnusableAdvice, NoOpening, StrayRelease, UnendedSegment, BrokenTag, ForeignLevel, OutsideLevel, MisplacedSegment, BadControl, ReferenceDiffers, CountWrong, NormalTooLong, BufferShort, BadList, NeedsRelease, NoFreeSlot, NoRoom, UnsoundShelf, FreeSlot, UnsoundTable, UnmatchedBody, NoAcknowledgement, NoColumns}
 use Rattle.refusals.specs.declared.Refusal.{Refusal}
 use Rattle.refusals.specs.Refusals.{number}
-use Rattle.answers.specs.Answers.{refused, refusedInput}
+use Rattle.answers.specs.Answers.{refused, refused_input}
 use Rattle.surface.specs.Verdicts.{value, refused_verdict, verdict_of}
 use Rattle.surface.specs.Answered.{written_of, comparison_of, location_of, listing_of}
 use Rattle.surface.specs.OfShelf.{started_of, shelving_of, got_of, slot_numbers_of, sum_numbers_of}
@@ -64,8 +64,8 @@ module _ (r : Refusal) {n : ℕ} (e : n ≡ number r.fault) where
   unfolding written_of value refused
   refused_written = rw (e, refusal_numbered r.fault)
 
-  pub refused_comparison : (input : ℕ) → record { number = n; input = input; same = 0; place = r.place } ≡ comparison_of (refusedInput input r)
-  unfolding comparison_of value refusedInput
+  pub refused_comparison : (input : ℕ) → record { number = n; input = input; same = 0; place = r.place } ≡ comparison_of (refused_input input r)
+  unfolding comparison_of value refused_input
   refused_comparison input = rw (e, refusal_numbered r.fault)
 
   pub refused_location : record { number = n; present = 0; place = r.place; offset = 0; length = 0 } ≡ location_of (refused r)

@@ -2,7 +2,7 @@
 // specs/ says of the paper's number and values.
 ghost use Rattle.std.specs.Prelude.{◌≡◌, [], ◌∷◌};
 ghost use Rattle.refusals.specs.Refusals.{number};
-ghost use Rattle.answers.specs.Answers.{given, accepted, refused, refusedInput, toldJudged, toldStored, toldCompared, toldLocated, toldListed};
+ghost use Rattle.answers.specs.Answers.{given, accepted, refused, refused_input, told_judged, told_stored, told_compared, told_located, told_listed};
 ghost use Rattle.surface.specs.Verdicts.{verdict_of};
 ghost use Rattle.surface.specs.Answered.{written_of, comparison_of, location_of, listing_of};
 
@@ -61,7 +61,7 @@ fn verdict_refused(refusal: Refusal) -> Verdict
 }
 
 pub fn verdict_of(judged: Judged) -> Verdict
-    ensures { result ≡ verdict_of (toldJudged judged) }
+    ensures { result ≡ verdict_of (told_judged judged) }
 {
     match judged {
         Judged::Accepted(i) => verdict_accepted(i),
@@ -70,7 +70,7 @@ pub fn verdict_of(judged: Judged) -> Verdict
 }
 
 pub fn written_of(stored: Stored) -> Written
-    ensures { result ≡ written_of (toldStored stored) }
+    ensures { result ≡ written_of (told_stored stored) }
 {
     match stored {
         Stored::Length(length) => Written {
@@ -98,7 +98,7 @@ fn comparison_given(same: u32) -> Comparison
 }
 
 fn comparison_refused(input: u32, refusal: Refusal) -> Comparison
-    ensures { result ≡ comparison_of (refusedInput input refusal) }
+    ensures { result ≡ comparison_of (refused_input input refusal) }
 {
     Comparison {
         number: refusal_number(refusal),
@@ -109,7 +109,7 @@ fn comparison_refused(input: u32, refusal: Refusal) -> Comparison
 }
 
 pub fn comparison_of(compared: Compared) -> Comparison
-    ensures { result ≡ comparison_of (toldCompared compared) }
+    ensures { result ≡ comparison_of (told_compared compared) }
 {
     match compared {
         Compared::Same => comparison_given(1),
@@ -120,7 +120,7 @@ pub fn comparison_of(compared: Compared) -> Comparison
 }
 
 pub fn location_of(located: Located) -> Location
-    ensures { result ≡ location_of (toldLocated located) }
+    ensures { result ≡ location_of (told_located located) }
 {
     match located {
         Located::At { offset, length } => Location {
@@ -148,7 +148,7 @@ pub fn location_of(located: Located) -> Location
 }
 
 pub fn listing_of(listed: Listed) -> Listing
-    ensures { result ≡ listing_of (toldListed listed) }
+    ensures { result ≡ listing_of (told_listed listed) }
 {
     match listed {
         Listed::Values { bytes, numbers } => Listing {

@@ -2,7 +2,7 @@
 // says of the number and values.
 ghost use Rattle.std.specs.Prelude.{◌≡◌, [], ◌∷◌};
 ghost use Rattle.answers.specs.Answers.{given, refused};
-ghost use Rattle.shelves.specs.Answers.{toldShelved, toldSlots, toldSums, told_outcome};
+ghost use Rattle.shelves.specs.Answers.{told_shelved, told_slots, told_sums, told_outcome};
 ghost use Rattle.surface.specs.OfShelf.{started_of, shelving_of, got_of, slot_numbers_of, sum_numbers_of};
 
 use crate::laying::refusal_number;
@@ -37,7 +37,7 @@ fn shelving_refused(refusal: Refusal) -> Shelving
 }
 
 pub fn shelving_of(shelved: Shelved) -> Shelving
-    ensures { result ≡ shelving_of (toldShelved shelved) }
+    ensures { result ≡ shelving_of (told_shelved shelved) }
 {
     match shelved {
         Shelved::New(slot) => Shelving {
@@ -80,7 +80,7 @@ pub fn got_refused(refusal: Refusal) -> Got
 }
 
 pub fn slot_numbers_of(slots: Slots) -> SlotNumbers
-    ensures { result ≡ slot_numbers_of (toldSlots slots) }
+    ensures { result ≡ slot_numbers_of (told_slots slots) }
 {
     match slots {
         Slots::Numbers {
@@ -102,7 +102,7 @@ pub fn slot_numbers_of(slots: Slots) -> SlotNumbers
 }
 
 pub fn sum_numbers_of(sums: TwoSums) -> SumNumbers
-    ensures { result ≡ sum_numbers_of (toldSums sums) }
+    ensures { result ≡ sum_numbers_of (told_sums sums) }
 {
     match sums {
         TwoSums::Numbers { held, duplicates } => SumNumbers {

@@ -21,14 +21,14 @@ use Rattle.answers.specs.declared.Located.{Located}
 use Rattle.answers.specs.declared.Located.TheVariants as located
 use Rattle.answers.specs.declared.Listed.{Listed}
 use Rattle.answers.specs.declared.Listed.TheVariants as listed
-use Rattle.answers.specs.Answers.{given, refused, refusedInput, accepted, toldJudged, toldStored, toldCompared, toldLocated, toldListed}
+use Rattle.answers.specs.Answers.{given, refused, refused_input, accepted, told_judged, told_stored, told_compared, told_located, told_listed}
 use Rattle.shelves.specs.declared.Shelved.{Shelved}
 use Rattle.shelves.specs.declared.Shelved.TheVariants as shelved
 use Rattle.shelves.specs.declared.Slots.{Slots}
 use Rattle.shelves.specs.declared.Slots.TheVariants as slots
 use Rattle.shelves.specs.declared.TwoSums.{TwoSums}
 use Rattle.shelves.specs.declared.TwoSums.TheVariants as sums
-use Rattle.shelves.specs.Answers.{newAt, copy_at, toldShelved, toldSlots, toldSums, told_outcome}
+use Rattle.shelves.specs.Answers.{new_at, copy_at, told_shelved, told_slots, told_sums, told_outcome}
 use Rattle.surface.specs.Verdicts.{value, accepted_verdict, refused_verdict, verdict_of}
 use Rattle.surface.specs.Answered.{written_of, comparison_of, location_of, listing_of}
 use Rattle.surface.specs.OfShelf.{started_of, shelving_of, slot_numbers_of, sum_numbers_of}
@@ -39,31 +39,31 @@ use Rattle.surface_cases.specs.Structs.{verdict, written, comparison, location, 
 other : {A : Type 0} (r : Refusal) (x y : A) → (if◌then◌else◌ (eqb (number r.fault) 0) x y) ≡ y
 other r x y = if_false (eqb (number r.fault) 0) x y (refusal_numbered r.fault)
 
-pub verdict_laid : (a : Judged) → verdict_of (toldJudged a) ≡ verdict a
-unfolding verdict_of accepted_verdict refused_verdict value toldJudged accepted given refused spelled_out verdict
+pub verdict_laid : (a : Judged) → verdict_of (told_judged a) ≡ verdict a
+unfolding verdict_of accepted_verdict refused_verdict value told_judged accepted given refused spelled_out verdict
 verdict_laid (judged.Accepted f) = refl
 verdict_laid (judged.Refused r) = other r (accepted_verdict (refused r)) (refused_verdict (refused r))
 
-pub written_laid : (a : Stored) → written_of (toldStored a) ≡ written a
-unfolding written_of value toldStored given refused written
+pub written_laid : (a : Stored) → written_of (told_stored a) ≡ written a
+unfolding written_of value told_stored given refused written
 written_laid (stored.Length n) = refl
 written_laid (stored.Refused r) = other r _ _
 
-pub comparison_laid : (a : Compared) → comparison_of (toldCompared a) ≡ comparison a
-unfolding comparison_of value toldCompared given refusedInput comparison
+pub comparison_laid : (a : Compared) → comparison_of (told_compared a) ≡ comparison a
+unfolding comparison_of value told_compared given refused_input comparison
 comparison_laid compared.Same = refl
 comparison_laid compared.Different = refl
 comparison_laid (compared.FirstRefused r) = other r _ _
 comparison_laid (compared.SecondRefused r) = other r _ _
 
-pub location_laid : (a : Located) → location_of (toldLocated a) ≡ location a
-unfolding location_of value toldLocated given refused is_empty location
+pub location_laid : (a : Located) → location_of (told_located a) ≡ location a
+unfolding location_of value told_located given refused is_empty location
 location_laid (located.At offset length) = refl
 location_laid located.Absent = refl
 location_laid (located.Refused r) = other r _ _
 
-pub listing_laid : (a : Listed) → listing_of (toldListed a) ≡ listing a
-unfolding listing_of value toldListed given refused listing
+pub listing_laid : (a : Listed) → listing_of (told_listed a) ≡ listing a
+unfolding listing_of value told_listed given refused listing
 listing_laid (listed.Values bytes numbers) = refl
 listing_laid (listed.Refused r) = other r _ _
 
@@ -72,18 +72,18 @@ unfolding started_of value told_outcome given refused started
 started_laid Passed = refl
 started_laid (Failed r) = other r _ _
 
-pub shelving_laid : (a : Shelved) → shelving_of (toldShelved a) ≡ shelving a
-unfolding shelving_of value toldShelved newAt copy_at given refused shelving
+pub shelving_laid : (a : Shelved) → shelving_of (told_shelved a) ≡ shelving a
+unfolding shelving_of value told_shelved new_at copy_at given refused shelving
 shelving_laid (shelved.New slot) = refl
 shelving_laid (shelved.Copy slot) = refl
 shelving_laid (shelved.Refused r) = other r _ _
 
-pub slots_laid : (a : Slots) → slot_numbers_of (toldSlots a) ≡ slot_numbers a
-unfolding slot_numbers_of value toldSlots given refused slot_numbers
+pub slots_laid : (a : Slots) → slot_numbers_of (told_slots a) ≡ slot_numbers a
+unfolding slot_numbers_of value told_slots given refused slot_numbers
 slots_laid (slots.Numbers occupied lowest) = refl
 slots_laid (slots.Refused r) = other r _ _
 
-pub sums_laid : (a : TwoSums) → sum_numbers_of (toldSums a) ≡ sum_numbers a
-unfolding sum_numbers_of value toldSums given refused sum_numbers
+pub sums_laid : (a : TwoSums) → sum_numbers_of (told_sums a) ≡ sum_numbers a
+unfolding sum_numbers_of value told_sums given refused sum_numbers
 sums_laid (sums.Numbers held duplicates) = refl
 sums_laid (sums.Refused r) = other r _ _

@@ -24,7 +24,7 @@ use Rattle.answers.specs.declared.Judged.TheVariants.{Accepted}
 use Rattle.answers.specs.declared.Stored.TheVariants.{Length}
 use Rattle.answers.specs.declared.Compared.TheVariants.{Same}
 use Rattle.answers.specs.declared.Listed.TheVariants.{Values}
-use Rattle.answers.specs.Answers.{Answer, given, accepted, toldJudged, toldStored, toldCompared, toldListed}
+use Rattle.answers.specs.Answers.{Answer, given, accepted, told_judged, told_stored, told_compared, told_listed}
 use Rattle.operations.specs.Judge.{figures_of, judge, short_for, stored_in, unless_refused, normalise_refusal, normalise, normalise_buffer}
 use Rattle.operations.specs.Compare.{compare}
 use Rattle.operations.specs.Read.{value_bytes, value_table, read_refusal, read}
@@ -48,11 +48,11 @@ use Rattle.theorems.specs.FromContracts.{IsAccepted, AreSame, ReadAfterWrite, Wr
 -- ---- what the definitions answer is what the code answers
 
 judge_accepts : (text : List ℕ) → judge text ≡ accepted (figures_of text) → IsAccepted text
-unfolding toldJudged
+unfolding told_judged
 judge_accepts text e r h = judged_tells r (Accepted (figures_of text)) (h ∙ e)
 
 compare_same : (a b : List ℕ) → compare a b ≡ given (1 ∷ []) → AreSame a b
-unfolding toldCompared
+unfolding told_compared
 compare_same a b e r h = compared_tells r Same (h ∙ e)
 
 -- the first and the second of an answer's values
@@ -70,11 +70,11 @@ module _ (service bytes table output : List ℕ) (n : ℕ) (after : List ℕ) (h
 
   -- nothing was refused, and the answer is the text's length
   write_told : (write_refusal service bytes table output ≡ none) × (n ∷ [] ≡ length text ∷ [])
-  unfolding write toldStored
+  unfolding write told_stored
   write_told = given_is (length text ∷ []) (n ∷ []) (write_refusal service bytes table output) h.0
 
   write_zero : (write service bytes table output).number ≡ 0
-  unfolding toldStored given
+  unfolding told_stored given
   write_zero = sym (ap (λ (a : Answer). a.number) h.0)
 
   -- the text stands at the front
@@ -87,11 +87,11 @@ module _ (buffer numbers s : List ℕ) (b k : ℕ) (bytesAfter tableAfter : List
     (h : Reads buffer numbers s (Values b k) bytesAfter tableAfter) where
   -- nothing was refused, and the answer is both lengths
   read_told : (read_refusal buffer numbers s ≡ none) × (b ∷ k ∷ [] ≡ length (value_bytes s) ∷ length (value_table s) ∷ [])
-  unfolding read toldListed
+  unfolding read told_listed
   read_told = given_is (length (value_bytes s) ∷ length (value_table s) ∷ []) (b ∷ k ∷ []) (read_refusal buffer numbers s) h.0
 
   read_zero : (read buffer numbers s).number ≡ 0
-  unfolding toldListed given
+  unfolding told_listed given
   read_zero = sym (ap (λ (a : Answer). a.number) h.0)
 
   -- the value list stands at the front of both
@@ -133,7 +133,7 @@ read_short buffer numbers s a r e =
 module _ (buffer s : List ℕ) (n : ℕ) (after : List ℕ) (h : Normalises buffer s (Length n) after) where
   -- nothing was refused, and the answer is the length
   normalise_told : (normalise_refusal buffer s ≡ none) × (n ∷ [] ≡ length (normal_form s) ∷ [])
-  unfolding normalise toldStored
+  unfolding normalise told_stored
   normalise_told = given_is (length (normal_form s) ∷ []) (n ∷ []) (normalise_refusal buffer s) h.0
 
   input_accepted : refusal_of s ≡ none
@@ -166,7 +166,7 @@ module _ (buffer s : List ℕ) (n : ℕ) (after : List ℕ) (h : Normalises buff
 
 write_read : (service bytes table output : List ℕ) (n : ℕ) (after : List ℕ)
     → Writes service bytes table output (Length n) after → ReadAfterWrite bytes table (take n after)
-unfolding read toldListed
+unfolding read told_listed
 write_read service bytes table output n after h =
     let back = written_back service bytes table output (write_zero service bytes table output n after h) in
     let passed = written_accepted service bytes table output (write_told service bytes table output n after h).0 in
@@ -203,7 +203,7 @@ read_write buffer numbers s b k bytesAfter tableAfter r service output n after w
 
 -- what Judge accepts, the rules allow
 judge_allows : (s : List ℕ) (i : Figures) → Judges s (Accepted i) → Allowed s
-unfolding toldJudged accepted given
+unfolding told_judged accepted given
 judge_allows s i h = (judged_number s).0 (sym (ap (λ (a : Answer). a.number) h))
 
 breaks_alike : (s t : List ℕ) (i : Figures) → Judges s (Accepted i) → ButForBreaks s t → length t ≤ most_bytes → AreSame s t

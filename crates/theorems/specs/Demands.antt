@@ -19,7 +19,7 @@ use Rattle.control_elements.specs.Control.{count_of, decimal}
 use Rattle.stages.specs.Contents.{body_tokens, segments_of, contents, normal_form}
 use Rattle.stages.specs.Places.{unusable_advice, no_opening, stray_releases, unended_segment, broken_tags, misplaced_segments, bad_controls, differing_references, wrong_counts}
 use Rattle.stages.specs.Stages.{refusal_of}
-use Rattle.answers.specs.Answers.{given, refused, refusedInput}
+use Rattle.answers.specs.Answers.{given, refused, refused_input}
 use Rattle.operations.specs.Judge.{judge, normalise_refusal, normalise, normalise_buffer}
 use Rattle.operations.specs.Compare.{compare, keep, of_first, of_second}
 use Rattle.operations.specs.Locate.{located, locate, part_offset, part_length, part}
@@ -230,8 +230,8 @@ pub record Demands : Type 0 where
   pub same_contents : (a b : List ℕ) → Same a b ↔ (Allowed a × Allowed b × (contents a ≡ contents b) × (mark_of a ≡ mark_of b))
   -- "different" exactly when both are accepted and they are not; else the first refusal, with its input
   pub tells_apart : (a b : List ℕ) → (compare a b ≡ given (0 ∷ [])) ↔ (Allowed a × Allowed b × (Same a b → ⊥))
-  pub first_refused : (a b : List ℕ) {r : Refusal} → refusal_of a ≡ some r → compare a b ≡ refusedInput 1 r
-  pub second_refused : (a b : List ℕ) {r : Refusal} → refusal_of a ≡ none → refusal_of b ≡ some r → compare a b ≡ refusedInput 2 r
+  pub first_refused : (a b : List ℕ) {r : Refusal} → refusal_of a ≡ some r → compare a b ≡ refused_input 1 r
+  pub second_refused : (a b : List ℕ) {r : Refusal} → refusal_of a ≡ none → refusal_of b ≡ some r → compare a b ≡ refused_input 2 r
   pub same_self : {a : List ℕ} → Allowed a → Same a a
   pub same_back : {a b : List ℕ} → Same a b → Same b a
   pub same_on : {a b c : List ℕ} → Same a b → Same b c → Same a c

@@ -31,7 +31,7 @@ use Rattle.answers.specs.declared.Judged.{Judged}
 use Rattle.answers.specs.declared.Judged.TheVariants as judged_as
 use Rattle.answers.specs.declared.Stored.{Stored}
 use Rattle.answers.specs.declared.Stored.TheVariants.{Length, Refused}
-use Rattle.answers.specs.Answers.{given, refused, toldStored}
+use Rattle.answers.specs.Answers.{given, refused, told_stored}
 use Rattle.operations.specs.Judge.{short_for, stored_in, unless_refused}
 use Rattle.operations.specs.ValueList.{Entry, entries, listed_in, segments_listed, trim_list}
 use Rattle.operations.specs.Write.{numbers_where, bad_table, bad_list, unusable_bytes, cannot_stand, needs_release, written_text, write_stages, write_refusal, write, write_output}
@@ -65,10 +65,10 @@ all_zero l =
 -- a refusal that answers, and an output that is left zero
 pub refused_written : {o : Option Refusal} (size : ℕ) (text before : List ℕ) {r : Refusal} {s : Stored} {after : List ℕ} → o ≡ some r
     → s ≡ Refused r → after ≡ replicate (length before) 0 → Written o size text before s after
-unfolding toldStored maybe unless_refused
+unfolding told_stored maybe unless_refused
 refused_written size text before e d z =
     record {
-      told = ap toldStored d ∙ sym (ap (maybe (given (size ∷ [])) refused) e);
+      told = ap told_stored d ∙ sym (ap (maybe (given (size ∷ [])) refused) e);
       left = z ∙ sym (ap (λ (p : Option Refusal). unless_refused p text (replicate (length before) 0)) e);
     }
 
@@ -107,7 +107,7 @@ module _ (s : List ℕ) (n : ℕ) (kept before : List ℕ) {j : Judged} (e : Jud
 
   -- Judge accepts
   pub judged_accepted : {i : Figures} → j ≡ judged_as.Accepted i → Written (refusal_of s) n kept before (Length n) kept
-  unfolding toldStored maybe unless_refused
+  unfolding told_stored maybe unless_refused
   judged_accepted d =
       let passed = (told_accepted s e d).0 in
       record {

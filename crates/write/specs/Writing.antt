@@ -7,7 +7,7 @@ use Rattle.refusals.specs.declared.Refusal.{Refusal}
 use Rattle.refusals.specs.Refusals.{answering}
 use Rattle.answers.specs.declared.Stored.{Stored}
 use Rattle.answers.specs.declared.Stored.TheVariants.{Refused}
-use Rattle.answers.specs.Answers.{given, refused, toldStored}
+use Rattle.answers.specs.Answers.{given, refused, told_stored}
 use Rattle.operations.specs.Judge.{stored_in, unless_refused}
 use Rattle.operations.specs.ValueList.{listed_in}
 use Rattle.operations.specs.Write.{written_text, write_stages}
@@ -17,7 +17,7 @@ use Rattle.refusals.specs.Limits.{most_numbers}
 
 -- the answer is the refusal, if any, or the length; the output is the text where nothing is refused, and zero otherwise
 pub record Written (o : Option Refusal) (size : ℕ) (text before : List ℕ) (r : Stored) (after : List ℕ) : Type 0 where
-  pub told : toldStored r ≡ maybe (given (size ∷ [])) refused o
+  pub told : told_stored r ≡ maybe (given (size ∷ [])) refused o
   pub left : after ≡ unless_refused o text (replicate (length before) 0)
 
 -- a refusal, and an output that is left zero

@@ -15,7 +15,7 @@ use Rattle.column_lines.proofs.Numbers.{cell_length}
 use Rattle.column_lines.proofs.put_column.Given as goal
 
 abbrev pub invariant-loop-to : goal.invariant-loop-to
-invariant-loop-to l =    (l.at ≤ l.to)
+invariant-loop-to l = (l.at ≤ l.to)
     × (l.to ≤ l.end)
     × (length l.buffer ≡ length l.initial.buffer)
     × (sets l.buffer l.at (last_digits (l.to - l.at) l.left) ≡ sets l.initial.buffer l.at (in_decimal l.n))

@@ -11,7 +11,7 @@ use Rattle.column_lines.proofs.Digits.{digits_stand, stand_all, stand_differs, s
 use Rattle.column_lines.proofs.stands.Given as goal
 
 abbrev pub invariant-loop-from : goal.invariant-loop-from
-invariant-loop-from l =    (l.at ≤ l.from) × (l.from ≤ length l.s) × (begins (in_decimal l.n) (drop l.at l.s) ≡ digits_stand l.s l.at (l.from - l.at) l.left)
+invariant-loop-from l = (l.at ≤ l.from) × (l.from ≤ length l.s) × (begins (in_decimal l.n) (drop l.at l.s) ≡ digits_stand l.s l.at (l.from - l.at) l.left)
 
 abbrev pub decreases-loop-from : goal.decreases-loop-from
 decreases-loop-from l = l.from

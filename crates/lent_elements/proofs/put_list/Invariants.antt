@@ -16,7 +16,7 @@ use Rattle.lent_elements.proofs.Records.{rest_from, whole, Going, first_record_l
 use Rattle.lent_elements.proofs.put_list.Given as goal
 
 abbrev pub invariant-loop-at : goal.invariant-loop-at
-invariant-loop-at l =    Goes l.initial.buffer l.buffer l.initial.n.total l.n.total (emitted l.c l.initial.n.held (rest_from l.bytes l.table l.initial.at)) (emitted l.c l.n.held (rest_from l.bytes l.table l.at))
+invariant-loop-at l = Goes l.initial.buffer l.buffer l.initial.n.total l.n.total (emitted l.c l.initial.n.held (rest_from l.bytes l.table l.initial.at)) (emitted l.c l.n.held (rest_from l.bytes l.table l.at))
     × Going l.bytes l.table l.c l.initial.n l.initial.at l.n l.at
 
 abbrev pub decreases-loop-at : goal.decreases-loop-at

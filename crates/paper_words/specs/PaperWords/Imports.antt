@@ -26,7 +26,7 @@ pub use Rattle.answers.specs.declared.Stored.TheVariants as stored
 pub use Rattle.answers.specs.declared.Compared.TheVariants as compared
 pub use Rattle.answers.specs.declared.Located.TheVariants as located
 pub use Rattle.answers.specs.declared.Listed.TheVariants as listed
-pub use Rattle.answers.specs.Answers.{Answer, toldJudged, toldStored, toldCompared, toldLocated, toldListed}
+pub use Rattle.answers.specs.Answers.{Answer, told_judged, told_stored, told_compared, told_located, told_listed}
 pub use Rattle.operations.specs.Judge.{judge}
 pub use Rattle.operations.specs.ValueList.{Item, list_of, list_bytes, list_table, listed_in, segments_listed, trim_list}
 pub use Rattle.operations.specs.Read.{value_bytes, value_table}

@@ -1,7 +1,7 @@
 -- `read::store_list` meets its contract: 14 answers for the byte buffer, then for the table, or both are stored. Assumes nothing.
 use mathlib.Core.Path.{ap, ◌∙◌}
 use native.Mathlib.Omega.{arith}
-use Rattle.answers.specs.Answers.{toldListed}
+use Rattle.answers.specs.Answers.{told_listed}
 use Rattle.judge.proofs.Bodies.{accepted_short}
 use Rattle.judge.proofs.Told.{characters_of_lem}
 use Rattle.read.proofs.Reading.{bytes_are, table_is, bytes_needed, numbers_needed, bytes_refused, table_refused, list_stored}
@@ -18,7 +18,7 @@ returns-then-buffer-tally c =
     let d = characters_of_lem s c.requires.1 in
     let p = c.body_start-start.ensures in
     let n = bytes_refused c.args.buffer.now c.args.table.now s a (bytes_needed s a d p c.tally_of-tally.ensures.0) c.if-buffer-tally.true in
-    (ap toldListed c.too_short.ensures ∙ n.0, n.1, n.2)
+    (ap told_listed c.too_short.ensures ∙ n.0, n.1, n.2)
 
 pub returns-then-table-tally : goal.returns-then-table-tally
 returns-then-table-tally c =
@@ -30,7 +30,7 @@ returns-then-table-tally c =
     let n =
     table_refused c.args.buffer.now c.args.table.now s a (bytes_needed s a d p t.0) c.if-buffer-tally.false
     (numbers_needed s a d p t.1) c.if-table-tally.true in
-    (ap toldListed c.too_short-then-table-tally.ensures ∙ n.0, n.1, n.2)
+    (ap told_listed c.too_short-then-table-tally.ensures ∙ n.0, n.1, n.2)
 
 pub put_values-requires : goal.put_values-requires
 put_values-requires c =

@@ -17,7 +17,7 @@ use Rattle.received_pieces.proofs.Steps.{next_as}
 use Rattle.received_pieces.proofs.put_piece.Given as goal
 
 abbrev pub invariant-loop-byte : goal.invariant-loop-byte
-invariant-loop-byte l =    Goes l.initial.buffer l.buffer l.initial.n.total l.n.total (emitted l.c l.initial.n.held (piece_of l.rank (tokens_at l.d l.s l.from))) (emitted l.c l.n.held (piece_of l.rank (tokens_at l.d l.s l.at)))
+invariant-loop-byte l = Goes l.initial.buffer l.buffer l.initial.n.total l.n.total (emitted l.c l.initial.n.held (piece_of l.rank (tokens_at l.d l.s l.from))) (emitted l.c l.n.held (piece_of l.rank (tokens_at l.d l.s l.at)))
     × (after l.c l.initial.n (piece_of l.rank (tokens_at l.d l.s l.from)) ≡ after l.c l.n (piece_of l.rank (tokens_at l.d l.s l.at)))
     × (l.n.total + waiting l.n.held ≤ l.initial.n.total + waiting l.initial.n.held + 2 * l.at)
 

@@ -14,7 +14,7 @@ use Rattle.received_pieces.proofs.Steps.{next_as}
 use Rattle.received_pieces.proofs.values_in.Given as goal
 
 abbrev pub invariant-loop-next : goal.invariant-loop-next
-invariant-loop-next l =    Tallied (ended (piece_of 1 (tokens_at l.d l.s l.from))) l.l (ended (piece_of 1 (tokens_at l.d l.s l.at))) (length l.s - l.at + 1) (length l.s + 1)
+invariant-loop-next l = Tallied (ended (piece_of 1 (tokens_at l.d l.s l.from))) l.l (ended (piece_of 1 (tokens_at l.d l.s l.at))) (length l.s - l.at + 1) (length l.s + 1)
 
 abbrev pub decreases-loop-next : goal.decreases-loop-next
 decreases-loop-next l = length l.s - l.at

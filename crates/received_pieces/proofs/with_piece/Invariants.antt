@@ -14,7 +14,7 @@ use Rattle.received_pieces.proofs.Steps.{next_as}
 use Rattle.received_pieces.proofs.with_piece.Given as goal
 
 abbrev pub invariant-loop-byte : goal.invariant-loop-byte
-invariant-loop-byte l =    (after l.c l.initial.n (piece_of l.rank (tokens_at l.d l.s l.from)) ≡ after l.c l.n (piece_of l.rank (tokens_at l.d l.s l.at)))
+invariant-loop-byte l = (after l.c l.initial.n (piece_of l.rank (tokens_at l.d l.s l.from)) ≡ after l.c l.n (piece_of l.rank (tokens_at l.d l.s l.at)))
     × (l.n.total + waiting l.n.held ≤ l.initial.n.total + waiting l.initial.n.held + 2 * l.at)
 
 abbrev pub decreases-loop-byte : goal.decreases-loop-byte

@@ -13,7 +13,7 @@ use Rattle.shelf_carrying.proofs.Pairs.{start_stays, pair_stored}
 use Rattle.shelf_carrying.proofs.shift_starts.Given as goal
 
 abbrev pub invariant-loop-slot : goal.invariant-loop-slot
-invariant-loop-slot l =    (l.slot ≤ 64) × (length l.s ≡ length l.initial.s) × (l.s ≡ sets l.initial.s l.to.pairs (shifted_pairs (laid l.from) (laid l.to) l.map l.initial.s l.slot))
+invariant-loop-slot l = (l.slot ≤ 64) × (length l.s ≡ length l.initial.s) × (l.s ≡ sets l.initial.s l.to.pairs (shifted_pairs (laid l.from) (laid l.to) l.map l.initial.s l.slot))
 
 abbrev pub decreases-loop-slot : goal.decreases-loop-slot
 decreases-loop-slot l = 64 - l.slot

@@ -7,6 +7,6 @@ use Rattle.shelf_summary.proofs.put_step.Goals as goal
 
 pub returns : goal.returns
 returns c = (
-      c.after_put.ensures,
-      subst (λ (v : Summary). PutStays c.args.placed c.args.u.now v) (sym c.after_put.ensures) (put_stays c.args.u.now c.args.placed),
-    )
+  c.after_put.ensures,
+  subst (λ (v : Summary). PutStays c.args.placed c.args.u.now v) (sym c.after_put.ensures) (put_stays c.args.u.now c.args.placed),
+)

@@ -6,6 +6,6 @@ use Rattle.shelf_summary.proofs.remove_step.Goals as goal
 
 pub returns : goal.returns
 returns c = (
-      c.after_remove.ensures,
-      ap (λ (v : Summary). v.duplicates) c.after_remove.ensures ∙ remove_stays c.args.u.now c.args.slot c.args.taken,
-    )
+  c.after_remove.ensures,
+  ap (λ (v : Summary). v.duplicates) c.after_remove.ensures ∙ remove_stays c.args.u.now c.args.slot c.args.taken,
+)

@@ -2,17 +2,17 @@
 use mathlib.Core.Path.{sym, ap, ◌∙◌}
 use borrow.Author.Rules.{rules}
 use Rattle.answers.specs.declared.Stored.{Stored}
-use Rattle.answers.specs.Answers.{given, toldStored}
+use Rattle.answers.specs.Answers.{given, told_stored}
 use Rattle.surface.specs.Verdicts.{value}
 use Rattle.surface.specs.Answered.{written_of}
 use Rattle.surface.proofs.Laid.{refused_written}
 use Rattle.surface.proofs.laying.written_of.Goals as goal
 
 pub returns-in-Length : goal.returns-in-Length
-unfolding toldStored given written_of value
-returns-in-Length c = sym (ap (λ (x : Stored). written_of (toldStored x)) c.in-Length.is)
+unfolding told_stored given written_of value
+returns-in-Length c = sym (ap (λ (x : Stored). written_of (told_stored x)) c.in-Length.is)
 
 pub returns-in-Refused : goal.returns-in-Refused
-unfolding toldStored
+unfolding told_stored
 returns-in-Refused c = refused_written c.in-Refused.refusal c.refusal_number.ensures
-    ∙ sym (ap (λ (x : Stored). written_of (toldStored x)) c.in-Refused.is)
+    ∙ sym (ap (λ (x : Stored). written_of (told_stored x)) c.in-Refused.is)

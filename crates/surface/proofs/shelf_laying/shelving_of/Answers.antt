@@ -2,20 +2,20 @@
 use mathlib.Core.Path.{◌≡◌, refl, sym, ap, ap₂, subst, ◌∙◌}
 use Rattle.shelves.specs.declared.Shelved.{Shelved}
 use Rattle.answers.specs.Answers.{given}
-use Rattle.shelves.specs.Answers.{newAt, copy_at, toldShelved}
+use Rattle.shelves.specs.Answers.{new_at, copy_at, told_shelved}
 use Rattle.surface.specs.Verdicts.{value}
 use Rattle.surface.specs.OfShelf.{shelving_of}
 use borrow.Author.Rules.{rules}
 use Rattle.surface.proofs.shelf_laying.shelving_of.Goals as goal
 
 pub returns-in-New : goal.returns-in-New
-unfolding toldShelved newAt given shelving_of value
-returns-in-New c = sym (ap (λ (x : Shelved). shelving_of (toldShelved x)) c.in-New.is)
+unfolding told_shelved new_at given shelving_of value
+returns-in-New c = sym (ap (λ (x : Shelved). shelving_of (told_shelved x)) c.in-New.is)
 
 pub returns-in-Copy : goal.returns-in-Copy
-unfolding toldShelved copy_at given shelving_of value
-returns-in-Copy c = sym (ap (λ (x : Shelved). shelving_of (toldShelved x)) c.in-Copy.is)
+unfolding told_shelved copy_at given shelving_of value
+returns-in-Copy c = sym (ap (λ (x : Shelved). shelving_of (told_shelved x)) c.in-Copy.is)
 
 pub returns-in-Refused : goal.returns-in-Refused
-unfolding toldShelved
-returns-in-Refused c = c.shelving_refused.ensures ∙ sym (ap (λ (x : Shelved). shelving_of (toldShelved x)) c.in-Refused.is)
+unfolding told_shelved
+returns-in-Refused c = c.shelving_refused.ensures ∙ sym (ap (λ (x : Shelved). shelving_of (told_shelved x)) c.in-Refused.is)

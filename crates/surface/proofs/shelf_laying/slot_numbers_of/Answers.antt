@@ -2,7 +2,7 @@
 use mathlib.Core.Path.{◌≡◌, refl, sym, ap, ap₂, subst, ◌∙◌}
 use Rattle.shelves.specs.declared.Slots.{Slots}
 use Rattle.answers.specs.Answers.{given}
-use Rattle.shelves.specs.Answers.{toldSlots}
+use Rattle.shelves.specs.Answers.{told_slots}
 use Rattle.surface.specs.Verdicts.{value}
 use Rattle.surface.specs.OfShelf.{slot_numbers_of}
 use Rattle.surface.proofs.Laid.{refused_slots}
@@ -10,9 +10,9 @@ use borrow.Author.Rules.{rules}
 use Rattle.surface.proofs.shelf_laying.slot_numbers_of.Goals as goal
 
 pub returns-in-Numbers : goal.returns-in-Numbers
-unfolding toldSlots given slot_numbers_of value
-returns-in-Numbers c = sym (ap (λ (x : Slots). slot_numbers_of (toldSlots x)) c.in-Numbers.is)
+unfolding told_slots given slot_numbers_of value
+returns-in-Numbers c = sym (ap (λ (x : Slots). slot_numbers_of (told_slots x)) c.in-Numbers.is)
 
 pub returns-in-Refused : goal.returns-in-Refused
-unfolding toldSlots
-returns-in-Refused c = refused_slots c.in-Refused.refusal c.refusal_number.ensures ∙ sym (ap (λ (x : Slots). slot_numbers_of (toldSlots x)) c.in-Refused.is)
+unfolding told_slots
+returns-in-Refused c = refused_slots c.in-Refused.refusal c.refusal_number.ensures ∙ sym (ap (λ (x : Slots). slot_numbers_of (told_slots x)) c.in-Refused.is)
