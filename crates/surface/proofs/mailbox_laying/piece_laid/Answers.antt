@@ -13,7 +13,7 @@ pub returns-in-Stopped : goal.returns-in-Stopped
 unfolding laid_ending
 returns-in-Stopped c =
     let r = c.in-Stopped.refusal in
-    ap (λ (n : ℕ). record { number = n; ended = 0; place = r.place; end = c.args.length }) c.refusal_number.ensures
+    ap (λ (n : ℕ). record { number = n; ended = 0; place = r.place; end = c.args.length }) c.refusal_number-number.ensures
     ∙ sym (ap (laid_ending _) c.in-Stopped.is)
 
 pub returns-in-FileEnd : goal.returns-in-FileEnd

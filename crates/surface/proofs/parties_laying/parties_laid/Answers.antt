@@ -16,7 +16,6 @@ pub returns-in-Failed : goal.returns-in-Failed
 unfolding laid_parties laid_by
 returns-in-Failed c =
     let found = c.args.found in
-    let r = c.outcome-1.given in
     c.parties_beside-in-Failed.ensures
-    ∙ ap (λ (n : ℕ). parties_beside n r.0.0.place found) c.refusal_number.ensures
-    ∙ sym (ap (λ (o : Outcome). laid_by o found) r.1)
+    ∙ ap (λ (n : ℕ). parties_beside n c.in-Failed.refusal.place found) c.refusal_number.ensures
+    ∙ sym (ap (λ (o : Outcome). laid_by o found) c.in-Failed.is)
