@@ -23,6 +23,13 @@ for my $path (glob 'crates/*/must-fail/*.edit') {
     elsif ($told =~ /only because a proof file names/) { fault("$crate/$name is refused first because a proof file does not fit, and shows nothing: $told") }
     else { $read++ }
 }
+# Those that are kept apart, since the check cannot try them, still fit their files.
+for my $path (glob 'tests/edits/*/*.edit') {
+    my ($crate, $name) = $path =~ m{tests/edits/(\w+)/(\w+)\.edit};
+    my (undef, @rest) = lines($path);
+    my $why = misfit($crate, @rest);
+    fault("$crate/$name in tests/edits cannot be applied: $why") if $why;
+}
 print "$read must-fail edits are refused for what they break\n" if $log && !$faults;
 exit($faults ? 1 : 0);
 
