@@ -169,7 +169,7 @@ fn json_of_every_command() {
         (&["shelf", shelf, "start"], 0, "started"),
         (&["shelf", shelf, "put", X], 0, "new"),
         (&["shelf", shelf, "put", X], 1, "copy"),
-        (&["shelf", shelf, "list"], 0, "accepted"),
+        (&["shelf", shelf, "list"], 0, "listed"),
         (&["shelf", shelf, "get", "9"], 1, "refused"),
         (&["shelf", shelf, "remove", "0"], 0, "removed"),
         (&["table", "tests/tables/orders.txt"], 0, "accepted"),
