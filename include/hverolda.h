@@ -37,7 +37,7 @@
  *     hverolda_shelf_put                             34,300
  *     hverolda_write, hverolda_acknowledge            9,600
  *     hverolda_judge_by_table                         2,700
- *     all others                                      2,200
+ *     all others                                      2,300
  * Compare and Keep hold two arrays of 32,000 bytes, or shorter ones where neither input has more than
  * 4,091 bytes; Put holds one of 32,000; Write and Acknowledge have room for one of 8,192, which is used
  * where there is no release character. Judge by a table calls itself for groups within groups, which are

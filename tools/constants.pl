@@ -43,8 +43,9 @@ sub count_source {
     for my $crate (library()) {
         my $code = join "\n", map { slurp($_) } sort glob "crates/$crate/src/*.rt";
         $code =~ s{(?:^|\s)//.*}{}gm;        # comments,
-        $code =~ s{^\s+(?:requires|ensures)\b.*?(?=^\s*(?:requires|ensures)\b|^\s*\{$)}{}gms;    # statements about the code,
+        $code =~ s{^\s+(?:requires|ensures)\b.*?(?:(?=^\s*(?:requires|ensures)\b|^\s*\{$)|;$)}{}gms;    # statements about the code,
         $code =~ s{#!?\[.*?\]}{}gs;          # attributes
+        $code =~ s{<const \w+: \w+>}{}g;     # parameters that say how long an array is
         push @{ $fields{$1} }, [$2 =~ /\w+: ([^,\n]+),/g] while $code =~ /\bstruct (\w+) \{(.*?)\}/gs;
         push @{ $fields{$1} }, [split /,\s*/, $2] while $code =~ /\bstruct (\w+)\((.*?)\);/gs;
         push @{ $number{$1} }, value_of($2) while $code =~ /\bconst (\w+): \w+ = (\w+);/g;
@@ -54,6 +55,7 @@ sub count_source {
         my $code = $code{$crate};
         while ($code =~ s/\b(?:const|static)\s+(\w+)\s*:\s*([^=]+?)\s*=\s*(.*?);//s) {
             my ($name, $type, $value) = ($1, $2, $3);
+            if ($type eq '&[u8]') { $code .= "\n$value"; next }    # a text with a name
             my ($bytes) = size_of($type, \%fields, \%number);
             if ($type =~ /^\w+$/ && $value =~ /^[\d_]+$/) { $limits += $bytes }
             else { push @counted, ["$crate $name", $bytes] }

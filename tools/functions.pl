@@ -27,7 +27,7 @@ print <<"HEAD";
 Made by `perl tools/functions.pl`; the gate fails where this list and the code differ, where a public function has no contract, but for
 those of `printing` and for `inputs::argument_count`, which are public for our own programs (no contract can speak of what is written to
 standard output, or of how a program was started), and where one of the operations, or a function of `surface` or `surface_c`, has a `requires`. A helper that is public only for another crate of ours may have one; all
-functions that have one are listed at the end. `s.now` is what is lent to be read, `buffer.old` what is lent to be
+functions that have one are listed at the end. What a public trait declares stands under the trait's name. `s.now` is what is lent to be read, `buffer.old` what is lent to be
 written, `buffer.new` what is there afterwards, `result` the answer.
 HEAD
 
@@ -40,10 +40,10 @@ my %exception = map { $_ => 1 } map { /`(\w+::\w+)`/g } <$page>;
 # relations that leave one result: the promises, each with its theorem, and those that are made of equations
 my %one_result = map { $_ => 1 } qw(
     Judges Normalises Compares Keeps Locates HandsBack Writes JudgesByTable Starts Gets Measures Removes Carries CarriesBack Acknowledges Exports Imports
-    ReadsOut WritesOut AcknowledgesOut Refuses Written PutAt PastSeparator Stores Tallies Heads PutStays Says
+    ReadsOut WritesOut AcknowledgesOut Refuses Written PutAt Stores Tallies Heads PutStays Says
     SaysJudged SaysJudgedByTable SaysNormalised SaysCompared SaysKept SaysLocated SaysPart SaysListed SaysWritten SaysAcknowledged SaysExported SaysImported
     SaysStarted SaysPut SaysGot SaysRemoved SaysCounted SaysSummed SaysCarried SaysCarriedBack SaysReported
-), 'read Reads', 'report Reports', 'shelf Puts', 'shelf Counts', 'shelf Sums', map { "$_ Puts" } qw(held_separators value_list_text received_pieces);
+), 'read Reads', 'report Reports', 'shelf Puts', 'shelf Counts', 'shelf Sums', 'shelf CopyAt', 'column_lines Ends', map { "$_ Puts" } qw(held_separators value_list_text received_pieces);
 for my $crate (map { /^(\w+)(?: staticlib)?:/ } <$listed>) {
     my @sources;
     find({ no_chdir => 1, wanted => sub { push @sources, $_ if /\.rt$/ } }, "crates/$crate/src");
@@ -121,14 +121,26 @@ sub parts_of {
     return @parts == 1 ? @parts : map { parts_of($_) } @parts;
 }
 
-# The functions of a file: name, signature, clauses of the contract.
+# The functions of a file: name, signature, clauses of the contract. What a public trait declares is public, under the trait's name; a
+# method of an impl has the contract that its trait declares, and is not listed.
 sub functions_of {
     my ($file) = @_;
     open my $source, '<:encoding(UTF-8)', $file or die "$file: $!";
     my $text = join '', <$source>;
     my @functions;
-    # what stands before the body, whose brace ends the signature's line or has a line of its own
-    while ($text =~ /^\h*((pub )?(?:extern "C" )?fn (\w+).*?)(?:^\h*\{|\{$)/msg) {
+    $text =~ s/^impl\b[^{;]*\bfor\b[^{]*\{\n.*?^\}\n//msg;
+    while ($text =~ s/^(pub )?trait (\w+)[^{]*\{\n(.*?)^\}\n//ms) {
+        my ($public, $trait, $declared) = ($1, $2, $3);
+        push @functions, map { $_->{name} = "$trait\::$_->{name}"; $_->{public} = $public; $_ } declared_in($file, $declared);
+    }
+    return (declared_in($file, $text), @functions);
+}
+
+sub declared_in {
+    my ($file, $text) = @_;
+    my @functions;
+    # what stands before the body, whose brace ends the signature's line or has a line of its own; a declaration ends with a semicolon
+    while ($text =~ /^\h*((pub )?(?:extern "C" )?fn (\w+).*?)(?:^\h*\{|\{\}?$|;$)/msg) {
         my ($public, $name) = ($2, $3);
         my ($signature, @clauses) = split /^\s+(?=requires\b|ensures\b)/m, $1;
         push @functions, {
@@ -155,5 +167,6 @@ sub fault {
 sub item {
     my ($f) = @_;
     my ($signature, @clauses) = map { s/\s+/ /gr =~ s/ $//r } $f->{signature}, @{ $f->{clauses} };
-    return join '', "- `$signature`\n", map { "  - `$_`\n" } @clauses;
+    my $of = $f->{name} =~ /^(\w+)::/ ? "`$1`: " : '';
+    return join '', "- $of`$signature`\n", map { "  - `$_`\n" } @clauses;
 }

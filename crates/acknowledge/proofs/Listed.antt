@@ -38,7 +38,7 @@ use Rattle.value_lists.proofs.Records.{records_end}
 use Rattle.value_list_text.specs.Composing.{item_of}
 use Rattle.write.proofs.Writing.{list_passed}
 use Rattle.received_pieces.specs.Pieces.{element_in, Spelt}
-use Rattle.lent_elements.specs.Leading.{leading}
+use Rattle.lent_elements.specs.Leading.{leading, lent_items}
 use Rattle.acknowledgements.specs.Lent.{LentList, Lent, element_lent, is_bad_lent, any_bad_lent}
 use Rattle.acknowledgements.specs.Received.{element_of, sender_of, recipient_of, reference_received, level_received, version_received, action_code, characters_to_write, cannot_be_acknowledged}
 use Rattle.acknowledgements.specs.Acknowledgement.{only, word, acknowledgement, items_of}
@@ -47,7 +47,7 @@ use Rattle.acknowledgement_laws.proofs.Theorems.{ready, list_shaped}
 use Rattle.acknowledgement_parts.specs.declared.Part.{Part}
 use Rattle.acknowledgement_parts.specs.declared.Part.TheVariants.{Syntax, Element, Date, Reference, Message}
 use Rattle.acknowledgement_parts.specs.declared.Received.{Received}
-use Rattle.acknowledgement_parts.specs.Parts.{words, tag_at, figure_at, parts_of, lent_items, part_items, row_items, Lendable, Fine, Stands}
+use Rattle.acknowledgement_parts.specs.Parts.{words, tag_at, figure_at, parts_of, part_items, row_items, Lendable, Fine, Stands}
 use Rattle.reported.specs.Reporting.{action_place, Takes}
 use Rattle.acknowledge.specs.Rows.{row, Ready, AllStand}
 use Rattle.acknowledge.proofs.Taken.{input_short, form_releases, element_taken, element_single, sender_spelt, recipient_spelt, reference_spelt, level_taken, version_taken}

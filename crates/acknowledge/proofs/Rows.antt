@@ -1,5 +1,5 @@
 -- The parts one after the other: their records, and how the text goes on from each. Assumes nothing.
-use Rattle.std.specs.Prelude.{if◌then◌else◌}
+use Rattle.std.specs.Prelude.{if◌then◌else◌, Ok, Err}
 use Prim.Native.Nat.{ℕ, suc, ◌+◌, ◌≤◌, ◌<◌}
 use mathlib.Core.Path.{◌≡◌, refl, sym, ap, subst, ◌∙◌}
 use mathlib.Core.Bool.{Bool, true, false, false≢true}
@@ -10,45 +10,44 @@ use native.Mathlib.Numerals.{add-one}
 use native.Mathlib.Nat.{add-zero}
 use lib.Dec.{eqb, leb}
 use lib.ListN.{length, drop, length-append, drop_of_length-le}
-use lib.Seq.{sets, drop-cons}
+use lib.Seq.{drop-cons}
 use borrow.Author.Tests.{le-leb}
 use Rattle.lists.specs.Lists.{is_empty, all, gather}
 use Rattle.lists.proofs.Texts.{gather_append}
 use Rattle.characters.specs.declared.Characters.{Characters}
 use Rattle.refusals.specs.declared.Fault.TheVariants.{NeedsRelease}
 use Rattle.refusals.specs.declared.Refusal.{Refusal}
-use Rattle.refusals.specs.declared.Outcome.{Outcome}
-use Rattle.refusals.specs.declared.Outcome.TheVariants.{Passed, Failed}
-use Rattle.refusals.specs.Refusals.{or_else, outcome, failed_at}
+use Rattle.refusals.specs.Refusals.{or_else, outcome, failed_at, Outcome}
 use Rattle.refusals.specs.Limits.{most_bytes}
 use Rattle.refusals.proofs.Stages.{failed_is, passed_is}
 use Rattle.values.specs.Tokens.{Token, separator, tokens_at}
 use Rattle.values.specs.Spelling.{Bytes}
 use Rattle.nesting.specs.Nesting.{shaped}
-use Rattle.storing.proofs.Stores.{Goes, front_fits, goes_step}
-use Rattle.emission_laws.specs.declared.Held.{Held}
+use Rattle.storing.specs.Sinks.{SinkLaws}
+use Rattle.storing.proofs.Putting.{put_after, room_left}
 use Rattle.emission_laws.specs.declared.Measure.{Measure}
 use Rattle.emission_laws.specs.Emission.{nothing, waiting, held_after, emitted, after}
 use Rattle.emission_laws.proofs.Steps.{emitted_append, goes_on, terminator_text}
-use Rattle.held_separators.specs.Putting.{Fits}
+use Rattle.held_separators.specs.Putting.{Fits, Puts}
 use Rattle.stage_walks.specs.Walks.{refuse}
 use Rattle.operations.specs.ValueList.{Item, Entry, entries, value_in, rank_of, list_repeat, list_element, listed_in}
 use Rattle.value_lists.specs.Records.{record_at}
 use Rattle.value_lists.proofs.Records.{records_next}
-use Rattle.value_list_text.specs.Composing.{record_tokens, list_tokens, first_measure, composed_text, capped}
-use Rattle.value_list_text.specs.Advancing.{records_tokens, Alike, Advanced, Appended}
+use Rattle.value_list_text.specs.Composing.{record_tokens, list_tokens, first_measure, composed_text, HasRoom, Composes}
+use Rattle.value_list_text.specs.Advancing.{records_tokens, Alike}
 use Rattle.value_list_text.proofs.Composed.{text_length, ended_total}
-use Rattle.value_list_text.proofs.Lengths.{capped_over, capped_last}
+use Rattle.value_list_text.proofs.Lengths.{capped_last}
+use Rattle.value_list_text.proofs.Putting.{given_up}
 use Rattle.value_list_text.proofs.Advancing.{lead_emitted, lead_alike, end_alike, alike_same, alike_trans}
 use Rattle.received_pieces.specs.Pieces.{element_in}
 use Rattle.received_pieces.proofs.Trimmed.{element_shaped}
-use Rattle.lent_elements.specs.Leading.{leading}
+use Rattle.lent_elements.specs.Leading.{leading, Advances}
 use Rattle.lent_elements.proofs.Records.{most_start}
 use Rattle.acknowledgements.specs.Lent.{LentList, Lent}
 use Rattle.acknowledgement_parts.specs.declared.Part.{Part}
 use Rattle.acknowledgement_parts.specs.declared.Part.TheVariants.{Word, Syntax, Element, Date, Reference, Message}
 use Rattle.acknowledgement_parts.specs.declared.Received.{Received}
-use Rattle.acknowledgement_parts.specs.Parts.{parts_of, part_items, row_items, Lendable, Fine, is_bare, first_bare}
+use Rattle.acknowledgement_parts.specs.Parts.{parts_of, part_items, row_items, Lendable, Fine, Puttable, is_bare, first_bare}
 use Rattle.acknowledgement_parts.proofs.Parts.{ranked}
 use Rattle.acknowledge.specs.Rows.{part_of, row_from, row}
 
@@ -131,7 +130,7 @@ module _ (c : Characters) (s : List ℕ) (l : Lent) (r : Received) (n i : ℕ) (
   goes = g ∙ ap (first_bare c n) (row_next s l r i h) ∙ bare_append c n here (row_from s l r (i + 1))
 
   -- the part has one
-  pub part_bare : {o : Outcome} {q : Refusal} → o ≡ outcome (first_bare c 0 here) → o ≡ Failed q
+  pub part_bare : {o : Outcome} {q : Refusal} → o ≡ outcome (first_bare c 0 here) → o ≡ Err q
       → (failed_at NeedsRelease (n + q.place) ≡ outcome (first_bare c 0 (row s l r))) × (q.place < length here)
   unfolding or_else outcome
   part_bare {o} {q} e d =
@@ -139,7 +138,7 @@ module _ (c : Characters) (s : List ℕ) (l : Lent) (r : Received) (n i : ℕ) (
       (sym (ap outcome (goes ∙ ap (λ (p : Option Refusal). or_else p (first_bare c (n + length here) (row_from s l r (i + 1)))) (ap (λ (k : ℕ). first_bare c k here) (sym (add-zero n)) ∙ found))), omega (arith, low))
 
   -- it has none
-  pub part_stands : {o : Outcome} → o ≡ outcome (first_bare c 0 here) → o ≡ Passed → {k : ℕ} → k ≡ length here
+  pub part_stands : {o : Outcome} → o ≡ outcome (first_bare c 0 here) → o ≡ Ok tt → {k : ℕ} → k ≡ length here
       → first_bare c 0 (row s l r) ≡ first_bare c (n + k) (row_from s l r (i + 1))
   unfolding or_else
   part_stands e d {k} m =
@@ -149,15 +148,11 @@ module _ (c : Characters) (s : List ℕ) (l : Lent) (r : Received) (n i : ℕ) (
 
 -- no part is left
 pub none_left : (c : Characters) (s : List ℕ) (l : Lent) (r : Received) (n i : ℕ) → 20 ≤ i → first_bare c 0 (row s l r) ≡ first_bare c n (row_from s l r i)
-    → Passed ≡ outcome (first_bare c 0 (row s l r))
+    → Ok tt ≡ outcome (first_bare c 0 (row s l r))
 unfolding first_bare outcome
 none_left c s l r n i h g = sym (ap outcome (g ∙ ap (first_bare c n) (row_end s l r i h)))
 
 -- ---- how the text goes on
-
--- there is room in the count of what is held back for the records of a part
-abbrev pub Few : List ℕ → Characters → Lent → Measure → Part → Type 0
-Few s d l m p = waiting m.held + length (part_items s d l p) ≤ most_bytes
 
 -- the records begin an element or a segment
 record Led (items : List Item) : Type 0 where
@@ -244,7 +239,7 @@ module _ (c : Characters) (s : List ℕ) (l : Lent) (r : Received) where
   unfolding after
   size = text_length c (row s l r)
 
-  pub reached_start : length (row s l r) ≤ most_bytes → {m : Measure} → m ≡ first_measure → Reached c s l r m 0
+  reached_start : length (row s l r) ≤ most_bytes → {m : Measure} → m ≡ first_measure → Reached c s l r m 0
   reached_start h e =
       record {
         ideal = first_measure;
@@ -271,13 +266,13 @@ module _ (c : Characters) (s : List ℕ) (l : Lent) (r : Received) where
     further = goes_on c g.ideal g.moved (records_tokens now) (closing (row_from s l r (i + 1))) rest_is refl
 
     -- the whole is at least as long as what is passed with the part
-    pub part_most : (after c m (records_tokens now)).total ≤ (after c first_measure whole).total
+    part_most : (after c m (records_tokens now)).total ≤ (after c first_measure whole).total
     part_most = omega (arith, beyond.total, ap (λ (k : Measure). k.total) further, most_start c (after c g.ideal (records_tokens now)) (closing (row_from s l r (i + 1))))
 
-    pub part_few : waiting m.held + length now ≤ most_bytes
+    part_few : waiting m.held + length now ≤ most_bytes
     part_few = omega (arith, g.few, length_next s l r i h)
 
-    pub reached_on : {n : Measure} → Alike n (after c m (records_tokens now)) → waiting n.held ≤ waiting m.held + length now → Reached c s l r n (i + 1)
+    reached_on : {n : Measure} → Alike n (after c m (records_tokens now)) → waiting n.held ≤ waiting m.held + length now → Reached c s l r n (i + 1)
     reached_on a few =
         record {
           ideal = after c g.ideal (records_tokens now);
@@ -287,42 +282,39 @@ module _ (c : Characters) (s : List ℕ) (l : Lent) (r : Received) where
           inside = omega (arith, h);
         }
 
-    pub reached_next : {n : Measure} → Advanced c m now n → n.total ≤ most_bytes → Reached c s l r n (i + 1)
-    reached_next a k = reached_on (a.known k) (a.few k)
+  -- a terminator after all of them
+  module _ {m : Measure} {i : ℕ} (g : Reached c s l r m i) (h : 20 ≤ i) where
+    reached_end : {n : Measure} → n ≡ after c m (separator 0 0 ∷ []) → n.total ≡ length (composed_text c (row s l r))
+    unfolding gather
+    reached_end e =
+        ap (λ (x : Measure). x.total)
+        (e ∙ end_alike c m g.ideal g.alike ∙ ap (λ (items : List Item). after c g.ideal (closing items)) (sym (row_end s l r i h)) ∙ sym g.moved)
+        ∙ sym size
 
-    pub reached_over : {n : Measure} → Advanced c m now n → most_bytes < n.total → 32001 ≡ capped (length (composed_text c (row s l r)))
-    reached_over a k = capped_over (length (composed_text c (row s l r))) (omega (arith, a.over k, part_most, size))
+-- ---- put one after the other
 
-  pub reached_end : {m : Measure} {i : ℕ} → Reached c s l r m i → 20 ≤ i → {n : Measure} → n ≡ after c m (separator 0 0 ∷ []) → m.total ≤ most_bytes
-      → n.total ≡ capped (length (composed_text c (row s l r)))
-  unfolding gather
-  reached_end {m} {i} g h {n} e k =
-      let last : n.total ≡ length (composed_text c (row s l r)) =
-      ap (λ (x : Measure). x.total)
-      (e ∙ end_alike c m g.ideal g.alike ∙ ap (λ (items : List Item). after c g.ideal (closing items)) (sym (row_end s l r i h)) ∙ sym g.moved)
-      ∙ sym size in
-      last ∙ capped_last (length (composed_text c (row s l r))) (omega (arith, last, ended_total c m e))
-
--- ---- stored one after the other
-
--- What is left, stored from the place reached, gives what all of it, stored at the advice's last byte, gives.
-pub record Storing (c : Characters) (s : List ℕ) (l : Lent) (r : Received) (before output : List ℕ) (m : Measure) (i : ℕ) : Type 0 where
+-- What is left, put from the place reached, gives what all of it, put at the advice's last byte, gives; the text is not over 32,000 bytes yet.
+pub record Underway (holds : List ℕ → ℕ → List ℕ → List ℕ) (room : List ℕ → ℕ) (c : Characters) (s : List ℕ) (l : Lent) (r : Received) (before output : List ℕ)
+    (m : Measure) (i : ℕ) : Type 0 where
   pub reached : Reached c s l r m i
-  pub goes : Goes before output 8 m.total (emitted c nothing (list_tokens (row s l r))) (emitted c reached.ideal.held (closing (row_from s l r i)))
+  pub put : holds before 8 (emitted c nothing (list_tokens (row s l r))) ≡ holds output m.total (emitted c reached.ideal.held (closing (row_from s l r i)))
+  pub same_room : room output ≡ room before
+  pub short : m.total ≤ most_bytes
 
-module _ (c : Characters) (s : List ℕ) (l : Lent) (r : Received) (before : List ℕ) where
-  pub storing_start : length (row s l r) ≤ most_bytes → 8 + length (emitted c nothing (list_tokens (row s l r))) ≤ length before → {held : Held} → held ≡ nothing
-      → Storing c s l r before before (record { total = 8; held = held }) 0
+module _ {holds : List ℕ → ℕ → List ℕ → List ℕ} {room : List ℕ → ℕ} (laws : SinkLaws holds room) (c : Characters) (s : List ℕ) (l : Lent) (r : Received)
+    (before : List ℕ) where
+  pub underway_start : length (row s l r) ≤ most_bytes → {m : Measure} → m ≡ first_measure → Underway holds room c s l r before before m 0
   unfolding reached_start
-  storing_start few room e =
-      record {
-        reached = reached_start c s l r few (ap (λ (h : Held). record { total = 8; held = h }) e);
-        goes =
-            subst (λ (text : List ℕ). Goes before before 8 8 (emitted c nothing (list_tokens (row s l r))) text) (ap (emitted c nothing) (closing_list (row s l r)))
-            (record { stored = refl; fits = room; as_long = refl });
-      }
+  underway_start few e =
+      subst (λ (x : Measure). Underway holds room c s l r before before x 0) (sym e)
+      (record {
+        reached = reached_start c s l r few refl;
+        put = ap (λ (ts : List Token). holds before 8 (emitted c nothing ts)) (closing_list (row s l r));
+        same_room = refl;
+        short = omega arith;
+      })
 
-  module _ {output : List ℕ} {m : Measure} {i : ℕ} (g : Storing c s l r before output m i) (h : i < 20) (fine : Fine s r.characters l (part_of r i)) where
+  module _ {output : List ℕ} {m : Measure} {i : ℕ} (g : Underway holds room c s l r before output m i) (h : i < 20) (fine : Fine s r.characters l (part_of r i)) where
     abbrev part : List Item
     part = part_items s r.characters l (part_of r i)
 
@@ -337,21 +329,34 @@ module _ (c : Characters) (s : List ℕ) (l : Lent) (r : Received) (before : Lis
         ∙ emitted_append c g.reached.ideal.held (records_tokens part) (closing (row_from s l r (i + 1)))
         ∙ ap (λ (text : List ℕ). text ++ emitted c (held_after g.reached.ideal.held (records_tokens part)) (closing (row_from s l r (i + 1)))) (sym same)
 
-    pub part_fits : Fits c output m (records_tokens part)
-    part_fits = front_fits g.goes (emitted c m.held (records_tokens part)) (emitted c (after c g.reached.ideal (records_tokens part)).held (closing (row_from s l r (i + 1)))) left
+    -- the part can be put
+    pub part_ready : length s ≤ most_bytes → HasRoom room (composed_text c (row s l r)) before → Puttable room c output s r.characters l (part_of r i) m
+    unfolding after
+    part_ready short f =
+        (fine, g.short, part_few c s l r g.reached h fine, short, omega (arith, f, g.same_room, part_most c s l r g.reached h fine, size c s l r))
 
-    pub storing_next : {stored : List ℕ} {n : Measure} → Appended c output m part stored n → Storing c s l r before stored n (i + 1)
-    unfolding after reached_on held_after
-    storing_next {stored} {n} a =
-        record {
-          reached = reached_on c s l r g.reached h fine a.known a.few;
-          goes =
-              goes_step g.goes (emitted c m.held (records_tokens part)) (emitted c (after c g.reached.ideal (records_tokens part)).held (closing (row_from s l r (i + 1)))) left
-              a.stored a.known.total;
-        }
+    module _ {put : List ℕ} {n : Measure} (a : Advances holds c output m part put n) where
+      pub underway_next : n.total ≤ most_bytes → Underway holds room c s l r before put n (i + 1)
+      unfolding after reached_on held_after
+      underway_next k =
+          let stored = a.all k in
+          let front = emitted c m.held (records_tokens part) in
+          record {
+            reached = reached_on c s l r g.reached h fine stored.known stored.few;
+            put =
+                g.put
+                ∙ ap (holds output m.total) left
+                ∙ sym (put_after laws output m.total front (emitted c (after c g.reached.ideal (records_tokens part)).held (closing (row_from s l r (i + 1)))) stored.stored stored.known.total refl);
+            same_room = room_left laws output m.total front stored.stored ∙ g.same_room;
+            short = k;
+          }
+
+      -- the text is over 32,000 bytes
+      pub underway_over : {left : List ℕ} → most_bytes < n.total → Composes holds c (row s l r) before left 32001
+      underway_over k = given_up c (row s l r) (omega (arith, a.over k, part_most c s l r g.reached h fine, size c s l r))
 
   -- the last segment is ended
-  module _ {output : List ℕ} {m : Measure} {i : ℕ} (g : Storing c s l r before output m i) (h : 20 ≤ i) where
+  module _ {output : List ℕ} {m : Measure} {i : ℕ} (g : Underway holds room c s l r before output m i) (h : 20 ≤ i) where
     last : emitted c g.reached.ideal.held (closing (row_from s l r i)) ≡ emitted c m.held (separator 0 0 ∷ [])
     unfolding gather
     last =
@@ -359,21 +364,16 @@ module _ (c : Characters) (s : List ℕ) (l : Lent) (r : Received) (before : Lis
         ∙ terminator_text c g.reached.ideal.held 0 refl
         ∙ sym (terminator_text c m.held 0 refl)
 
-    pub end_fits : Fits c output m (separator 0 0 ∷ [])
-    end_fits = omega (arith, g.goes.fits, ap length last)
+    pub end_fits : HasRoom room (composed_text c (row s l r)) before → Fits room c output m (separator 0 0 ∷ [])
+    unfolding after
+    end_fits f =
+        let n : Measure = after c m (separator 0 0 ∷ []) in
+        omega (arith, f, g.same_room, g.short, reached_end c s l r g.reached h {n = n} refl, ended_total c m {n = n} refl)
 
-    pub storing_end : {stored : List ℕ} → stored ≡ sets output m.total (emitted c m.held (separator 0 0 ∷ []))
-        → stored ≡ sets before 8 (emitted c nothing (list_tokens (row s l r)))
-    storing_end e = e ∙ ap (sets output m.total) (sym last) ∙ sym g.goes.stored
-
-  -- how much is held back, and how long the text is so far
-  pub held_few : {output : List ℕ} {m : Measure} {i : ℕ} → Storing c s l r before output m i
-      → m.total + waiting m.held ≤ 8 + length (emitted c nothing (list_tokens (row s l r))) + most_bytes
-  unfolding after
-  held_few {m = m} g =
-      omega (arith, g.reached.few, g.reached.alike.total, ap (λ (k : Measure). k.total) g.reached.moved)
-
-pub whole_total : (c : Characters) (s : List ℕ) (l : Lent) (r : Received)
-    → (after c first_measure (list_tokens (row s l r))).total ≡ 8 + length (emitted c nothing (list_tokens (row s l r)))
-unfolding after
-whole_total c s l r = refl
+    pub underway_end : {put : List ℕ} {n : Measure} → Puts holds c output m (separator 0 0 ∷ []) put n → Composes holds c (row s l r) before put n.total
+    underway_end (p, e) =
+        let ended = reached_end c s l r g.reached h e in
+        record {
+          measured = ended ∙ capped_last (length (composed_text c (row s l r))) (omega (arith, ended, g.short, ended_total c m e));
+          whole = λ k. p ∙ ap (holds output m.total) (sym last) ∙ sym g.put;
+        }

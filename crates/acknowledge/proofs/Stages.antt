@@ -1,5 +1,6 @@
 -- One stage after the other: 23, then 15 of a lent list, then the writer's for the list put together, asked of its records. Assumes nothing.
-use Rattle.std.specs.Prelude.{if◌then◌else◌}
+use Rattle.answers.specs.Answers.{Stored}
+use Rattle.std.specs.Prelude.{if◌then◌else◌, Ok, Err}
 use Prim.Native.Nat.{ℕ, ◌+◌, ◌≤◌, ◌<◌}
 use mathlib.Core.Path.{◌≡◌, refl, sym, ap, ap₂, subst, ◌∙◌}
 use mathlib.Core.Bool.{Bool, true, false, ◌||◌, or-true}
@@ -12,13 +13,10 @@ use Rattle.characters.specs.declared.Characters.{Characters}
 use Rattle.characters.specs.Characters.{usable, six_bytes, spelled_out, advice_of}
 use Rattle.refusals.specs.declared.Fault.TheVariants.{TooLong, BufferShort, BadList, NoAcknowledgement}
 use Rattle.refusals.specs.declared.Refusal.{Refusal}
-use Rattle.refusals.specs.declared.Outcome.{Outcome}
-use Rattle.refusals.specs.declared.Outcome.TheVariants as outcome_as
-use Rattle.refusals.specs.Refusals.{answering, outcome}
+use Rattle.refusals.specs.Refusals.{answering, outcome, Outcome}
 use Rattle.refusals.specs.Limits.{most_bytes}
 use Rattle.refusals.proofs.Stages.{one_place}
 use Rattle.stages.specs.Stages.{refusal_of}
-use Rattle.answers.specs.declared.Stored.{Stored}
 use Rattle.operations.specs.Judge.{stored_in}
 use Rattle.operations.specs.ValueList.{Item, list_bytes, list_table}
 use Rattle.operations.specs.Write.{bad_list}
@@ -69,11 +67,11 @@ module _ (c : Characters) (items : List Item) (output : List ℕ) where
 
     -- 16
     module _ {o : Outcome} (e : o ≡ outcome (first_bare c 0 items)) where
-      pub bare_answers : {q : Refusal} → o ≡ outcome_as.Failed q → {r : Stored} {after : List ℕ} → Refuses q output r after
+      pub bare_answers : {q : Refusal} → o ≡ Err q → {r : Stored} {after : List ℕ} → Refuses q output r after
           → WritesAfter 0 service bytes table output r after
       bare_answers d z = begun (bare_refused service items output six e d z)
 
-      pub rest_answers : o ≡ outcome_as.Passed → {r : Stored} {after : List ℕ} → WritesAfter 3 service bytes table output r after
+      pub rest_answers : o ≡ Ok tt → {r : Stored} {after : List ℕ} → WritesAfter 3 service bytes table output r after
           → WritesAfter 0 service bytes table output r after
       rest_answers d w = begun (bare_passed service items output six e d w)
 

@@ -1,15 +1,12 @@
 -- All parts in their order, and what the stages after 23 answer for them. Assumes nothing.
-use Rattle.std.specs.Prelude.{ℕ, ◌+◌, ◌≤◌, ◌<◌, ◌≡◌, true, List, length, drop, get_or}
-use Rattle.std.proofs.lemmas.List.Edits.{sets}
+use Rattle.answers.specs.Answers.{Stored}
+use Rattle.std.specs.Prelude.{ℕ, ◌≤◌, ◌<◌, ◌≡◌, true, List, length, drop, get_or}
 use Rattle.characters.specs.declared.Characters.{Characters}
 use Rattle.characters.specs.Characters.{usable, spelled_out}
 use Rattle.refusals.specs.Refusals.{answering}
 use Rattle.refusals.specs.Limits.{most_bytes}
-use Rattle.answers.specs.declared.Stored.{Stored}
 use Rattle.operations.specs.Judge.{stored_in}
 use Rattle.operations.specs.ValueList.{Item, list_bytes, list_table}
-use Rattle.emission_laws.specs.Emission.{nothing, emitted}
-use Rattle.value_list_text.specs.Composing.{list_tokens}
 use Rattle.write.specs.Writing.{Written, WritesAfter, Passed}
 use Rattle.acknowledgements.specs.Lent.{Lent}
 use Rattle.acknowledgements.specs.Acknowledgement.{acknowledgement_text, acknowledge_stages}
@@ -44,19 +41,9 @@ AnswersAfter passed s l output r after =
     let text = acknowledgement_text s l in
     Written (answering (drop passed (acknowledge_stages s l output))) (length text) (stored_in output text) output r after
 
--- what is asked where the row is measured: it has at most 32,000 records
+-- what is asked where the row is put: it has at most 32,000 records
 abbrev pub Few : List ℕ → Lent → Received → Type 0
 Few s l r = Ready s l r × (length (row s l r) ≤ most_bytes)
-
--- the same where it is stored: the text is not over 32,000 bytes, and there is room for it
-abbrev pub HasRoom : Characters → List ℕ → Lent → Received → (output : List ℕ) → Type 0
-HasRoom c s l r output =
-    Ready s l r × (length (row s l r) ≤ most_bytes) × (8 + length (emitted c nothing (list_tokens (row s l r))) ≤ most_bytes)
-    × (8 + length (emitted c nothing (list_tokens (row s l r))) ≤ length output)
-
--- the output with the row stored from the advice's last byte on
-abbrev pub with_row : Characters → List ℕ → Lent → Received → (output : List ℕ) → List ℕ
-with_row c s l r output = sets output 8 (emitted c nothing (list_tokens (row s l r)))
 
 -- the row as a value list: 15, 2 and 16 do not refuse it
 abbrev pub Listed : Characters → List ℕ → Lent → Received → Type 0

@@ -4,26 +4,25 @@
 // `acknowledgements` gives: what is refused leaves the whole output zero.
 #![tactic(auto)]
 
-ghost use Rattle.std.specs.Prelude.{◌≡◌, true, false, ◌+◌, ◌≤◌, length};
+ghost use Rattle.std.specs.Prelude.{◌≡◌, false, length};
 ghost use Rattle.refusals.specs.Refusals.{outcome};
-ghost use Rattle.refusals.specs.Limits.{most_bytes};
-ghost use Rattle.value_list_text.specs.Composing.{composed_text, capped};
-ghost use Rattle.acknowledgements.specs.Lent.{any_bad_lent};
+ghost use Rattle.value_list_text.specs.Composing.{composed_text, HasRoom, Composes};
+ghost use Rattle.acknowledgements.specs.Lent.{lent_by, any_bad_lent};
 ghost use Rattle.acknowledgements.specs.Received.{cannot_be_acknowledged};
 ghost use Rattle.acknowledgements.specs.Promises.{Acknowledges};
-ghost use Rattle.acknowledgement_parts.specs.Parts.{lent_by, first_bare};
+ghost use Rattle.acknowledgement_parts.specs.Parts.{lent_in, first_bare};
 ghost use Rattle.reported.specs.Reporting.{Takes};
-ghost use Rattle.acknowledge.specs.Rows.{row, Ready, AllStand, AnswersAfter, Few, HasRoom, with_row, Listed, WritesRow};
+ghost use Rattle.acknowledge.specs.Rows.{row, Ready, AllStand, AnswersAfter, Few, Listed, WritesRow};
 
-use acknowledgement_parts::{Received, check_part, part_at, put_part, records_in, with_part};
-use answers::Stored;
+use acknowledgement_parts::{LentElements, Received, check_part, part_at, put_part, records_in};
 use characters::Characters;
-use emission_laws::Measure;
-use held_separators::{nothing_held, put_separator, with_separator};
-use refusals::{Fault, Outcome, Refusal};
+use held_separators::put_separator;
+use lent_elements::LentElement;
+use refusals::{Fault, Refusal};
 use refusing::failed;
-use reported::Report;
-use write::{refuse, write_judged};
+use storing::{Measured, Sink, Stored};
+use value_list_text::first_measure;
+use write::{refuse, refuse_at, write_judged};
 
 // How many parts there are.
 const PARTS: usize = 20;
@@ -31,181 +30,62 @@ const PARTS: usize = 20;
 // ---- records
 
 // How many records the parts are.
-fn record_count(
-    r: Received,
-    s: &[u8],
-    date: &[u8],
-    datetable: &[u32],
-    reference: &[u8],
-    referencetable: &[u32],
-    message: &[u8],
-    messagetable: &[u32],
-) -> usize
-    requires { Ready s.now (lent_by date.now datetable.now reference.now referencetable.now message.now messagetable.now) r }
-    ensures { result ≡ length (row s.now (lent_by date.now datetable.now reference.now referencetable.now message.now messagetable.now) r) }
+fn record_count(r: Received, s: &[u8], lent: &LentElements) -> usize
+    requires { Ready s.now (lent_in lent.now) r }
+    ensures { result ≡ length (row s.now (lent_in lent.now) r) }
 {
-    let d = r.characters;
     let mut n = 0;
-    let mut i = 0;
-    while i < PARTS {
-        n += records_in(
-            part_at(r, i),
-            s,
-            d,
-            date,
-            datetable,
-            reference,
-            referencetable,
-            message,
-            messagetable,
-        );
-        i += 1;
+    for i in 0..PARTS {
+        n += records_in(part_at(r, i), s, r.characters, lent);
     }
     n
 }
 
 // What refusal 16 answers.
-fn check_parts(
-    c: Characters,
-    r: Received,
-    s: &[u8],
-    date: &[u8],
-    datetable: &[u32],
-    reference: &[u8],
-    referencetable: &[u32],
-    message: &[u8],
-    messagetable: &[u32],
-) -> Outcome
-    requires { Ready s.now (lent_by date.now datetable.now reference.now referencetable.now message.now messagetable.now) r × AllStand c s.now r }
-    ensures { result ≡ outcome (first_bare c 0 (row s.now (lent_by date.now datetable.now reference.now referencetable.now message.now messagetable.now) r)) }
+fn check_parts(c: Characters, r: Received, s: &[u8], lent: &LentElements) -> Result<(), Refusal>
+    requires { Ready s.now (lent_in lent.now) r × AllStand c s.now r }
+    ensures { result ≡ outcome (first_bare c 0 (row s.now (lent_in lent.now) r)) }
 {
     let d = r.characters;
     let mut n = 0;
-    let mut i = 0;
-    while i < PARTS {
+    for i in 0..PARTS {
         let part = part_at(r, i);
-        let k = records_in(
-            part,
-            s,
-            d,
-            date,
-            datetable,
-            reference,
-            referencetable,
-            message,
-            messagetable,
-        );
-        match check_part(
-            c,
-            part,
-            s,
-            d,
-            date,
-            datetable,
-            reference,
-            referencetable,
-            message,
-            messagetable,
-        ) {
-            Outcome::Failed(q) => {
+        let k = records_in(part, s, d, lent);
+        match check_part(c, part, s, d, lent) {
+            Err(q) => {
                 return failed(Fault::NeedsRelease, n + q.place);
             }
-            Outcome::Passed => {
+            Ok(()) => {
                 n += k;
-                i += 1;
             }
         }
     }
-    Outcome::Passed
+    Ok(())
 }
 
 // ---- the text
 
-// The length of the text; 32,001 where it is over 32,000 bytes, which is seen before all is measured.
-// 15 leaves 32,000 records at most, a third of 96,000 numbers: the same number as `most_bytes`, which stands for it.
-fn text_length(
-    c: Characters,
-    r: Received,
-    s: &[u8],
-    date: &[u8],
-    datetable: &[u32],
-    reference: &[u8],
-    referencetable: &[u32],
-    message: &[u8],
-    messagetable: &[u32],
-) -> usize
-    requires { Few s.now (lent_by date.now datetable.now reference.now referencetable.now message.now messagetable.now) r }
-    ensures { result ≡ capped (length (composed_text c (row s.now (lent_by date.now datetable.now reference.now referencetable.now message.now messagetable.now) r))) }
-{
-    let d = r.characters;
-    let mut m = Measure {
-        total: 8,
-        held: nothing_held(),
-    };
-    let mut i = 0;
-    while i < PARTS {
-        m = with_part(
-            m,
-            c,
-            part_at(r, i),
-            s,
-            d,
-            date,
-            datetable,
-            reference,
-            referencetable,
-            message,
-            messagetable,
-        );
-        if refusals::MOST_BYTES < m.total {
-            return 32001;
-        }
-        i += 1;
-    }
-    let end = with_separator(m, 0);
-    end.total
-}
-
-// Stores the parts from the advice's last byte on: the first ends the advice as it would end a segment.
-fn put_parts(
+// Puts the parts from the advice's last byte on, and returns the length of the text: the first ends the advice as it
+// would end a segment. A text over 32,000 bytes is given up where that is seen, and 32,001 is returned. 15 leaves 32,000
+// records at most, a third of 96,000 numbers: the same number as `most_bytes`, which stands for it.
+fn put_parts<S: Sink>(
     output: &mut [u8],
     c: Characters,
     r: Received,
     s: &[u8],
-    date: &[u8],
-    datetable: &[u32],
-    reference: &[u8],
-    referencetable: &[u32],
-    message: &[u8],
-    messagetable: &[u32],
-)
-    requires { HasRoom c s.now (lent_by date.now datetable.now reference.now referencetable.now message.now messagetable.now) r output.old }
-    ensures { output.new ≡ with_row c s.now (lent_by date.now datetable.now reference.now referencetable.now message.now messagetable.now) r output.old }
+    lent: &LentElements,
+) -> usize
+    requires { Few s.now (lent_in lent.now) r × HasRoom S.room (composed_text c (row s.now (lent_in lent.now) r)) output.old }
+    ensures { Composes S.holds c (row s.now (lent_in lent.now) r) output.old output.new result }
 {
-    let d = r.characters;
-    let mut m = Measure {
-        total: 8,
-        held: nothing_held(),
-    };
-    let mut i = 0;
-    while i < PARTS {
-        m = put_part(
-            output,
-            m,
-            c,
-            part_at(r, i),
-            s,
-            d,
-            date,
-            datetable,
-            reference,
-            referencetable,
-            message,
-            messagetable,
-        );
-        i += 1;
+    let mut m = first_measure();
+    for i in 0..PARTS {
+        m = put_part::<S>(output, m, c, part_at(r, i), s, r.characters, lent);
+        if refusals::MOST_BYTES < m.total {
+            return 32001;
+        }
     }
-    put_separator(output, m, c, 0);
+    put_separator::<S>(output, m, c, 0).total
 }
 
 // ---- stage by stage
@@ -215,59 +95,21 @@ fn acknowledge_text(
     c: Characters,
     r: Received,
     s: &[u8],
-    date: &[u8],
-    datetable: &[u32],
-    reference: &[u8],
-    referencetable: &[u32],
-    message: &[u8],
-    messagetable: &[u32],
+    lent: &LentElements,
     output: &mut [u8],
-) -> Stored
-    requires { Listed c s.now (lent_by date.now datetable.now reference.now referencetable.now message.now messagetable.now) r }
-    ensures { WritesRow c s.now (lent_by date.now datetable.now reference.now referencetable.now message.now messagetable.now) r output.old result output.new }
+) -> Result<usize, Refusal>
+    requires { Listed c s.now (lent_in lent.now) r }
+    ensures { WritesRow c s.now (lent_in lent.now) r output.old result output.new }
 {
-    let n = text_length(
-        c,
-        r,
-        s,
-        date,
-        datetable,
-        reference,
-        referencetable,
-        message,
-        messagetable,
-    );
+    let n = put_parts::<Measured>(&mut [], c, r, s, lent);
     if refusals::MOST_BYTES < n {
-        return refuse(
-            output,
-            Refusal {
-                fault: Fault::TooLong,
-                place: 0,
-            },
-        );
+        return refuse_at(output, Fault::TooLong, 0);
     }
     if output.len() < n {
-        return refuse(
-            output,
-            Refusal {
-                fault: Fault::BufferShort,
-                place: n,
-            },
-        );
+        return refuse_at(output, Fault::BufferShort, n);
     }
     storing::put_advice(output, c);
-    put_parts(
-        output,
-        c,
-        r,
-        s,
-        date,
-        datetable,
-        reference,
-        referencetable,
-        message,
-        messagetable,
-    );
+    put_parts::<Stored>(output, c, r, s, lent);
     write_judged(output, n)
 }
 
@@ -275,64 +117,21 @@ fn acknowledge_text(
 fn acknowledge_received(
     r: Received,
     s: &[u8],
-    date: &[u8],
-    datetable: &[u32],
-    reference: &[u8],
-    referencetable: &[u32],
-    message: &[u8],
-    messagetable: &[u32],
+    lent: &LentElements,
     output: &mut [u8],
-) -> Stored
-    requires { (cannot_be_acknowledged s.now ≡ false) × Takes s.now r × (any_bad_lent (lent_by date.now datetable.now reference.now referencetable.now message.now messagetable.now) ≡ false) }
-    ensures { AnswersAfter 2 s.now (lent_by date.now datetable.now reference.now referencetable.now message.now messagetable.now) output.old result output.new }
+) -> Result<usize, Refusal>
+    requires { (cannot_be_acknowledged s.now ≡ false) × Takes s.now r × (any_bad_lent (lent_in lent.now) ≡ false) }
+    ensures { AnswersAfter 2 s.now (lent_in lent.now) output.old result output.new }
 {
     let d = r.characters;
     let repetition = stage_level::normal_repetition(s, d, stage_opening::body_start(s));
     let c = verbatim::normal_characters(d.mark, repetition);
-    if refusals::MOST_BYTES
-        < record_count(
-            r,
-            s,
-            date,
-            datetable,
-            reference,
-            referencetable,
-            message,
-            messagetable,
-        )
-    {
-        return refuse(
-            output,
-            Refusal {
-                fault: Fault::BadList,
-                place: 0,
-            },
-        );
+    if refusals::MOST_BYTES < record_count(r, s, lent) {
+        return refuse_at(output, Fault::BadList, 0);
     }
-    match check_parts(
-        c,
-        r,
-        s,
-        date,
-        datetable,
-        reference,
-        referencetable,
-        message,
-        messagetable,
-    ) {
-        Outcome::Failed(q) => refuse(output, q),
-        Outcome::Passed => acknowledge_text(
-            c,
-            r,
-            s,
-            date,
-            datetable,
-            reference,
-            referencetable,
-            message,
-            messagetable,
-            output,
-        ),
+    match check_parts(c, r, s, lent) {
+        Err(q) => refuse(output, q),
+        Ok(()) => acknowledge_text(c, r, s, lent, output),
     }
 }
 
@@ -340,41 +139,19 @@ fn acknowledge_received(
 fn acknowledge_lent(
     r: Received,
     s: &[u8],
-    date: &[u8],
-    datetable: &[u32],
-    reference: &[u8],
-    referencetable: &[u32],
-    message: &[u8],
-    messagetable: &[u32],
+    lent: &LentElements,
     output: &mut [u8],
-) -> Stored
+) -> Result<usize, Refusal>
     requires { (cannot_be_acknowledged s.now ≡ false) × Takes s.now r }
-    ensures { AnswersAfter 1 s.now (lent_by date.now datetable.now reference.now referencetable.now message.now messagetable.now) output.old result output.new }
+    ensures { AnswersAfter 1 s.now (lent_in lent.now) output.old result output.new }
 {
-    let bad = Refusal {
-        fault: Fault::BadList,
-        place: 0,
-    };
-    if lent_elements::is_bad(date, datetable) {
-        return refuse(output, bad);
+    if lent_elements::is_bad(lent.date)
+        || lent_elements::is_bad(lent.reference)
+        || lent_elements::is_bad(lent.message)
+    {
+        return refuse_at(output, Fault::BadList, 0);
     }
-    if lent_elements::is_bad(reference, referencetable) {
-        return refuse(output, bad);
-    }
-    if lent_elements::is_bad(message, messagetable) {
-        return refuse(output, bad);
-    }
-    acknowledge_received(
-        r,
-        s,
-        date,
-        datetable,
-        reference,
-        referencetable,
-        message,
-        messagetable,
-        output,
-    )
+    acknowledge_received(r, s, lent, output)
 }
 
 // Acknowledges a received interchange: any slices.
@@ -387,27 +164,25 @@ pub fn acknowledge(
     message: &[u8],
     messagetable: &[u32],
     output: &mut [u8],
-) -> Stored
+) -> Result<usize, Refusal>
     ensures { Acknowledges s.now (lent_by date.now datetable.now reference.now referencetable.now message.now messagetable.now) output.old result output.new }
 {
+    let lent = LentElements {
+        date: LentElement {
+            bytes: date,
+            table: datetable,
+        },
+        reference: LentElement {
+            bytes: reference,
+            table: referencetable,
+        },
+        message: LentElement {
+            bytes: message,
+            table: messagetable,
+        },
+    };
     match reported::report_of(s) {
-        Report::Nothing => refuse(
-            output,
-            Refusal {
-                fault: Fault::NoAcknowledgement,
-                place: 0,
-            },
-        ),
-        Report::Made(r) => acknowledge_lent(
-            r,
-            s,
-            date,
-            datetable,
-            reference,
-            referencetable,
-            message,
-            messagetable,
-            output,
-        ),
+        None => refuse_at(output, Fault::NoAcknowledgement, 0),
+        Some(r) => acknowledge_lent(r, s, &lent, output),
     }
 }

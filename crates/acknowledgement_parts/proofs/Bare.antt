@@ -1,6 +1,6 @@
 -- Which of a part's records cannot stand: with a release character only a next repeat, where nothing separates repeats.
 -- Assumes nothing.
-use Rattle.std.specs.Prelude.{if◌then◌else◌}
+use Rattle.std.specs.Prelude.{if◌then◌else◌, Ok}
 use Prim.Native.Nat.{ℕ, ◌+◌, ◌≤◌}
 use mathlib.Core.Path.{◌≡◌, refl, sym, ap, ◌∙◌}
 use mathlib.Core.Bool.{Bool, true, false, not, ◌&&◌, ◌||◌, false≢true}
@@ -13,7 +13,6 @@ use Rattle.lists.specs.Lists.{is_empty, is_single, any, all, gather}
 use Rattle.characters.specs.declared.Characters.{Characters}
 use Rattle.characters.specs.Characters.{has_release, has_repetition, is_service}
 use Rattle.refusals.specs.declared.Fault.TheVariants.{NeedsRelease}
-use Rattle.refusals.specs.declared.Outcome.TheVariants.{Passed}
 use Rattle.refusals.specs.Refusals.{met, lowest, outcome}
 use Rattle.values.specs.Tokens.{tokens_at}
 use Rattle.values.specs.Spelling.{Bytes}
@@ -77,13 +76,13 @@ module _ (c : Characters) (released : has_release c ≡ true) where
       ap (λ (b : Bool). not b && all (λ l. not (is_bare c l)) ls) (stands_repeated h l) ∙ all_stand h ls
 
 pub word_stands : (c : Characters) (kind start size : ℕ) → kind ≤ 1 → has_release c ≡ true
-    → Passed ≡ outcome (first_bare c 0 (item_of words (record { kind = kind; start = start; size = size }) ∷ []))
+    → Ok tt ≡ outcome (first_bare c 0 (item_of words (record { kind = kind; start = start; size = size }) ∷ []))
 unfolding outcome first_bare
 word_stands c kind start size low released =
     sym (ap outcome (next_stands c released 0 (item_of words (record { kind = kind; start = start; size = size })) [] (stands_low c released _ (λ e. absurd (omega (arith, e, low))))))
 
 pub syntax_stands : (c : Characters) (s : List ℕ) (d : Characters) (level version : ℕ) → has_release c ≡ true
-    → Passed ≡ outcome (first_bare c 0 (syntax_items s d level version))
+    → Ok tt ≡ outcome (first_bare c 0 (syntax_items s d level version))
 unfolding outcome first_bare
 syntax_stands c s d level version released =
     let first : Item = record { kind = 1; value = value_read (tokens_at d s level) } in
@@ -112,7 +111,7 @@ element_all c released e h = step (has_repetition c) refl
 
 pub element_stands : (c : Characters) (s : List ℕ) (d : Characters) (from : ℕ)
     → (has_release c ≡ true) × (has_repetition c ≡ false → is_single (element_in (tokens_at d s from)) ≡ true)
-    → Passed ≡ outcome (first_bare c 0 (list_element 1 (element_in (tokens_at d s from))))
+    → Ok tt ≡ outcome (first_bare c 0 (list_element 1 (element_in (tokens_at d s from))))
 unfolding outcome
 element_stands c s d from h =
     sym (ap outcome (none_bare c h.0 0 (list_element 1 (element_in (tokens_at d s from))) (element_all c h.0 (element_in (tokens_at d s from)) h.1)))

@@ -1,20 +1,17 @@
 -- What holds of a part holds of the case that a match shows; and which of a part's records cannot stand. Assumes nothing.
 use Prim.Native.Nat.{ℕ, ◌+◌, ◌≤◌, ◌<◌}
-use mathlib.Core.Path.{◌≡◌, refl, sym, ap, subst, ◌∙◌}
-use mathlib.Core.List.{List, [], ◌∷◌}
+use mathlib.Core.Path.{◌≡◌, sym, ap, subst, ◌∙◌}
+use mathlib.Core.List.{List}
 use native.Mathlib.Omega.{arith}
 use lib.ListN.{length, get_or}
 use Rattle.characters.specs.declared.Characters.{Characters}
-use Rattle.refusals.specs.declared.Outcome.{Outcome}
-use Rattle.refusals.specs.Refusals.{outcome}
+use Rattle.refusals.specs.Refusals.{outcome, Outcome}
 use Rattle.emission_laws.specs.declared.Measure.{Measure}
-use Rattle.emission_laws.specs.Emission.{after}
-use Rattle.held_separators.specs.Putting.{Fits}
 use Rattle.operations.specs.ValueList.{Item}
-use Rattle.value_list_text.specs.Advancing.{records_tokens, Advanced, Appended}
+use Rattle.value_list_text.specs.Advancing.{records_tokens}
 use Rattle.refusals.specs.Limits.{most_bytes}
 use Rattle.acknowledgements.specs.Lent.{Lent}
-use Rattle.lent_elements.specs.Leading.{leading}
+use Rattle.lent_elements.specs.Leading.{Reaches, Advances}
 use Rattle.acknowledgement_parts.specs.declared.Part.{Part}
 use Rattle.acknowledgement_parts.specs.declared.Part.TheVariants.{Date}
 use Rattle.acknowledgement_parts.specs.declared.Received.{Received}
@@ -44,24 +41,13 @@ module _ (s : List ℕ) (d : Characters) (l : Lent) {p q : Part} (e : p ≡ q) w
   pub few_as : (n : ℕ) → n + length (part_items s d l p) ≤ most_bytes → n + length (part_items s d l q) ≤ most_bytes
   few_as n h = subst (λ (items : List Item). n + length items ≤ most_bytes) items_as h
 
-  module _ (c : Characters) (m : Measure) where
-    pub advanced_as : {r : Measure} → Advanced c m (part_items s d l q) r → Advanced c m (part_items s d l p) r
-    advanced_as {r} a = subst (λ (items : List Item). Advanced c m items r) (sym items_as) a
+  pub reaches_as : (room : List ℕ → ℕ) (c : Characters) (m : Measure) (buffer : List ℕ) → Reaches room c buffer m (records_tokens (part_items s d l p))
+      → Reaches room c buffer m (records_tokens (part_items s d l q))
+  reaches_as room c m buffer f = subst (λ (items : List Item). Reaches room c buffer m (records_tokens items)) items_as f
 
-    pub short_as : (after c m (records_tokens (part_items s d l p))).total ≤ most_bytes → (after c m (records_tokens (part_items s d l q))).total ≤ most_bytes
-    short_as h = subst (λ (items : List Item). (after c m (records_tokens items)).total ≤ most_bytes) items_as h
-
-    pub fits_as : (buffer : List ℕ) → Fits c buffer m (records_tokens (part_items s d l p)) → Fits c buffer m (records_tokens (part_items s d l q))
-    fits_as buffer h = subst (λ (items : List Item). Fits c buffer m (records_tokens items)) items_as h
-
-    pub appended_as : (buffer : List ℕ) {stored : List ℕ} {r : Measure} → Appended c buffer m (part_items s d l q) stored r
-        → Appended c buffer m (part_items s d l p) stored r
-    appended_as buffer {stored} {r} a = subst (λ (items : List Item). Appended c buffer m items stored r) (sym items_as) a
+  pub advances_as : {holds : List ℕ → ℕ → List ℕ → List ℕ} (c : Characters) (m : Measure) {buffer put : List ℕ} {r : Measure}
+      → Advances holds c buffer m (part_items s d l q) put r → Advances holds c buffer m (part_items s d l p) put r
+  advances_as {holds} c m {buffer} {put} {r} a = subst (λ (items : List Item). Advances holds c buffer m items put r) (sym items_as) a
 
   pub bare_as : (c : Characters) {o : Outcome} → o ≡ outcome (first_bare c 0 (part_items s d l q)) → o ≡ outcome (first_bare c 0 (part_items s d l p))
   bare_as c h = h ∙ ap (λ (items : List Item). outcome (first_bare c 0 items)) (sym items_as)
-
-pub leading_length : (items : List Item) → length (leading items) ≡ length items
-unfolding leading
-leading_length [] = refl
-leading_length (l ∷ ls) = refl

@@ -11,16 +11,15 @@ use Rattle.operations.specs.ValueList.{Item, list_element, listed_in}
 use Rattle.trimming_laws.specs.Kinds.{first_kind}
 use Rattle.value_lists.specs.Records.{well_listed}
 use Rattle.emission_laws.specs.declared.Measure.{Measure}
-use Rattle.emission_laws.specs.Emission.{waiting, after}
-use Rattle.held_separators.specs.Putting.{Fits}
+use Rattle.emission_laws.specs.Emission.{waiting}
 use Rattle.value_list_text.specs.Composing.{item_of}
 use Rattle.value_list_text.specs.Advancing.{records_tokens}
 pub use Rattle.value_list_text.specs.Standing.{is_bare}
 unfoldable pub use Rattle.value_list_text.specs.Standing.{first_bare}
 use Rattle.received_pieces.specs.Pieces.{element_in, Spelt}
 use Rattle.acknowledgements.specs.Lent.{LentList, Lent}
-pub use Rattle.acknowledgements.specs.Lent.{lent_by}
-use Rattle.lent_elements.specs.Leading.{leading}
+use Rattle.lent_elements.specs.Leading.{list_in, lent_items, Reaches}
+use Rattle.acknowledgement_parts.specs.declared.LentElements.{LentElements}
 use Rattle.acknowledgement_parts.specs.declared.Part.{Part}
 use Rattle.acknowledgement_parts.specs.declared.Part.TheVariants.{Word, Syntax, Element, Date, Reference, Message}
 use Rattle.acknowledgement_parts.specs.declared.Received.{Received}
@@ -51,8 +50,9 @@ abbrev pub syntax_items : List ℕ → Characters → ℕ → ℕ → List Item
 syntax_items s d level version =
     record { kind = 1; value = value_in (tokens_at d s level) } ∷ record { kind = 2; value = value_in (tokens_at d s version) } ∷ []
 
-abbrev pub lent_items : LentList → List Item
-lent_items l = leading (listed_in l.bytes l.table)
+-- the value lists that are lent
+abbrev pub lent_in : LentElements → Lent
+lent_in l = record { date = list_in l.date; reference = list_in l.reference; message = list_in l.message }
 
 -- what is known of a lent list that 15 passed and that is not empty
 pub record Lendable (lent : LentList) : Type 0 where
@@ -85,15 +85,12 @@ module _ (s : List ℕ) (d : Characters) (l : Lent) where
   Fine Reference = Lendable l.reference
   Fine Message = Lendable l.message
 
-  -- what is asked where a part is measured: what is held back and the part's records are at most 32,000 together
-  abbrev pub Measurable : Part → Measure → Type 0
-  Measurable part m = Fine part × (m.total ≤ most_bytes) × (waiting m.held + length (part_items part) ≤ most_bytes) × (length s ≤ most_bytes)
-
--- the same where it is stored: the text with the part is not over 32,000 bytes, and there is room for the part
-abbrev pub Storable : Characters → (buffer s : List ℕ) → Characters → Lent → Part → Measure → Type 0
-Storable c buffer s d l part m =
-    Fine s d l part × (waiting m.held + length (part_items s d l part) ≤ most_bytes) × (length s ≤ most_bytes)
-    × ((after c m (records_tokens (part_items s d l part))).total ≤ most_bytes) × (Fits c buffer m (records_tokens (part_items s d l part)))
+-- what is asked where a part is put: what is held back and the part's records are at most 32,000 together, and there is room for the part, as far
+-- as a place after it fits 64 bits
+abbrev pub Puttable : (room : List ℕ → ℕ) → Characters → (buffer s : List ℕ) → Characters → Lent → Part → Measure → Type 0
+Puttable room c buffer s d l part m =
+    Fine s d l part × (m.total ≤ most_bytes) × (waiting m.held + length (part_items s d l part) ≤ most_bytes) × (length s ≤ most_bytes)
+    × Reaches room c buffer m (records_tokens (part_items s d l part))
 
 -- ---- refusal 16
 

@@ -1,4 +1,5 @@
 -- What the contract allows, case by case: which answer, and which bytes of the output at exit. Assumes nothing.
+use Rattle.std.specs.Prelude.{Ok, Err}
 use Prim.Native.Nat.{ℕ}
 use mathlib.Core.Path.{◌≡◌, ap, ◌∙◌}
 use mathlib.Core.List.{List, [], ◌∷◌, ◌++◌}
@@ -6,9 +7,7 @@ use mathlib.Core.Option.{Option, none, some}
 use lib.ListN.{length, drop, replicate}
 use Rattle.lists.specs.Lists.{maybe}
 use Rattle.refusals.specs.declared.Refusal.{Refusal}
-use Rattle.answers.specs.declared.Stored.{Stored}
-use Rattle.answers.specs.declared.Stored.TheVariants as stored
-use Rattle.answers.specs.Answers.{given, refused, told_stored}
+use Rattle.answers.specs.Answers.{given, refused, told_stored, Stored}
 use Rattle.operations.specs.Judge.{stored_in, unless_refused}
 use Rattle.contracts.proofs.Told.{stored_tells}
 use Rattle.acknowledgements.specs.Lent.{Lent}
@@ -31,12 +30,12 @@ module _ (s : List ℕ) (l : Lent) (output : List ℕ) where
   pub acknowledges : (r : Stored) (after : List ℕ) → Acknowledges s l output r after
       → (acknowledge_refusal s l output ≡ none
       → let text : List ℕ = acknowledgement_text s l in
-      (r ≡ stored.Length (length text)) × (after ≡ text ++ drop (length text) output))
-      × ((q : Refusal) → acknowledge_refusal s l output ≡ some q → (r ≡ stored.Refused q) × (after ≡ replicate (length output) 0))
+      (r ≡ Ok (length text)) × (after ≡ text ++ drop (length text) output))
+      × ((q : Refusal) → acknowledge_refusal s l output ≡ some q → (r ≡ Err q) × (after ≡ replicate (length output) 0))
   unfolding told_stored
   acknowledges r after h = (
     λ e.
         let told = written_given e in
-        (stored_tells r (stored.Length (length (acknowledgement_text s l))) (h.0 ∙ told.0), h.1 ∙ told.1),
-    λ q e. let told = refused_zero s l output e in (stored_tells r (stored.Refused q) (h.0 ∙ told.0), h.1 ∙ told.1),
+        (stored_tells r (Ok (length (acknowledgement_text s l))) (h.0 ∙ told.0), h.1 ∙ told.1),
+    λ q e. let told = refused_zero s l output e in (stored_tells r (Err q) (h.0 ∙ told.0), h.1 ∙ told.1),
   )

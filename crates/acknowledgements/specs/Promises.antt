@@ -1,8 +1,7 @@
 -- Request 2026-11: what the operation promises of its answer and of the output at exit, for any input, refused or not; and that this
 -- leaves one result. Assumes nothing.
 use Rattle.std.specs.Prelude.{ℕ, ◌≡◌, List}
-use Rattle.answers.specs.declared.Stored.{Stored}
-use Rattle.answers.specs.Answers.{told_stored}
+use Rattle.answers.specs.Answers.{told_stored, Stored}
 use Rattle.acknowledgements.specs.Lent.{Lent}
 use Rattle.acknowledgements.specs.Acknowledgement.{acknowledge, acknowledge_output}
 

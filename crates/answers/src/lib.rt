@@ -1,4 +1,4 @@
-// What the operations answer (paper 01, "Operations"): an enum for each, and for each of its cases
+// What the operations answer (paper 01, "Operations"): a `Result` of each, and for each of its cases
 // the paper's number and values, in which the contracts are stated (specs/).
 #![tactic(auto)]
 
@@ -16,38 +16,16 @@ pub struct Figures {
     pub length: usize,
 }
 
+// Which of two inputs is refused, and by what.
 #[derive(Clone, Copy)]
-pub enum Judged {
-    Accepted(Figures),
-    Refused(Refusal),
-}
-
-// What Normalise and Write say: how many bytes they stored.
-#[derive(Clone, Copy)]
-pub enum Stored {
-    Length(usize),
-    Refused(Refusal),
-}
-
-#[derive(Clone, Copy)]
-pub enum Compared {
-    Same,
-    Different,
-    FirstRefused(Refusal),
-    SecondRefused(Refusal),
-}
-
-// Where a value is spelled in the input.
-#[derive(Clone, Copy)]
-pub enum Located {
-    At { offset: usize, length: usize },
-    Absent,
-    Refused(Refusal),
+pub enum Unaccepted {
+    First(Refusal),
+    Second(Refusal),
 }
 
 // How many bytes and how many numbers of the table Read stored.
 #[derive(Clone, Copy)]
-pub enum Listed {
-    Values { bytes: usize, numbers: usize },
-    Refused(Refusal),
+pub struct Listed {
+    pub bytes: usize,
+    pub numbers: usize,
 }

@@ -1,52 +1,39 @@
 -- One byte more of a number that is read, and one of a number that is stored. Assumes nothing.
 use Prim.Native.Nat.{ℕ, zero, suc, ◌+◌, ◌-◌, ◌*◌, ◌/◌, ◌%◌, ◌^◌, ◌≤◌, ◌<◌}
-use mathlib.Core.Path.{◌≡◌, refl, ap, ap₂, ◌∙◌}
+use mathlib.Core.Path.{◌≡◌, refl, sym, ap, ◌∙◌}
 use mathlib.Core.List.{List, [], ◌∷◌, ◌++◌}
 use native.Mathlib.Numerals.{add-one}
 use native.Mathlib.Nat.{pow-suc, pow-le-pow_right}
 use native.Mathlib.Omega.{arith}
-use lib.ListN.{length, take, drop, set, get_or}
-use lib.Seq.{sets, drop-cons, set_comm}
-use Rattle.numbers.specs.Numbers.{read_on, in_bytes}
+use lib.ListN.{length, take, drop, set, get_or, length-drop, drop_of_length-le}
+use lib.Seq.{sets, drop-cons, set_comm, get_or-take, get_or-drop, length-take-le}
+use Rattle.numbers.specs.Numbers.{read_on, number_at, in_bytes}
 use Rattle.numbers.proofs.Numbers.{in_bytes_length}
 
 -- ---- read
 
--- what is left to read
-pub left_over : (s : List ℕ) (at width i : ℕ) → List ℕ
-left_over s at width i = take (width - i) (drop (at + i) s)
-
 -- nothing is read yet
-pub none_read : (s : List ℕ) (at width : ℕ) → left_over s at width 0 ≡ take width (drop at s)
-unfolding left_over
-none_read s at width = ap₂ (λ (n m : ℕ). take n (drop m s)) all here
-  where
-    all : width - 0 ≡ width
-    all = omega arith
+pub none_read : (s : List ℕ) (at width part : ℕ) → part ≡ width → number_at s at width ≡ read_on 0 (take part (drop at s))
+unfolding number_at
+none_read s at width part e = ap (λ (n : ℕ). read_on 0 (take n (drop at s))) (sym e)
 
-    here : at + 0 ≡ at
-    here = omega arith
+-- the bytes that are read: how many there are, and one of them
+pub part_length : (s : List ℕ) (at width part : ℕ) → part ≡ width → at + width ≤ length s → length (take part (drop at s)) ≡ width
+part_length s at width part e h = length-take-le part (drop at s) (omega (arith, length-drop at s)) ∙ e
 
-pub one_read : (s : List ℕ) (at width i n : ℕ) → i < width → at + width ≤ length s
-    → read_on n (left_over s at width i) ≡ read_on (n * 256 + get_or s (at + i) 0) (left_over s at width (i + 1))
-unfolding read_on left_over
-one_read s at width i n h k =
-    ap (λ (m : ℕ). read_on n (take m (drop (at + i) s))) more
-    ∙ ap (λ (l : List ℕ). read_on n (take (suc (width - (i + 1))) l)) (drop-cons s (at + i) 0 (omega arith))
-    ∙ ap (λ (m : ℕ). read_on (n * 256 + get_or s (at + i) 0) (take (width - (i + 1)) (drop m s))) next
-  where
-    more : width - i ≡ suc (width - (i + 1))
-    more = omega arith
+pub part_byte : (s : List ℕ) (at part i : ℕ) → i < part → get_or (take part (drop at s)) i 0 ≡ get_or s (at + i) 0
+part_byte s at part i h = get_or-take part (drop at s) i 0 h ∙ get_or-drop at s i 0
 
-    next : suc (at + i) ≡ at + (i + 1)
-    next = omega arith
+-- one byte is read, and the others are left
+pub one_read : (bytes : List ℕ) (i n : ℕ) → i < length bytes → read_on n (drop i bytes) ≡ read_on (n * 256 + get_or bytes i 0) (drop (i + 1) bytes)
+unfolding read_on
+one_read bytes i n h =
+    ap (read_on n) (drop-cons bytes i 0 h)
+    ∙ ap (λ (m : ℕ). read_on (n * 256 + get_or bytes i 0) (drop m bytes)) (sym (add-one i))
 
-pub all_read : (s : List ℕ) (at width i n : ℕ) → width ≤ i → read_on n (left_over s at width i) ≡ n
-unfolding read_on left_over
-all_read s at width i n h = ap (λ (m : ℕ). read_on n (take m (drop (at + i) s))) none
-  where
-    none : width - i ≡ 0
-    none = omega arith
+pub all_read : (bytes : List ℕ) (i n : ℕ) → length bytes ≤ i → read_on n (drop i bytes) ≡ n
+unfolding read_on
+all_read bytes i n h = ap (read_on n) (drop_of_length-le bytes h)
 
 -- one byte more, and how large a number can be then
 pub digit_more : (n b i : ℕ) → n < 256 ^ i → b < 256 → n * 256 + b < 256 ^ (i + 1)

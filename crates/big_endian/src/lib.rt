@@ -7,22 +7,14 @@ ghost use Rattle.std.specs.Prelude.{◌≡◌, ◌+◌, ◌≤◌, length};
 ghost use Rattle.std.proofs.lemmas.List.Edits.{sets};
 ghost use Rattle.numbers.specs.Numbers.{number_at, in_bytes};
 
-fn wide(b: u8) -> u64
-    ensures { result ≡ b }
-{
-    b as u64
-}
-
 // The number of `width` bytes at a place.
 pub fn get(s: &[u8], at: usize, width: usize) -> u64
     requires { (at + width ≤ length s.now) × (width ≤ 8) }
     ensures { result ≡ number_at s.now at width }
 {
     let mut number: u64 = 0;
-    let mut i = 0;
-    while i < width {
-        number = number * 256 + wide(s[at + i]);
-        i += 1;
+    for b in &s[at..at + width] {
+        number = number * 256 + u64::from(*b);
     }
     number
 }
@@ -32,11 +24,9 @@ pub fn put(s: &mut [u8], at: usize, width: usize, number: u64)
     requires { at + width ≤ length s.old }
     ensures { s.new ≡ sets s.old at (in_bytes width number) }
 {
-    let mut left = width;
     let mut rest = number;
-    while 0 < left {
-        left -= 1;
-        s[at + left] = (rest % 256) as u8;
-        rest = rest / 256;
+    for i in (0..width).rev() {
+        s[at + i] = (rest % 256) as u8;
+        rest /= 256;
     }
 }

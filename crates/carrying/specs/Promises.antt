@@ -1,7 +1,7 @@
 -- Request 2026-07: what each direction promises of its answer and of the shelf's bytes at exit, for any bytes, refused or not. Its contract is
 -- this, of what was there at entry and what is there at exit. Assumes nothing.
+use Rattle.refusals.specs.Refusals.{Outcome}
 use Rattle.std.specs.Prelude.{ℕ, ◌≡◌, List}
-use Rattle.refusals.specs.declared.Outcome.{Outcome}
 use Rattle.shelves.specs.Answers.{told_outcome}
 use Rattle.carrying.specs.Carrying.{carry, carry_shelf, carry_back, carry_back_shelf}
 

@@ -1,7 +1,7 @@
 -- Two results that a contract allows are equal: it fixes the answer and every byte of the shelf at exit. Each field is a theorem;
 -- `proofs/Tight.antt` proves the record. Assumes nothing.
+use Rattle.refusals.specs.Refusals.{Outcome}
 use Rattle.std.specs.Prelude.{ℕ, ◌≡◌, List}
-use Rattle.refusals.specs.declared.Outcome.{Outcome}
 use Rattle.carrying.specs.Promises.{Carries, CarriesBack}
 
 pub record Tight : Type 0 where

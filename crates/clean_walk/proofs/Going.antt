@@ -1,6 +1,8 @@
 -- The three stages from a place on: they answer from the start what they answer from here, with what is kept of the segments that passed.
 -- Assumes nothing.
-use Rattle.std.specs.Prelude.{if◌then◌else◌}
+use Rattle.std.specs.Prelude.{if◌then◌else◌, Ok}
+use Rattle.std.specs.declared.option.Option.{Option}
+use Rattle.std.specs.declared.option.Option.TheVariants as option
 use Prim.Native.Nat.{ℕ, ◌≤◌, ◌<◌}
 use mathlib.Core.Path.{◌≡◌, refl, sym, ap, subst, subst⁻¹, ◌∙◌}
 use mathlib.Core.Bool.{Bool, true, false}
@@ -26,18 +28,13 @@ use Rattle.scanner.specs.Scan.{Scans, segment_at, Skips}
 use Rattle.scanner.proofs.Scanning.{ended_beyond}
 use Rattle.elements.specs.Elements.{piece_from, ElementAt}
 use Rattle.stage_segments.proofs.Stage.{worded_end, worded_next}
-use Rattle.stage_order.specs.declared.Ordered.TheVariants.{Whole}
 use Rattle.stage_order.specs.Ordering.{misplaced_at, completed}
 use Rattle.stage_order.proofs.GoesOn.{goes_at, goes_over, goes_end, goes_next}
 use Rattle.stage_control.specs.declared.Headers.{Headers}
 use Rattle.stage_control.specs.Controlling.{header_kept, headers_after, count_due, controlled_by}
 use Rattle.stage_control.proofs.Stage.{Passing, passing_begun, passing_within, passing_end, passing_next}
-use Rattle.ordinary_controls.specs.declared.Control.{Control}
-use Rattle.ordinary_controls.specs.declared.Control.TheVariants as control
 use Rattle.ordinary_controls.specs.Standing.{Controls}
-use Rattle.clean_walk.specs.declared.Clean.TheVariants as clean
-use Rattle.clean_walk.specs.declared.Step.{Step}
-use Rattle.clean_walk.specs.declared.Step.TheVariants.{Next, Other}
+use Rattle.clean_walk.specs.declared.Kept.{Kept}
 use Rattle.clean_walk.specs.Clean.{NamedAs, user_step, Passes, Steps, Cleans}
 
 module _ (c : Characters) (s : List ℕ) where
@@ -61,20 +58,22 @@ module _ (c : Characters) (s : List ℕ) where
       }
 
   -- what the code finds of a user segment,
-  pub user_steps : (at : ℕ) (walk : Walk) (headers : Headers) {answer : Step} → NamedAs c s at User → answer ≡ user_step walk headers
-      → Steps c s at walk headers answer
+  pub user_steps : (at : ℕ) (kept : Kept) {answer : Option Kept} → NamedAs c s at User → answer ≡ user_step kept
+      → Steps c s at kept.walk kept.headers answer
   unfolding user_step
-  user_steps at walk headers n e = subst⁻¹ (Steps c s at walk headers) e (by_fit (fits_by walk User None) refl)
+  user_steps at kept n e = subst⁻¹ (Steps c s at kept.walk kept.headers) e (by_fit (fits_by kept.walk User None) refl)
     where
-      by_fit : (b : Bool) → fits_by walk User None ≡ b → Steps c s at walk headers (if b then Next (stepped_by walk User) headers else Other)
+      by_fit : (b : Bool) → fits_by kept.walk User None ≡ b
+          → Steps c s at kept.walk kept.headers
+          (if b then option.Some (record { walk = stepped_by kept.walk User; headers = kept.headers }) else option.None)
       by_fit true f = user_passes n f
       by_fit false f = tt
 
   -- and of a segment of any kind
   pub segment_passes : {at : ℕ} {walk stepped after : Walk} {headers kept : Headers} {kind : Kind} {section : Section} {p : Positions}
-      {reference header count : ℕ} {answer : Control} → NamedAs c s at kind → section ≡ section_begun kind (segment_at c s at)
+      {reference header count : ℕ} {answer : Option ℕ} → NamedAs c s at kind → section ≡ section_begun kind (segment_at c s at)
       → fits_by walk kind section ≡ true → p ≡ positions_of kind → header ≡ header_kept headers kind → count ≡ count_due walk kind
-      → Controls c s at p header count answer → answer ≡ control.Passed reference → stepped ≡ stepped_by walk kind
+      → Controls c s at p header count answer → answer ≡ option.Some reference → stepped ≡ stepped_by walk kind
       → after ≡ begun_by stepped section → kept ≡ headers_after headers kind reference → Passes c s at walk headers after kept
   segment_passes {at} {walk} {stepped} {after} {headers} {kept} {kind} {section} {p} {reference} {header} {count} n b f q h m a o w v u =
       let (there, passed) = subst (Controls c s at p header count) o a in
@@ -150,13 +149,13 @@ module _ (c : Characters) (s : List ℕ) where
           }
 
       -- after the last byte nothing was found, if the interchange is complete
-      pub going_end : length s ≤ at → is_after walk.standing ≡ true → Cleans c s from (clean.Whole walk)
+      pub going_end : length s ≤ at → is_after walk.standing ≡ true → Cleans c s from (option.Some walk)
       unfolding completed
       going_end h e = (
         i.words ∙ worded_end c s at (length s) h,
         sym (goes_over (length s) (tokens_at c s from))
             ∙ i.order
             ∙ goes_end c s walk at h
-            ∙ if_true (is_after walk.standing) (Whole walk) (misplaced_at (length s)) e,
+            ∙ if_true (is_after walk.standing) (Ok walk) (misplaced_at (length s)) e,
         passed_is (controlled (tokens_at c s from)) (passing_end c s i.control h),
       )

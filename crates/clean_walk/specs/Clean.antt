@@ -1,8 +1,9 @@
 -- What the one walk says: that none of three stages finds anything; and on the way, of a segment's tag and of the segment. Assumes nothing.
-use Rattle.std.specs.Prelude.{ℕ, ◌+◌, ◌<◌, ◌≡◌, true, ◌||◌, List, length, get_or, eqb, if◌then◌else◌}
+use Rattle.std.specs.Prelude.{ℕ, ◌+◌, ◌<◌, ◌≡◌, true, ◌||◌, List, length, get_or, eqb, if◌then◌else◌, Ok}
+use Rattle.std.specs.declared.option.Option.{Option}
+use Rattle.std.specs.declared.option.Option.TheVariants as option
 use Rattle.std.proofs.Math.Option.{none}
 use Rattle.characters.specs.declared.Characters.{Characters}
-use Rattle.refusals.specs.declared.Outcome.TheVariants.{Passed}
 use Rattle.values.specs.Tokens.{tokens_at}
 use Rattle.segments.specs.declared.Kind.{Kind}
 use Rattle.segments.specs.declared.Kind.TheVariants.{User}
@@ -15,17 +16,12 @@ use Rattle.walk_laws.specs.Walking.{section_begun, fits_by, stepped_by, begun_by
 use Rattle.stage_walks.specs.Walks.{worded, controlled}
 use Rattle.scanner.specs.Scan.{segment_at}
 use Rattle.elements.specs.Elements.{ElementAt}
-use Rattle.stage_order.specs.declared.Ordered.TheVariants as ordered
 use Rattle.stage_order.specs.Ordering.{ordered_as}
 use Rattle.stage_control.specs.declared.Headers.{Headers}
 use Rattle.stage_control.specs.Controlling.{header_kept, headers_after, count_due, controlled_by}
 use Rattle.ordinary_runs.specs.Runs.{is_ordinary, quiet}
-use Rattle.clean_walk.specs.declared.Clean.{Clean}
-use Rattle.clean_walk.specs.declared.Clean.TheVariants as clean
 use Rattle.clean_walk.specs.declared.Tag.{Tag}
-use Rattle.clean_walk.specs.declared.Tag.TheVariants as tag
-use Rattle.clean_walk.specs.declared.Step.{Step}
-use Rattle.clean_walk.specs.declared.Step.TheVariants as step
+use Rattle.clean_walk.specs.declared.Kept.{Kept}
 
 -- ---- the tag
 
@@ -43,15 +39,16 @@ module _ (c : Characters) (s : List ℕ) (at : ℕ) where
   abbrev pub NamedAs : Kind → Type 0
   NamedAs of = (tag_rule (segment_at c s at) ≡ true) × (of ≡ kind_of (segment_at c s at))
 
-  abbrev pub Tells : Tag → Type 0
-  Tells (tag.Named of spelled) = NamedAs of × (spelled ≡ true → SpellsTag)
-  Tells tag.Broken = Unit {0}
+  abbrev pub Tells : Option Tag → Type 0
+  Tells (option.Some tag) = NamedAs tag.kind × (tag.spelled ≡ true → SpellsTag)
+  Tells option.None = Unit {0}
 
 -- ---- the segment
 
 -- the walk and the headers after a user segment, where it fits
-unfoldable pub user_step : Walk → Headers → Step
-user_step walk headers = if fits_by walk User None then step.Next (stepped_by walk User) headers else step.Other
+unfoldable pub user_step : Kept → Option Kept
+user_step kept =
+    if fits_by kept.walk User None then option.Some (record { walk = stepped_by kept.walk User; headers = kept.headers }) else option.None
 
 module _ (c : Characters) (s : List ℕ) (at : ℕ) (walk : Walk) (headers : Headers) where
   -- the segment that begins there keeps the rule for tags, fits where the walk stands, and stage (10 11 12) passes it; this is the walk after
@@ -66,20 +63,20 @@ module _ (c : Characters) (s : List ℕ) (at : ℕ) (walk : Walk) (headers : Hea
     pub after_is : after ≡ begun_by (stepped_by walk kind) section
     pub reference : ℕ
     pub reference_at : ElementAt c s at (positions_of kind).reference reference
-    pub control : controlled_by c s at (positions_of kind) reference (header_kept headers kind) (count_due walk kind) ≡ Passed
+    pub control : controlled_by c s at (positions_of kind) reference (header_kept headers kind) (count_due walk kind) ≡ Ok tt
     pub kept_is : kept ≡ headers_after headers kind reference
 
-  abbrev pub Steps : Step → Type 0
-  Steps (step.Next after kept) = Passes after kept
-  Steps step.Other = Unit {0}
+  abbrev pub Steps : Option Kept → Type 0
+  Steps (option.Some after) = Passes after.walk after.headers
+  Steps option.None = Unit {0}
 
 -- ---- the whole
 
 module _ (c : Characters) (s : List ℕ) (start : ℕ) where
   -- none of the stages (4 5 6), 9 and (10 11 12) finds anything from the place on, and this is the walk over all segments
-  abbrev pub Cleans : Clean → Type 0
-  Cleans (clean.Whole walk) =
+  abbrev pub Cleans : Option Walk → Type 0
+  Cleans (option.Some walk) =
       (worded (length s) (tokens_at c s start) ≡ none)
-      × (ordered_as (length s) (tokens_at c s start) ≡ ordered.Whole walk)
+      × (ordered_as (length s) (tokens_at c s start) ≡ Ok walk)
       × (controlled (tokens_at c s start) ≡ none)
-  Cleans clean.Other = Unit {0}
+  Cleans option.None = Unit {0}

@@ -16,9 +16,8 @@ use characters::Characters;
 use control_elements::Positions;
 use control_positions::positions_of;
 use elements::element_at;
-use ordinary_controls::{Control, control_of};
+use ordinary_controls::control_of;
 use ordinary_runs::{is_ordinary, is_quiet};
-use refusals::Outcome;
 use scanner::{Scanned, releasing};
 use segment_ends::segment_ended;
 use segments::{Kind, Section, Walk};
@@ -27,19 +26,12 @@ use stage_order::section_at;
 use tags::{kind_at, kind_named, tag_holds};
 use walk::{beginning, begun, fits, is_complete, stepped};
 
-// Nothing is found from a place on, and this is the walk over all of it; or something may be.
+// The tag of a segment that keeps the rule for tags, and is of this kind; `spelled` says that the tag's
+// four bytes are read as they stand.
 #[derive(Clone, Copy)]
-pub enum Clean {
-    Whole(Walk),
-    Other,
-}
-
-// The tag of a segment keeps the rule for tags, and it is a segment of this kind; `spelled` says that the
-// tag's four bytes are read as they stand. Or it may not keep the rule.
-#[derive(Clone, Copy)]
-enum Tag {
-    Named { kind: Kind, spelled: bool },
-    Broken,
+struct Tag {
+    kind: Kind,
+    spelled: bool,
 }
 
 // Three letters or digits stand at a place, and after them the element separator or the terminator:
@@ -60,21 +52,21 @@ fn spells_tag(s: &[u8], c: Characters, calm: bool, at: usize) -> bool
     calm & named & ended
 }
 
-// The tag of the segment that begins at a place, token by token.
-fn tag_read(s: &[u8], c: Characters, at: usize) -> Tag
+// The tag of the segment that begins at a place, token by token; none where it may not keep the rule.
+fn tag_read(s: &[u8], c: Characters, at: usize) -> Option<Tag>
     ensures { Tells c s.now at result }
 {
-    if tag_holds(s, c, at) {
-        return Tag::Named {
-            kind: kind_at(s, c, at),
-            spelled: false,
-        };
+    if !tag_holds(s, c, at) {
+        return None;
     }
-    Tag::Broken
+    Some(Tag {
+        kind: kind_at(s, c, at),
+        spelled: false,
+    })
 }
 
 // The same by its four bytes, where they suffice: those of a service segment with a reference.
-fn tag_at(s: &[u8], c: Characters, calm: bool, at: usize) -> Tag
+fn tag_at(s: &[u8], c: Characters, calm: bool, at: usize) -> Option<Tag>
     requires { (at < length s.now) × (calm ≡ quiet c) }
     ensures { Tells c s.now at result }
 {
@@ -86,10 +78,10 @@ fn tag_at(s: &[u8], c: Characters, calm: bool, at: usize) -> Tag
     if positions_of(kind).reference == 0 {
         return tag_read(s, c, at);
     }
-    Tag::Named {
+    Some(Tag {
         kind,
         spelled: true,
-    }
+    })
 }
 
 // Where it says yes, the tag keeps the rule, and it is a user segment's: it is told by its first two bytes.
@@ -104,14 +96,14 @@ fn is_user(s: &[u8], c: Characters, calm: bool, at: usize) -> bool
     (s[at] != b'U') | (s[second] != b'N')
 }
 
-// The walk and the headers after a segment that stages 9 and (10 11 12) pass; or one of them may not.
+// What is kept of the segments that stages 9 and (10 11 12) passed.
 #[derive(Clone, Copy)]
-enum Step {
-    Next { walk: Walk, headers: Headers },
-    Other,
+struct Kept {
+    walk: Walk,
+    headers: Headers,
 }
 
-// Stage (10 11 12) passes the segment, token by token.
+// Stage (10 11 12) passes the segment, whose reference begins at this place, token by token; or it may not.
 fn control_read(
     s: &[u8],
     c: Characters,
@@ -119,13 +111,13 @@ fn control_read(
     p: Positions,
     header: usize,
     count: u32,
-) -> Control
+) -> Option<usize>
     ensures { Controls c s.now at p header count result }
 {
     let reference = element_at(s, c, at, p.reference);
     match segment_control(s, c, at, p, reference, header, count) {
-        Outcome::Failed(_) => Control::Other,
-        Outcome::Passed => Control::Passed(reference),
+        Err(_) => None,
+        Ok(()) => Some(reference),
     }
 }
 
@@ -138,111 +130,90 @@ fn control_at(
     p: Positions,
     header: usize,
     count: u32,
-) -> Control
+) -> Option<usize>
     requires { spelled ≡ true → SpellsTag c s.now at }
     ensures { Controls c s.now at p header count result }
 {
     if !spelled {
         return control_read(s, c, at, p, header, count);
     }
-    match control_of(s, c, at, p, header, count) {
-        Control::Passed(reference) => Control::Passed(reference),
-        Control::Other => control_read(s, c, at, p, header, count),
-    }
+    control_of(s, c, at, p, header, count).or_else(|| control_read(s, c, at, p, header, count))
 }
 
-fn named_step(
-    s: &[u8],
-    c: Characters,
-    at: usize,
-    walk: Walk,
-    headers: Headers,
-    kind: Kind,
-    spelled: bool,
-) -> Step
-    requires { Within most_bytes walk × NamedAs c s.now at kind × (spelled ≡ true → SpellsTag c s.now at) }
-    ensures { Steps c s.now at walk headers result }
+// What is kept after a segment with this tag; none where one of the stages may not pass it.
+fn named_step(s: &[u8], c: Characters, at: usize, kept: Kept, tag: Tag) -> Option<Kept>
+    requires { Within most_bytes kept.walk × NamedAs c s.now at tag.kind × (tag.spelled ≡ true → SpellsTag c s.now at) }
+    ensures { Steps c s.now at kept.walk kept.headers result }
 {
+    let Tag { kind, spelled } = tag;
+    let Kept { walk, headers } = kept;
     let section = section_at(s, c, at, kind);
     if !fits(walk, kind, section) {
-        return Step::Other;
+        return None;
     }
     let p = positions_of(kind);
     let header = header_of(headers, kind);
-    match control_at(s, c, spelled, at, p, header, true_count(walk, kind)) {
-        Control::Other => Step::Other,
-        Control::Passed(reference) => Step::Next {
-            walk: begun(stepped(walk, kind), section),
-            headers: passed_header(headers, kind, reference),
-        },
-    }
+    let reference = control_at(s, c, spelled, at, p, header, true_count(walk, kind))?;
+    Some(Kept {
+        walk: begun(stepped(walk, kind), section),
+        headers: passed_header(headers, kind, reference),
+    })
 }
 
 // The same of a user segment, which has no reference and begins no section.
-fn user_step(walk: Walk, headers: Headers) -> Step
-    requires { Within most_bytes walk }
-    ensures { result ≡ user_step walk headers }
+#[tactic(auto, unfolding(crate::specs::Clean::user_step))]
+fn user_step(kept: Kept) -> Option<Kept>
+    requires { Within most_bytes kept.walk }
+    ensures { result ≡ user_step kept }
 {
-    if !fits(walk, Kind::User, Section::None) {
-        return Step::Other;
+    if !fits(kept.walk, Kind::User, Section::None) {
+        return None;
     }
-    Step::Next {
-        walk: stepped(walk, Kind::User),
-        headers,
-    }
-}
-
-fn step_by(s: &[u8], c: Characters, at: usize, walk: Walk, headers: Headers, tag: Tag) -> Step
-    requires { Within most_bytes walk × Tells c s.now at tag }
-    ensures { Steps c s.now at walk headers result }
-{
-    match tag {
-        Tag::Named { kind, spelled } => named_step(s, c, at, walk, headers, kind, spelled),
-        Tag::Broken => Step::Other,
-    }
+    Some(Kept {
+        walk: stepped(kept.walk, Kind::User),
+        ..kept
+    })
 }
 
 // Most segments are user segments, so that these are asked for first.
-fn step_at(s: &[u8], c: Characters, calm: bool, at: usize, walk: Walk, headers: Headers) -> Step
-    requires { (at < length s.now) × (calm ≡ quiet c) × Within most_bytes walk }
-    ensures { Steps c s.now at walk headers result }
+fn step_at(s: &[u8], c: Characters, calm: bool, at: usize, kept: Kept) -> Option<Kept>
+    requires { (at < length s.now) × (calm ≡ quiet c) × Within most_bytes kept.walk }
+    ensures { Steps c s.now at kept.walk kept.headers result }
 {
     if is_user(s, c, calm, at) {
-        return user_step(walk, headers);
+        return user_step(kept);
     }
-    step_by(s, c, at, walk, headers, tag_at(s, c, calm, at))
+    named_step(s, c, at, kept, tag_at(s, c, calm, at)?)
 }
 
-pub fn clean_walk(s: &[u8], c: Characters, start: usize) -> Clean
+// The walk over all segments from a place on, where nothing is found of them; none, where something may be.
+pub fn clean_walk(s: &[u8], c: Characters, start: usize) -> Option<Walk>
     requires { length s.now ≤ most_bytes }
     ensures { Cleans c s.now start result }
 {
     let calm = is_quiet(c);
     let release = releasing(c);
-    let mut walk = beginning();
-    let mut headers = Headers {
-        unb: s.len(),
-        ung: s.len(),
-        unh: s.len(),
+    let mut kept = Kept {
+        walk: beginning(),
+        headers: Headers {
+            unb: s.len(),
+            ung: s.len(),
+            unh: s.len(),
+        },
     };
     let mut at = start;
     while at < s.len() {
         let Scanned::Ended { next } = segment_ended(s, c, release, at) else {
-            return Clean::Other;
+            return None;
         };
-        let Step::Next {
-            walk: after,
-            headers: kept,
-        } = step_at(s, c, calm, at, walk, headers)
-        else {
-            return Clean::Other;
+        let Some(after) = step_at(s, c, calm, at, kept) else {
+            return None;
         };
-        walk = after;
-        headers = kept;
+        kept = after;
         at = next;
     }
-    if is_complete(walk) {
-        return Clean::Whole(walk);
+    if is_complete(kept.walk) {
+        return Some(kept.walk);
     }
-    Clean::Other
+    None
 }

@@ -21,18 +21,15 @@ fn before_idle(s: &[u8], c: Characters, r: u8, from: usize) -> usize
     ensures { (result ≤ 64) × Clear c s.now from (from + result) }
 {
     let mut first: u8 = 64;
-    let mut k: u8 = 0;
-    let mut at = from;
-    while k < 64 {
-        let next = at + 1;
-        first = least(first, place_found(is_idle(c, r, s[at], s[next]), k));
-        at = next;
-        k += 1;
+    for k in 0..64 {
+        let at = from + usize::from(k);
+        first = least(first, place_found(is_idle(c, r, s[at], s[at + 1]), k));
     }
-    first as usize
+    usize::from(first)
 }
 
-// A place up to which nothing is idle: before what is, or one of the last few bytes.
+// A place up to which nothing is idle: before what is, or one of the last few bytes. (A `for` by sixty-four would not tell
+// the place of the last few.)
 fn past_clear(s: &[u8], c: Characters, r: u8, from: usize) -> usize
     requires { r ≡ ends_repeat c }
     ensures { (from ≤ result) × Clear c s.now from result }
@@ -56,15 +53,12 @@ fn back_to_value(s: &[u8], c: Characters, from: usize, to: usize) -> usize
     requires { (from ≤ to) × (from < to → to ≤ length s.now) }
     ensures { (from ≤ result) × (result ≤ to) × EndsInValue c s.now from result }
 {
-    let mut at = to;
-    while from < at {
-        let last = at - 1;
+    for last in (from..to).rev() {
         if !is_service(c, s[last]) & (32 <= s[last]) {
-            return at;
+            return last + 1;
         }
-        at = last;
     }
-    at
+    from
 }
 
 // A place up to which a part goes that begins at a place where nothing is held back.

@@ -8,8 +8,8 @@ use lib.Dec.{eqb}
 use lib.ListN.{length, get_or, drop, drop_of_length-le, length-append, length-drop}
 use lib.Seq.{sets}
 use borrow.Author.Tests.{eq-eqb, ne_eqb}
+use Rattle.std.specs.Prelude.{Option, Some, None}
 use Rattle.lists.specs.Lists.{begins}
-use Rattle.lists.proofs.Texts.{if_true, if_false}
 use Rattle.lists.proofs.Numbers.{drop_next}
 use Rattle.values.specs.Spelling.{Bytes}
 use Rattle.stage_opening.proofs.Beginnings.{begins_length, begins_at, stands_byte}
@@ -18,7 +18,7 @@ use Rattle.columns.specs.Lines.{tab, line_feed, in_decimal, line, value_line}
 use Rattle.column_laws.specs.declared.Position.{Position}
 use Rattle.column_laws.specs.Positions.{line_at}
 use Rattle.column_laws.proofs.Decimals.{few_digits}
-use Rattle.column_lines.specs.Numbers.{cell, numbers_at, past}
+use Rattle.column_lines.specs.Numbers.{cell, numbers_at, Ends}
 
 -- ---- how long the numbers are
 
@@ -79,36 +79,9 @@ module _ (ps xs : Bytes) (i : ℕ) where
 -- ---- bytes at a place
 
 module _ (bytes : Bytes) (s : List ℕ) (place : ℕ) where
-  pub past_off : begins bytes (drop place s) ≡ false → past bytes s place ≡ place
-  unfolding past
-  past_off h = if_false (begins bytes (drop place s)) (place + length bytes) place h
-
-  pub past_on : begins bytes (drop place s) ≡ true → past bytes s place ≡ place + length bytes
-  unfolding past
-  past_on h = if_true (begins bytes (drop place s)) (place + length bytes) place h
-
-  -- they stand there exactly where one is past them
-  pub past_stays : 1 ≤ length bytes → past bytes s place ≡ place → begins bytes (drop place s) ≡ false
-  past_stays l e = step (begins bytes (drop place s)) refl
-    where
-      step : (t : Bool) → begins bytes (drop place s) ≡ t → t ≡ false
-      step true h = absurd (omega (arith, past_on h))
-      step false h = refl
-
-  pub past_moves : (past bytes s place ≡ place → ⊥) → begins bytes (drop place s) ≡ true
-  past_moves n = step (begins bytes (drop place s)) refl
-    where
-      step : (t : Bool) → begins bytes (drop place s) ≡ t → t ≡ true
-      step true h = refl
-      step false h = absurd (n (past_off h))
-
-  -- and then they are in the text
-  pub past_within : place ≤ length s → past bytes s place ≤ length s
-  past_within l = step (begins bytes (drop place s)) refl
-    where
-      step : (t : Bool) → begins bytes (drop place s) ≡ t → past bytes s place ≤ length s
-      step true h = omega (arith, past_on h, begins_length bytes (drop place s) h, length-drop place s)
-      step false h = omega (arith, past_off h)
+  -- where they stand they are in the text
+  pub ends_within : {end : ℕ} → Ends bytes s place (Some end) → place ≤ length s → end ≤ length s
+  ends_within h l = omega (arith, h.1, begins_length bytes (drop place s) h.0, length-drop place s)
 
 -- ---- one after the other
 
@@ -117,12 +90,16 @@ module _ (first rest : Bytes) (s : List ℕ) (place : ℕ) where
   first_off h =
       begins_at s place first rest ∙ ap (λ (t : Bool). t && begins rest (drop (place + length first) s)) h
 
-  pub then_rest : {next : ℕ} {t : Bool} → begins first (drop place s) ≡ true → next ≡ place + length first
+  then_rest : {next : ℕ} {t : Bool} → begins first (drop place s) ≡ true → next ≡ place + length first
       → begins rest (drop next s) ≡ t → begins (first ++ rest) (drop place s) ≡ t
   then_rest h e r =
       begins_at s place first rest
       ∙ ap₂ (λ (u : Bool) (n : ℕ). u && begins rest (drop n s)) h (sym e)
       ∙ r
+
+  pub ends_then : {next : ℕ} → Ends first s place (Some next) → (o : Option ℕ) → Ends rest s next o → Ends (first ++ rest) s place o
+  ends_then h None r = then_rest h.0 h.1 r
+  ends_then h (Some end) r = (then_rest h.0 h.1 r.0, omega (arith, h.1, r.1, length-append first rest))
 
 -- a number and its tab, of which the tab would stand at `end`
 module _ (n : ℕ) (s : List ℕ) (place : ℕ) {end : ℕ} (e : end ≡ place + length (in_decimal n)) (h : end < length s) where
@@ -168,19 +145,3 @@ numbers_put p b₀ place {b₁} {b₂} {b₃} {b₄} {element} {repeat} {compone
           (stored_after b₁ element (cell p.element) repeats v b (stored_after b₂ repeat (cell p.repeat) (cell p.component) w c x)),
       omega (arith, numbers_cells p, a, b, c, d),
     )
-
--- one is past a first part or stays where one is
-module _ (first : Bytes) (s : List ℕ) (place : ℕ) {next : ℕ} (e : next ≡ past first s place) where
-  pub stayed : 1 ≤ length first → next ≡ place → begins first (drop place s) ≡ false
-  stayed h d = past_stays first s place h (sym e ∙ d)
-
-  pub moved : (next ≡ place → ⊥) → (begins first (drop place s) ≡ true) × (next ≡ place + length first)
-  moved n =
-      let b = past_moves first s place (λ d. n (e ∙ d)) in
-      (b, e ∙ past_on first s place b)
-
-  pub within : place ≤ length s → next ≤ length s
-  within h = omega (arith, e, past_within first s place h)
-
-pub cell_some : (n : ℕ) → 1 ≤ length (cell n)
-cell_some n = omega (arith, cell_length n)

@@ -7,7 +7,7 @@ ghost use Rattle.std.proofs.lemmas.List.Edits.{sets};
 ghost use Rattle.lists.specs.Lists.{begins};
 ghost use Rattle.columns.specs.Lines.{in_decimal, heading};
 ghost use Rattle.column_laws.specs.Positions.{at, next_at};
-ghost use Rattle.column_lines.specs.Numbers.{cell, numbers_at, past};
+ghost use Rattle.column_lines.specs.Numbers.{cell, numbers_at, Ends};
 
 use column_laws::Position;
 
@@ -31,48 +31,39 @@ pub fn next_position(p: Position, kind: u32) -> Position
     requires { (p.segment < 18446744073709551615) × (p.element < 18446744073709551615) × (p.repeat < 18446744073709551615) × (p.component < 18446744073709551615) }
     ensures { result ≡ next_at p kind }
 {
-    if kind == 0 {
-        return Position {
+    match kind {
+        0 => Position {
             segment: p.segment + 1,
-            element: 0,
-            repeat: 0,
-            component: 0,
-        };
-    }
-    if kind == 1 {
-        return Position {
-            segment: p.segment,
+            ..origin()
+        },
+        1 => Position {
             element: p.element + 1,
             repeat: 0,
             component: 0,
-        };
-    }
-    if kind == 3 {
-        return Position {
-            segment: p.segment,
-            element: p.element,
+            ..p
+        },
+        3 => Position {
             repeat: p.repeat + 1,
             component: 0,
-        };
-    }
-    Position {
-        segment: p.segment,
-        element: p.element,
-        repeat: p.repeat,
-        component: p.component + 1,
+            ..p
+        },
+        _ => Position {
+            component: p.component + 1,
+            ..p
+        },
     }
 }
 
 // ---- a number
 
-// How many digits a number has: at most twenty.
+// How many digits a number has: at most twenty. (How often it is divided the number tells, and no range.)
 fn digit_count(n: usize) -> usize
     ensures { (result ≡ length (in_decimal n)) × (result ≤ 20) }
 {
     let mut left = n;
     let mut count = 1;
     while 9 < left {
-        left = left / 10;
+        left /= 10;
         count += 1;
     }
     count
@@ -91,12 +82,10 @@ fn put_column(buffer: &mut [u8], at: usize, n: usize) -> usize
     ensures { (buffer.new ≡ sets buffer.old at (cell n)) × (result ≡ at + length (cell n)) }
 {
     let end = at + digit_count(n);
-    let mut to = end;
     let mut left = n;
-    while at < to {
-        to -= 1;
+    for to in (at..end).rev() {
         buffer[to] = last_digit(left);
-        left = left / 10;
+        left /= 10;
     }
     buffer[end] = TAB;
     end + 1
@@ -107,35 +96,31 @@ fn stands(s: &[u8], at: usize, end: usize, n: usize) -> bool
     requires { (end ≡ at + length (in_decimal n)) × (end ≤ length s.now) }
     ensures { result ≡ begins (in_decimal n) (drop at s.now) }
 {
-    let mut from = end;
     let mut left = n;
-    while at < from {
-        from -= 1;
+    for from in (at..end).rev() {
         if s[from] != last_digit(left) {
             return false;
         }
-        left = left / 10;
+        left /= 10;
     }
     true
 }
 
-// The place after a number and a tab that stand at a place; the place itself where they do not.
-fn past_column(s: &[u8], at: usize, n: usize) -> usize
+// The place after a number and a tab, where they stand at a place.
+fn past_column(s: &[u8], at: usize, n: usize) -> Option<usize>
     requires { at ≤ length s.now }
-    ensures { result ≡ past (cell n) s.now at }
+    ensures { Ends (cell n) s.now at result }
 {
     let count = digit_count(n);
     if s.len() - at <= count {
-        return at;
+        return None;
     }
     let end = at + count;
-    if s[end] != TAB {
-        return at;
+    if s[end] == TAB && stands(s, at, end, n) {
+        Some(end + 1)
+    } else {
+        None
     }
-    if stands(s, at, end, n) {
-        return end + 1;
-    }
-    at
 }
 
 // ---- the four numbers of a line
@@ -162,31 +147,20 @@ pub fn put_numbers(buffer: &mut [u8], at: usize, p: Position) -> usize
     put_column(buffer, component, p.component)
 }
 
-// The place after them where they stand at a place of the text; the place itself where they do not.
-pub fn past_numbers(s: &[u8], at: usize, p: Position) -> usize
+// The place after them, where they stand at a place of the text.
+pub fn numbers_end(s: &[u8], at: usize, p: Position) -> Option<usize>
     requires { at ≤ length s.now }
-    ensures { result ≡ past (numbers_at p) s.now at }
+    ensures { Ends (numbers_at p) s.now at result }
 {
-    let element = past_column(s, at, p.segment);
-    if element == at {
-        return at;
-    }
-    let repeat = past_column(s, element, p.element);
-    if repeat == element {
-        return at;
-    }
-    let component = past_column(s, repeat, p.repeat);
-    if component == repeat {
-        return at;
-    }
-    let value = past_column(s, component, p.component);
-    if value == component {
-        return at;
-    }
-    value
+    let element = past_column(s, at, p.segment)?;
+    let repeat = past_column(s, element, p.element)?;
+    let component = past_column(s, repeat, p.repeat)?;
+    past_column(s, component, p.component)
 }
 
 // ---- the heading
+
+const HEADING_LINE: &[u8] = b"segment\telement\trepeat\tcomponent\tvalue\n";
 
 // How many bytes the heading line has.
 pub const HEADING: usize = 39;
@@ -196,27 +170,21 @@ pub fn put_heading(buffer: &mut [u8])
     requires { length heading ≤ length buffer.old }
     ensures { buffer.new ≡ sets buffer.old 0 heading }
 {
-    storing::copy(
-        buffer,
-        0,
-        b"segment\telement\trepeat\tcomponent\tvalue\n",
-        0,
-    );
+    storing::put_short(buffer, 0, HEADING_LINE);
 }
 
-// The text begins with a line.
+// The text begins with a line. (The library's `starts_with` was tried: the heading is then no part of the instructions but
+// stands among the constant data, which is held to 64 bytes.)
 fn starts_with(s: &[u8], line: &[u8]) -> bool
     ensures { result ≡ begins line.now s.now }
 {
     if s.len() < line.len() {
         return false;
     }
-    let mut i = 0;
-    while i < line.len() {
-        if s[i] != line[i] {
+    for (i, b) in line.iter().enumerate() {
+        if s[i] != *b {
             return false;
         }
-        i += 1;
     }
     true
 }
@@ -225,5 +193,5 @@ fn starts_with(s: &[u8], line: &[u8]) -> bool
 pub fn begins_heading(s: &[u8]) -> bool
     ensures { result ≡ begins heading s.now }
 {
-    starts_with(s, b"segment\telement\trepeat\tcomponent\tvalue\n")
+    starts_with(s, HEADING_LINE)
 }

@@ -1,12 +1,12 @@
 -- A text is taken exactly where going on from line to line comes to its end. Assumes nothing.
-use Rattle.std.specs.Prelude.{if◌then◌else◌}
+use Rattle.std.specs.Prelude.{if◌then◌else◌, Option, None}
 use Prim.Native.Nat.{ℕ, ◌+◌, ◌-◌, ◌≤◌, ◌<◌}
 use mathlib.Core.Path.{◌≡◌, refl, sym, ap, subst, ◌∙◌}
 use mathlib.Core.Bool.{Bool, true, false, not, ◌&&◌}
 use mathlib.Core.List.{List, [], ◌∷◌, ◌++◌}
 use native.Mathlib.Omega.{arith}
 use lib.Dec.{eqb, ltb}
-use lib.ListN.{length, drop}
+use lib.ListN.{length, drop, length-drop}
 use borrow.Author.Tests.{ltb-false, le-ltb, not-true, eq-eqb, ne_eqb}
 use Rattle.lists.specs.Lists.{is_empty, all}
 use Rattle.lists.proofs.Texts.{and_left, and_right, and_both}
@@ -26,9 +26,9 @@ use Rattle.column_laws.proofs.Idle.{no_idle_ends_lem}
 use Rattle.column_laws.proofs.Listed.{list_is, exactly}
 use Rattle.column_laws.proofs.Positions.{columns_lines}
 use Rattle.column_walk.specs.declared.Line.{Line}
-use Rattle.column_walk.specs.Walk.{first_place, position_at, no_kind, value_of, item_at, Stands, Found, Rest}
+use Rattle.column_walk.specs.Walk.{first_place, position_at, value_of, item_at, Stands, Leading, Found, Rest}
 use Rattle.column_walk.specs.Checking.{items_read, least_after, Kept, Taken, Passing}
-use Rattle.column_walk.proofs.Walk.{value_length, rest_next, rest_back, rest_none, rest_end}
+use Rattle.column_walk.proofs.Walk.{value_length, rest_missing, rest_next, rest_back, rest_none, rest_end}
 
 -- ---- empty ends
 
@@ -79,30 +79,33 @@ passing_start s =
     }
 
 module _ (s : List ℕ) (place : ℕ) (p : Position) (count least : ℕ) (g : Passing s place p count least) where
-  module _ (l : Line) (h : place < length s) (f : Found s place p l) where
-    -- no line stands there
-    pub passing_other : l.kind ≡ no_kind → (items : List Item) → Taken s items → ⊥
-    passing_other e items t =
-        let (left, r, k) = g.forth items t in
-        omega (arith, e, (rest_next s place p l left r h f).known)
+  -- no line stands there
+  pub passing_other : place < length s → {found : Option Line} → Found s place p found → found ≡ None → (items : List Item) → Taken s items → ⊥
+  unfolding lines_at
+  passing_other h f e items t =
+      let (left, r, k) = g.forth items t in
+      let none : Rest s place p [] = subst (Rest s place p) (rest_missing s place p left r f e) r in
+      let end : drop place s ≡ [] = none.text in
+      omega (arith, h, length-drop place s, ap length end)
 
+  module _ (l : Line) (f : Leading s place p l) where
     -- what it begins would make the value before it an empty end
     pub passing_idle : rank_of l.kind < least → (items : List Item) → Taken s items → ⊥
     passing_idle e items t =
         let (left, r, k) = g.forth items t in
-        let next = rest_next s place p l left r h f in
+        let next = rest_next s place p l left r f in
         let kept : Kept least (item_at s l ∷ next.more) = subst (Kept least) next.is k in
         omega (arith, e, (kept_next least (item_at s l) next.more kept).0)
 
-    pub passing_next : first_place ≤ place → (l.kind ≡ no_kind → ⊥) → least ≤ rank_of l.kind → Passing s (l.end + 1) l.position (count + 1) (least_after l)
-    passing_next b e low =
-        let (leads, stands) = f.some e in
+    pub passing_next : first_place ≤ place → least ≤ rank_of l.kind → Passing s (l.end + 1) l.position (count + 1) (least_after l)
+    passing_next b low =
+        let (leads, stands) = f in
         let same = least_is s place (position_at place p l.kind) l stands in
         record {
           forth =
               λ items t.
               let (left, r, k) = g.forth items t in
-              let next = rest_next s place p l left r h f in
+              let next = rest_next s place p l left r f in
               let kept : Kept least (item_at s l ∷ next.more) = subst (Kept least) next.is k in
               (next.more, next.rest, subst (λ (n : ℕ). Kept n next.more) same (kept_next least (item_at s l) next.more kept).1);
           back =

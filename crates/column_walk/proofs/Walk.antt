@@ -1,5 +1,5 @@
 -- From line to line: at most one line stands at a place, and it is that of the next value. Assumes nothing.
-use Rattle.std.specs.Prelude.{if◌then◌else◌}
+use Rattle.std.specs.Prelude.{if◌then◌else◌, Option, Some, None}
 use Prim.Native.Nat.{ℕ, zero, suc, ◌+◌, ◌-◌, ◌≤◌, ◌<◌}
 use mathlib.Core.Path.{◌≡◌, refl, sym, ap, ap₂, subst, ◌∙◌}
 use mathlib.Core.Bool.{Bool, true, false}
@@ -8,7 +8,7 @@ use native.Mathlib.Omega.{arith}
 use lib.Dec.{eqb, leb}
 use lib.ListN.{length, drop, length-append, length-take, length-drop, drop_of_length-le}
 use lib.Seq.{drop-append_seam}
-use borrow.Author.Tests.{eqb-true, eqb-false, ne_eqb, leb-true, le-leb}
+use borrow.Author.Tests.{eqb-true, ne_eqb, leb-true, le-leb}
 use Rattle.lists.specs.Lists.{all}
 use Rattle.lists.proofs.Texts.{and_left, and_right, and_both, if_false}
 use Rattle.values.specs.Spelling.{Bytes}
@@ -21,7 +21,7 @@ use Rattle.column_laws.specs.Positions.{at, next_at, line_at, lines_at}
 use Rattle.column_laws.proofs.Columned.{kind_by, item, value_items}
 use Rattle.column_laws.proofs.Decimals.{zero_is, other_is}
 use Rattle.column_walk.specs.declared.Line.{Line}
-use Rattle.column_walk.specs.Walk.{first_place, position_at, Leads, Within, no_kind, value_of, item_at, Stands, Missing, Sought, Found, Rest, Next}
+use Rattle.column_walk.specs.Walk.{first_place, position_at, Leads, Within, value_of, item_at, Stands, Missing, Sought, Leading, Found, Rest, Next}
 
 -- ---- what a position tells
 
@@ -120,53 +120,70 @@ module _ (place : ℕ) (p : Position) (t : Bytes) (j k : ℕ) (v w x y : Bytes) 
 
 -- ---- a search
 
+-- a line that was found is found, and no other one
+pub none_not_some : {A : Type 0} {x : A} → None ≡ Some x → ⊥
+none_not_some e = let no : ◌≡◌ {A = ℕ} 0 1 = cc in absurd (omega arith)
+
+pub some_same : {A : Type 0} {x y : A} → Some x ≡ Some y → x ≡ y
+some_same e = cc
+
 -- the first line is the one of a new segment
-pub found_first : (s : List ℕ) (p : Position) (l : Line) → Sought s first_place (at 0 0 0 0) 0 l → Found s first_place p l
+pub found_first : (s : List ℕ) (p : Position) {found : Option Line} → Sought s first_place (at 0 0 0 0) 0 found → Found s first_place p found
 unfolding position_at
-found_first s p l g =
+found_first s p g =
     record {
       none = λ e kind leads. g.none e;
-      some = λ n. let (same, stands) = g.some n in (record { low = omega (arith, same); first = λ d. same }, stands);
+      some = λ l e. let (same, stands) = g.some l e in (record { low = omega (arith, same); first = λ d. same }, stands);
     }
 
-module _ (s : List ℕ) (place : ℕ) where
-  -- none of this kind was found
-  missed : (q : Position) (kind : ℕ) (l : Line) → Sought s place q kind l → (l.kind ≡ kind → ⊥) → Missing s place q
-  missed q kind l g n = step (eqb l.kind no_kind) refl
+module _ (s : List ℕ) (place : ℕ) (p : Position) (later : first_place < place) where
+  -- one of this kind was found
+  leading_by : (kind : ℕ) → kind ≤ 3 → {found : Option Line} → Sought s place (next_at p kind) kind found → (l : Line) → found ≡ Some l → Leading s place p l
+  leading_by kind low g l e =
+      let (same, stands) = g.some l e in (
+        record { low = omega (arith, same, low); first = λ d. absurd (omega (arith, d, later)) },
+        subst (λ (q : Position). Stands s place q l) (sym (position_later place p l.kind later ∙ ap (next_at p) same)) stands,
+      )
+
+  pub found_by_lem : (kind : ℕ) → kind ≤ 3 → {found : Option Line} → Sought s place (next_at p kind) kind found → {l : Line} → found ≡ Some l
+      → Found s place p (Some l)
+  found_by_lem kind low g {l} e =
+      record {
+        none = λ d. absurd (none_not_some (sym d));
+        some = λ k d. subst (λ (j : Line). Leading s place p j) (some_same d) (leading_by kind low g l e);
+      }
+
+  -- each kind is looked for, the last one being a new segment
+  pub found_last : {a b d found : Option Line} → Sought s place (next_at p 2) 2 a → a ≡ None → Sought s place (next_at p 3) 3 b → b ≡ None
+      → Sought s place (next_at p 1) 1 d → d ≡ None → Sought s place (next_at p 0) 0 found → Found s place p found
+  found_last {found = found} ga na gb nb gd nd g =
+      record {
+        none = λ e kind leads. subst (λ (q : Position). Missing s place q) (sym (position_later place p kind later)) (each kind leads.low e);
+        some = λ l e. leading_by 0 (omega arith) g l e;
+      }
     where
-      step : (t : Bool) → eqb l.kind no_kind ≡ t → Missing s place q
-      step true e = g.none (eqb-true l.kind no_kind e)
-      step false e = absurd (n (g.some (eqb-false l.kind no_kind e)).0)
-
-  module _ (p : Position) (later : first_place < place) where
-    -- one was
-    pub found_by_lem : (kind : ℕ) (l : Line) → kind ≤ 3 → Sought s place (next_at p kind) kind l → l.kind ≡ kind → Found s place p l
-    found_by_lem kind l low g e =
-        record {
-          none = λ d. absurd (omega (arith, d, e, low));
-          some = λ n. (
-            record { low = omega (arith, e, low); first = λ d. absurd (omega (arith, d, later)) },
-            subst (λ (q : Position). Stands s place q l) (sym (position_later place p l.kind later ∙ ap (next_at p) e)) (g.some n).1,
-          );
-        }
-
-    -- each kind is looked for, the last one being a new segment
-    pub found_last : (a b d l : Line) → Sought s place (next_at p 2) 2 a → (a.kind ≡ 2 → ⊥) → Sought s place (next_at p 3) 3 b → (b.kind ≡ 3 → ⊥)
-        → Sought s place (next_at p 1) 1 d → (d.kind ≡ 1 → ⊥) → Sought s place (next_at p 0) 0 l → Found s place p l
-    found_last a b d l ga na gb nb gd nd g =
-        record {
-          none = λ e kind leads. subst (λ (q : Position). Missing s place q) (sym (position_later place p kind later)) (each kind leads.low e);
-          some = λ n. (found_by_lem 0 l (omega arith) g (g.some n).0).some n;
-        }
-      where
-        each : (kind : ℕ) → kind ≤ 3 → l.kind ≡ no_kind → Missing s place (next_at p kind)
-        each zero h e = g.none e
-        each (suc zero) h e = missed (next_at p 1) 1 d gd nd
-        each (suc (suc zero)) h e = missed (next_at p 2) 2 a ga na
-        each (suc (suc (suc zero))) h e = missed (next_at p 3) 3 b gb nb
-        each (suc (suc (suc (suc kind)))) h e = absurd (omega arith)
+      each : (kind : ℕ) → kind ≤ 3 → found ≡ None → Missing s place (next_at p kind)
+      each zero h e = g.none e
+      each (suc zero) h e = gd.none nd
+      each (suc (suc zero)) h e = ga.none na
+      each (suc (suc (suc zero))) h e = gb.none nb
+      each (suc (suc (suc (suc kind)))) h e = absurd (omega arith)
 
 -- ---- the values still to come
+
+-- the next value may stand at the place
+rest_leads : (s : List ℕ) (place : ℕ) (p : Position) (x : Item) (more : List Item) → Rest s place p (x ∷ more) → Leads place x.kind
+unfolding first_kind kinds_up_to3 all
+rest_leads s place p x more r = record { low = leb-true x.kind 3 (and_left (leb x.kind 3) (kinds_up_to3 more) r.kinds); first = r.first }
+
+-- where no line was found none is to come
+pub rest_missing : (s : List ℕ) (place : ℕ) (p : Position) (items : List Item) → Rest s place p items → {found : Option Line} → Found s place p found
+    → found ≡ None → items ≡ []
+unfolding lines_at first_kind all
+rest_missing s place p [] r f e = refl
+rest_missing s place p (x ∷ more) r f e =
+    absurd (f.none e x.kind (rest_leads s place p x more r) x.value (lines_at (next_at (position_at place p x.kind) (first_kind more)) more)
+    (and_left (fits_line x.value) (all (λ i. fits_line i.value) more) r.fits) r.text)
 
 module _ (s : List ℕ) (place : ℕ) (p : Position) (l : Line) where
   -- behind a line that stands, positions follow from its own
@@ -177,52 +194,37 @@ module _ (s : List ℕ) (place : ℕ) (p : Position) (l : Line) where
       ∙ ap (λ (q : Position). next_at q kind) stands.position
 
   -- the line that was found is that of the next value
-  pub rest_next : (items : List Item) → Rest s place p items → place < length s → Found s place p l → Next s place p l items
+  pub rest_next : (items : List Item) → Rest s place p items → Leading s place p l → Next s place p l items
   unfolding lines_at first_kind kinds_up_to3 all
-  rest_next [] r h f = let none : drop place s ≡ [] = r.text in absurd (omega (arith, h, length-drop place s, ap length none))
-  rest_next (x ∷ more) r h f = step (eqb l.kind no_kind) refl
-    where
-      own : ℕ
-      own = x.kind
-
-      low : own ≤ 3
-      low = leb-true own 3 (and_left (leb own 3) (kinds_up_to3 more) r.kinds)
-
-      leads : Leads place own
-      leads = record { low = low; first = r.first }
-
-      fine : fits_line x.value ≡ true
-      fine = and_left (fits_line x.value) (all (λ i. fits_line i.value) more) r.fits
-
-      step : (t : Bool) → eqb l.kind no_kind ≡ t → Next s place p l (x ∷ more)
-      step true e =
-          absurd (f.none (eqb-true l.kind no_kind e) own leads x.value (lines_at (next_at (position_at place p own) (first_kind more)) more) fine r.text)
-      step false e =
-          let found = f.some (eqb-false l.kind no_kind e) in
-          let stands : Stands s place (position_at place p l.kind) l = found.1 in
-          let there : Bytes = drop (l.end + 1) s in
-          let here : Bytes = lines_at (next_at (position_at place p own) (first_kind more)) more in
-          let same : item l.kind (value_of s l) ≡ item own x.value =
-          same_first place p (drop place s) l.kind own (value_of s l) x.value there here found.0 leads stands.fits fine stands.text r.text in
-          let left : there ≡ here =
-          same_rest place p (drop place s) l.kind own (value_of s l) x.value there here found.0 leads stands.fits fine stands.text r.text in
-          record {
-            known = found.0.low;
-            stands = stands;
-            more = more;
-            is = ap (λ (i : Item). i ∷ more) (sym same);
-            rest =
-                record {
-                  behind = omega (arith, r.behind, stands.behind, stands.order);
-                  text =
-                      left
-                      ∙ ap (λ (q : Position). lines_at q more)
-                      (sym (after_line r.behind stands (first_kind more) ∙ ap (λ (i : Item). next_at (position_at place p i.kind) (first_kind more)) same));
-                  first = λ d. absurd (omega (arith, d, r.behind, stands.behind, stands.order));
-                  kinds = and_right (leb own 3) (kinds_up_to3 more) r.kinds;
-                  fits = and_right (fits_line x.value) (all (λ i. fits_line i.value) more) r.fits;
-                };
-          }
+  rest_next [] r (leads, stands) =
+      let none : drop place s ≡ [] = r.text in
+      absurd (omega (arith, stands.behind, stands.order, stands.inside, length-drop place s, ap length none))
+  rest_next (x ∷ more) r (first, stands) =
+      let leads : Leads place x.kind = rest_leads s place p x more r in
+      let fine : fits_line x.value ≡ true = and_left (fits_line x.value) (all (λ i. fits_line i.value) more) r.fits in
+      let there : Bytes = drop (l.end + 1) s in
+      let here : Bytes = lines_at (next_at (position_at place p x.kind) (first_kind more)) more in
+      let same : item l.kind (value_of s l) ≡ item x.kind x.value =
+      same_first place p (drop place s) l.kind x.kind (value_of s l) x.value there here first leads stands.fits fine stands.text r.text in
+      let left : there ≡ here =
+      same_rest place p (drop place s) l.kind x.kind (value_of s l) x.value there here first leads stands.fits fine stands.text r.text in
+      record {
+        known = first.low;
+        stands = stands;
+        more = more;
+        is = ap (λ (i : Item). i ∷ more) (sym same);
+        rest =
+            record {
+              behind = omega (arith, r.behind, stands.behind, stands.order);
+              text =
+                  left
+                  ∙ ap (λ (q : Position). lines_at q more)
+                  (sym (after_line r.behind stands (first_kind more) ∙ ap (λ (i : Item). next_at (position_at place p i.kind) (first_kind more)) same));
+              first = λ d. absurd (omega (arith, d, r.behind, stands.behind, stands.order));
+              kinds = and_right (leb x.kind 3) (kinds_up_to3 more) r.kinds;
+              fits = and_right (fits_line x.value) (all (λ i. fits_line i.value) more) r.fits;
+            };
+      }
 
   -- the value of a line that stands, in front of those that follow it
   pub rest_back : first_place ≤ place → Leads place l.kind → Stands s place (position_at place p l.kind) l → (more : List Item)

@@ -1,5 +1,5 @@
 -- Request 2026-12: a text in columns from line to line: the line at a place, and the values whose lines follow. Assumes nothing.
-use Rattle.std.specs.Prelude.{ℕ, ◌+◌, ◌-◌, ◌≤◌, ◌<◌, ◌≡◌, true, List, ◌∷◌, ◌++◌, eqb, length, take, drop, if◌then◌else◌}
+use Rattle.std.specs.Prelude.{ℕ, ◌+◌, ◌-◌, ◌≤◌, ◌<◌, ◌≡◌, true, List, ◌∷◌, ◌++◌, Option, Some, None, eqb, length, take, drop, if◌then◌else◌}
 use Rattle.lists.specs.Lists.{all}
 use Rattle.values.specs.Spelling.{Bytes}
 use Rattle.operations.specs.ValueList.{Item}
@@ -33,10 +33,6 @@ pub record Within (p : Position) (place : ℕ) : Type 0 where
 
 -- ---- a line
 
--- no line
-abbrev pub no_kind : ℕ
-no_kind = 4
-
 -- its value
 abbrev pub value_of : List ℕ → Line → Bytes
 value_of s l = take (l.end - l.start) (drop l.start s)
@@ -58,14 +54,18 @@ abbrev pub Missing : List ℕ → ℕ → Position → Type 0
 Missing s place p = (value rest : Bytes) → fits_line value ≡ true → drop place s ≡ line_at p value ++ rest → ⊥
 
 -- what a search for a line with the numbers of a position answers, for a value of a kind
-pub record Sought (s : List ℕ) (place : ℕ) (p : Position) (kind : ℕ) (l : Line) : Type 0 where
-  pub none : l.kind ≡ no_kind → Missing s place p
-  pub some : (l.kind ≡ no_kind → ⊥) → (l.kind ≡ kind) × Stands s place p l
+pub record Sought (s : List ℕ) (place : ℕ) (p : Position) (kind : ℕ) (found : Option Line) : Type 0 where
+  pub none : found ≡ None → Missing s place p
+  pub some : (l : Line) → found ≡ Some l → (l.kind ≡ kind) × Stands s place p l
+
+-- the line of a value that may stand there does, after the value at a position
+abbrev pub Leading : List ℕ → ℕ → Position → Line → Type 0
+Leading s place p l = Leads place l.kind × Stands s place (position_at place p l.kind) l
 
 -- what a search for the line at a place answers, after the value at a position
-pub record Found (s : List ℕ) (place : ℕ) (p : Position) (l : Line) : Type 0 where
-  pub none : l.kind ≡ no_kind → (kind : ℕ) → Leads place kind → Missing s place (position_at place p kind)
-  pub some : (l.kind ≡ no_kind → ⊥) → Leads place l.kind × Stands s place (position_at place p l.kind) l
+pub record Found (s : List ℕ) (place : ℕ) (p : Position) (found : Option Line) : Type 0 where
+  pub none : found ≡ None → (kind : ℕ) → Leads place kind → Missing s place (position_at place p kind)
+  pub some : (l : Line) → found ≡ Some l → Leading s place p l
 
 -- ---- what follows
 

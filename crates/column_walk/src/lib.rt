@@ -5,8 +5,7 @@
 
 use column_laws::Position;
 
-// A line that was looked for at a place: what begins with its value, the value's position, and where its bytes stand.
-// A kind of 4 says that there is none.
+// A line that stands at a place: what begins with its value, the value's position, and where its bytes stand.
 #[derive(Clone, Copy)]
 pub struct Line {
     pub kind: u32,

@@ -1,4 +1,5 @@
 -- What each contract allows, case by case: which answer, and which bytes of the lent buffer at exit. Assumes nothing.
+use Rattle.std.specs.Prelude.{Ok, Err}
 use Prim.Native.Nat.{ℕ, ◌≤◌}
 use mathlib.Core.Path.{◌≡◌, ap, ◌∙◌}
 use mathlib.Core.Bool.{true, false, not}
@@ -10,9 +11,7 @@ use Rattle.refusals.specs.declared.Fault.TheVariants.{NoColumns}
 use Rattle.refusals.specs.declared.Refusal.{Refusal}
 use Rattle.refusals.proofs.Stages.{one_place}
 use Rattle.stages.specs.Stages.{refusal_of}
-use Rattle.answers.specs.declared.Stored.{Stored}
-use Rattle.answers.specs.declared.Stored.TheVariants as stored
-use Rattle.answers.specs.Answers.{given, refused, told_stored}
+use Rattle.answers.specs.Answers.{given, refused, told_stored, Stored}
 use Rattle.operations.specs.Judge.{stored_in, unless_refused}
 use Rattle.operations.specs.Write.{write_stages, write_refusal}
 use Rattle.contracts.proofs.Told.{stored_tells}
@@ -35,14 +34,14 @@ export_refused buffer s e = (
 -- the text in the front of the buffer, of which the rest stays; or the refusal, and the buffer as it was
 pub exports_are : (buffer s : List ℕ) (r : Stored) (after : List ℕ) → Exports buffer s r after
     → (refusal_of s ≡ none → length (export_text s) ≤ length buffer
-    → (r ≡ stored.Length (length (export_text s))) × (after ≡ export_text s ++ drop (length (export_text s)) buffer))
-    × ((q : Refusal) → export_refusal buffer s ≡ some q → (r ≡ stored.Refused q) × (after ≡ buffer))
+    → (r ≡ Ok (length (export_text s))) × (after ≡ export_text s ++ drop (length (export_text s)) buffer))
+    × ((q : Refusal) → export_refusal buffer s ≡ some q → (r ≡ Err q) × (after ≡ buffer))
 unfolding told_stored
 exports_are buffer s r after h = (
   λ e fits.
       let told = exported buffer s e fits in
-      (stored_tells r (stored.Length (length (export_text s))) (h.0 ∙ told.1), h.1 ∙ told.2),
-  λ q e. let told = export_refused buffer s e in (stored_tells r (stored.Refused q) (h.0 ∙ told.0), h.1 ∙ told.1),
+      (stored_tells r (Ok (length (export_text s))) (h.0 ∙ told.1), h.1 ∙ told.2),
+  λ q e. let told = export_refused buffer s e in (stored_tells r (Err q) (h.0 ∙ told.0), h.1 ∙ told.1),
 )
 
 -- ---- import
@@ -82,12 +81,12 @@ module _ (service columns output : List ℕ) where
   pub imports_are : (r : Stored) (after : List ℕ) → Imports service columns output r after
       → (import_refusal service columns output ≡ none
       → let text : List ℕ = import_text service columns in
-      (r ≡ stored.Length (length text)) × (after ≡ text ++ drop (length text) output))
-      × ((q : Refusal) → import_refusal service columns output ≡ some q → (r ≡ stored.Refused q) × (after ≡ replicate (length output) 0))
+      (r ≡ Ok (length text)) × (after ≡ text ++ drop (length text) output))
+      × ((q : Refusal) → import_refusal service columns output ≡ some q → (r ≡ Err q) × (after ≡ replicate (length output) 0))
   unfolding told_stored
   imports_are r after h = (
     λ e.
         let told = import_given e in
-        (stored_tells r (stored.Length (length (import_text service columns))) (h.0 ∙ told.0), h.1 ∙ told.1),
-    λ q e. let told = import_refused e in (stored_tells r (stored.Refused q) (h.0 ∙ told.0), h.1 ∙ told.1),
+        (stored_tells r (Ok (length (import_text service columns))) (h.0 ∙ told.0), h.1 ∙ told.1),
+    λ q e. let told = import_refused e in (stored_tells r (Err q) (h.0 ∙ told.0), h.1 ∙ told.1),
   )

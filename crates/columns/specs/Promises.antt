@@ -1,8 +1,7 @@
 -- Request 2026-12: what export and import promise of their answers and of each lent buffer at exit, for any input, refused or not; and that
 -- this leaves one result. Assumes nothing.
 use Rattle.std.specs.Prelude.{ℕ, ◌≡◌, List}
-use Rattle.answers.specs.declared.Stored.{Stored}
-use Rattle.answers.specs.Answers.{told_stored}
+use Rattle.answers.specs.Answers.{told_stored, Stored}
 use Rattle.columns.specs.Operations.{exports, export_buffer, imports, import_output}
 
 abbrev pub Exports : (buffer s : List ℕ) → Stored → (after : List ℕ) → Type 0

@@ -1,5 +1,6 @@
 -- What Compare answers, from what Judge says of the two inputs and from their normal forms. Assumes nothing.
-use Rattle.std.specs.Prelude.{if◌then◌else◌}
+use Rattle.answers.specs.declared.Unaccepted.TheVariants.{First, Second}
+use Rattle.std.specs.Prelude.{if◌then◌else◌, Ok, Err}
 use Prim.Native.Nat.{ℕ, ◌+◌, ◌*◌, ◌≤◌}
 use mathlib.Core.Path.{◌≡◌, refl, sym, ap, ap₂, subst, ◌∙◌}
 use mathlib.Core.Bool.{Bool, true, false, ◌&&◌}
@@ -12,18 +13,13 @@ use Rattle.lists.specs.Lists.{same, any, maybe}
 use Rattle.lists.proofs.Texts.{same_eq, same_refl}
 use Rattle.refusals.specs.declared.Fault.TheVariants.{NormalTooLong}
 use Rattle.refusals.specs.declared.Refusal.{Refusal}
-use Rattle.refusals.specs.Refusals.{number}
 use Rattle.stages.specs.Contents.{normal_form}
 use Rattle.stages.specs.Places.{normal_too_long}
 use Rattle.stages.specs.Stages.{places_of, brackets, refusal_of}
 use Rattle.stages.proofs.Over.{within}
 use Rattle.stages.proofs.Stages.{accepted_unmet}
 use Rattle.answers.specs.declared.Figures.{Figures}
-use Rattle.answers.specs.declared.Stored.{Stored}
-use Rattle.answers.specs.declared.Stored.TheVariants.{Length, Refused}
-use Rattle.answers.specs.declared.Compared.{Compared}
-use Rattle.answers.specs.declared.Compared.TheVariants.{Same, Different, FirstRefused, SecondRefused}
-use Rattle.answers.specs.Answers.{Answer, given, refused, refused_input, told_stored, told_compared}
+use Rattle.answers.specs.Answers.{Answer, given, refused, refused_input, told_stored, told_compared, Stored, Compared}
 use Rattle.contracts.specs.Promises.{Normalises}
 use Rattle.contracts.proofs.Told.{given_refused, given_is, refused_is}
 use Rattle.operations.specs.Judge.{figures_of, normalise_refusal, normalise, normalise_buffer}
@@ -71,7 +67,7 @@ form_is s e d =
 
 module _ (buffer s : List ℕ) {r : Stored} {after : List ℕ} (said : Normalises buffer s r after) where
   -- it is accepted, and its normal form stands in front
-  pub form_stored : {n : ℕ} → r ≡ Length n → (refusal_of s ≡ none) × (n ≤ length after) × (n ≡ length (take n after)) × (take n after ≡ normal_form s)
+  pub form_stored : {n : ℕ} → r ≡ Ok n → (refusal_of s ≡ none) × (n ≤ length after) × (n ≡ length (take n after)) × (take n after ≡ normal_form s)
   unfolding normalise told_stored given
   form_stored {n} d =
       let form = normal_form s in
@@ -86,7 +82,7 @@ module _ (buffer s : List ℕ) {r : Stored} {after : List ℕ} (said : Normalise
       accepts (some q) e h = sym (normalise_judged buffer s e) ∙ h
 
   -- it is refused: where there is room, the refusal is its own
-  pub form_refused : {q : Refusal} → Room buffer s → r ≡ Refused q → refusal_of s ≡ some q
+  pub form_refused : {q : Refusal} → Room buffer s → r ≡ Err q → refusal_of s ≡ some q
   unfolding normalise told_stored
   form_refused {q} room d =
       let told = sym (ap told_stored d) ∙ said.0 in
@@ -99,7 +95,7 @@ module _ (buffer s : List ℕ) {r : Stored} {after : List ℕ} (said : Normalise
 -- ---- what is answered of the second, where the first is accepted and this is its normal form
 
 module _ (text second : List ℕ) where
-  pub text_refused : {r : Refusal} → refusal_of second ≡ some r → told_compared (SecondRefused r) ≡ compared_to text second
+  pub text_refused : {r : Refusal} → refusal_of second ≡ some r → told_compared (Err (Second r)) ≡ compared_to text second
   unfolding compared_to told_compared maybe
   text_refused e = sym (ap (maybe (given ((if same text (normal_form second) then 1 else 0) ∷ [])) (refused_input 2)) e)
 
@@ -108,31 +104,35 @@ module _ (text second : List ℕ) where
     unfolding compared_to maybe
     by_text t h = sym (ap₂ (λ (u : Bool) (o : Option Refusal). maybe (given ((if u then 1 else 0) ∷ [])) (refused_input 2) o) h f)
 
-    pub text_same : same text (normal_form second) ≡ true → told_compared Same ≡ compared_to text second
+    pub text_same : same text (normal_form second) ≡ true → told_compared (Ok true) ≡ compared_to text second
     unfolding told_compared
     text_same h = by_text true h
 
-    pub text_differs : same text (normal_form second) ≡ false → told_compared Different ≡ compared_to text second
+    pub text_differs : same text (normal_form second) ≡ false → told_compared (Ok false) ≡ compared_to text second
     unfolding told_compared
     text_differs h = by_text false h
 
+    pub text_told : (b : Bool) → same text (normal_form second) ≡ b → told_compared (Ok b) ≡ compared_to text second
+    text_told true e = text_same e
+    text_told false e = text_differs e
+
 -- what has the bytes of a normal form has that normal form
-pub bytes_form : (text second : List ℕ) → IsForm text → same text second ≡ true → told_compared Same ≡ compared_to text second
+pub bytes_form : (text second : List ℕ) → IsForm text → same text second ≡ true → told_compared (Ok true) ≡ compared_to text second
 bytes_form text second form h =
     let e : text ≡ second = same_eq text second h in
-    subst (λ (s : List ℕ). told_compared Same ≡ compared_to text s) e
+    subst (λ (s : List ℕ). told_compared (Ok true) ≡ compared_to text s) e
     (text_same text text form.0 (ap (same text) form.1 ∙ same_refl text))
 
 -- ---- what is answered
 
 module _ (first second : List ℕ) where
   -- the first is refused
-  pub first_refused : {r : Refusal} → refusal_of first ≡ some r → told_compared (FirstRefused r) ≡ compare first second
+  pub first_refused : {r : Refusal} → refusal_of first ≡ some r → told_compared (Err (First r)) ≡ compare first second
   unfolding told_compared maybe
   first_refused {r} e = sym (compare_by first second (some r) (refusal_of second) e refl)
 
   -- the second is, and the first is not
-  pub second_refused : {r : Refusal} → refusal_of first ≡ none → refusal_of second ≡ some r → told_compared (SecondRefused r) ≡ compare first second
+  pub second_refused : {r : Refusal} → refusal_of first ≡ none → refusal_of second ≡ some r → told_compared (Err (Second r)) ≡ compare first second
   unfolding told_compared maybe
   second_refused {r} e f = sym (compare_by first second none (some r) e f)
 
@@ -145,7 +145,7 @@ module _ (first second : List ℕ) where
         (ap₂ (λ (a b : Option Refusal). maybe true (λ r. false) a && maybe true (λ r. false) b && same (normal_form first) (normal_form second)) e f ∙ h)
 
     -- both are accepted, and their normal forms are equal
-    pub forms_same : same (normal_form first) (normal_form second) ≡ true → told_compared Same ≡ compare first second
+    pub forms_same : same (normal_form first) (normal_form second) ≡ true → told_compared (Ok true) ≡ compare first second
     unfolding told_compared
     forms_same h = sym (by_forms true h)
 
@@ -165,7 +165,7 @@ module _ (first second : List ℕ) where
   bytes_same h r told = told ∙ ap (compare first) (same_eq first second h)
 
 -- an accepted input is the same as itself
-pub itself_same : (s : List ℕ) → refusal_of s ≡ none → told_compared Same ≡ compare s s
+pub itself_same : (s : List ℕ) → refusal_of s ≡ none → told_compared (Ok true) ≡ compare s s
 itself_same s e = forms_same s s e e (same_refl (normal_form s))
 
 -- ---- what a caller of Compare learns
@@ -175,17 +175,15 @@ says_same : Answer → Bool
 says_same a = same a.values (1 ∷ [])
 
 unfoldable pub is_same : Compared → Bool
-is_same Same = true
-is_same Different = false
-is_same (FirstRefused r) = false
-is_same (SecondRefused r) = false
+is_same (Ok same) = same
+is_same (Err refused) = false
 
 told_so : (r : Compared) → is_same r ≡ says_same (told_compared r)
 unfolding is_same says_same told_compared given refused_input same
-told_so Same = refl
-told_so Different = refl
-told_so (FirstRefused r) = refl
-told_so (SecondRefused r) = refl
+told_so (Ok true) = refl
+told_so (Ok false) = refl
+told_so (Err (First r)) = refl
+told_so (Err (Second r)) = refl
 
 -- the answer says "same" exactly where the two are the same
 pub told_same : (first second : List ℕ) (r q : Compared) → told_compared r ≡ compare first second → r ≡ q → is_same q ≡ are_same first second

@@ -1,7 +1,7 @@
 -- What Keep hands back: one of the two inputs whole, or no byte of the first; and the same as a slice. Assumes nothing.
 use Rattle.std.specs.Prelude.{if◌then◌else◌}
-use Prim.Native.Nat.{ℕ, ◌+◌, ◌≤◌, ◌<◌, zero-le}
-use mathlib.Core.Path.{◌≡◌, refl, sym, ap, subst, ◌∙◌}
+use Prim.Native.Nat.{ℕ, ◌≤◌, ◌<◌, zero-le}
+use mathlib.Core.Path.{◌≡◌, sym, ap, subst, ◌∙◌}
 use mathlib.Core.Bool.{Bool, true, false}
 use mathlib.Core.List.{List}
 use native.Mathlib.Nat.{zero-add, le_refl}
@@ -10,8 +10,7 @@ use lib.ListN.{length, take}
 use lib.Seq.{length-take-le}
 use borrow.Author.Tests.{lt-ltb, le-ltb}
 use denote.Ref.{Bor}
-use Rattle.answers.specs.declared.Compared.{Compared}
-use Rattle.answers.specs.Answers.{told_compared}
+use Rattle.answers.specs.Answers.{told_compared, Compared}
 use Rattle.operations.specs.Compare.{Part, of_first, of_second, are_same, compare, keep}
 use Rattle.contracts.specs.Promises.{IsPart, Handed}
 use Rattle.compare.specs.declared.Kept.{Kept}

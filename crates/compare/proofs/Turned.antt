@@ -1,16 +1,15 @@
 -- What Compare answers, from what it answers for the two inputs in the other order. Assumes nothing.
-use Rattle.std.specs.Prelude.{if◌then◌else◌}
+use Rattle.answers.specs.declared.Unaccepted.TheVariants.{First, Second}
+use Rattle.std.specs.Prelude.{if◌then◌else◌, Ok, Err}
 use Prim.Native.Nat.{ℕ}
 use mathlib.Core.Path.{◌≡◌, refl, sym, ap, ◌∙◌}
-use mathlib.Core.Bool.{Bool, true, false, false≢true}
+use mathlib.Core.Bool.{Bool, true, false}
 use mathlib.Core.List.{List, [], ◌∷◌}
 use mathlib.Core.Option.{Option, none, some}
 use Rattle.lists.specs.Lists.{maybe}
 use Rattle.refusals.specs.declared.Refusal.{Refusal}
 use Rattle.stages.specs.Stages.{refusal_of}
-use Rattle.answers.specs.declared.Compared.{Compared}
-use Rattle.answers.specs.declared.Compared.TheVariants.{Same, Different, FirstRefused, SecondRefused}
-use Rattle.answers.specs.Answers.{given, refused_input, told_compared}
+use Rattle.answers.specs.Answers.{given, refused_input, told_compared, Compared}
 use Rattle.contracts.proofs.Told.{compared_tells}
 use Rattle.operations.specs.Compare.{are_same, compare}
 use Rattle.operations.proofs.Answered.{compare_by}
@@ -19,10 +18,10 @@ use Rattle.operations.proofs.Cases.{same_says}
 -- ---- the answer, from what refuses the two inputs and from whether they are the same
 
 answer_of : (o p : Option Refusal) → Bool → Compared
-answer_of (some r) p t = FirstRefused r
-answer_of none (some r) t = SecondRefused r
-answer_of none none true = Same
-answer_of none none false = Different
+answer_of (some r) p t = Err (First r)
+answer_of none (some r) t = Err (Second r)
+answer_of none none true = Ok true
+answer_of none none false = Ok false
 
 answer_told : (o p : Option Refusal) (t : Bool)
     → told_compared (answer_of o p t) ≡ maybe (maybe (given ((if t then 1 else 0) ∷ [])) (refused_input 2) p) (refused_input 1) o
@@ -59,10 +58,9 @@ same_either a b = step (are_same a b) (are_same b a) (same_turned a b) (same_tur
 
 -- the answer for the two inputs, from the answer in the other order and from what refuses the first
 unfoldable pub turned : Compared → Option Refusal → Compared
-turned Same o = Same
-turned Different o = Different
-turned (SecondRefused r) o = FirstRefused r
-turned (FirstRefused r) o = maybe (SecondRefused r) FirstRefused o
+turned (Ok same) o = Ok same
+turned (Err (Second r)) o = Err (First r)
+turned (Err (First r)) o = maybe (Err (Second r)) (λ q. Err (First q)) o
 
 turned_answer : (o p : Option Refusal) (t : Bool) → turned (answer_of p o t) o ≡ answer_of o p t
 unfolding turned answer_of maybe

@@ -5,9 +5,10 @@
 // where both inputs are short.
 #![tactic(auto)]
 
-ghost use Rattle.std.specs.Prelude.{◌≡◌, ◌≤◌, length};
+ghost use Rattle.std.specs.Prelude.{◌≡◌, ◌≤◌, replicate};
 ghost use Rattle.std.proofs.Math.Option.{none};
 ghost use Rattle.refusals.specs.Refusals.{answering};
+ghost use Rattle.refusals.specs.Limits.{most_bytes};
 ghost use Rattle.stages.specs.Stages.{stages_in};
 ghost use Rattle.stage_opening.specs.Runs.{found_by};
 ghost use Rattle.answers.specs.Answers.{told_compared};
@@ -16,138 +17,105 @@ ghost use Rattle.contracts.specs.Promises.{Compares, Keeps};
 ghost use Rattle.compare.specs.Forms.{IsForm, Room, compared_to};
 ghost use Rattle.compare.specs.Parts.{part_of};
 
-use answers::{Compared, Judged, Stored};
-use stage_opening::{Found, Progress};
+use answers::Unaccepted;
+use refusals::MOST_BYTES;
+use stage_opening::Found;
 use texts::equal;
 
 // An input that 1 to 12 pass, compared with its own bytes: it is the same unless 13 is met, which is
 // asked only where a bound does not tell.
-fn compare_itself(s: &[u8], found: Found) -> Compared
+fn compare_itself(s: &[u8], found: Found) -> Result<bool, Unaccepted>
     requires { (answering (stages_in s.now 1 12) ≡ none) × (found ≡ found_by 12 s.now) }
     ensures { Compares s.now s.now result }
 {
-    if judge::most_length(s, found) <= refusals::MOST_BYTES {
-        return Compared::Same;
+    if judge::most_length(s, found) <= MOST_BYTES {
+        return Ok(true);
     }
-    match judge::judge_length(s, found) {
-        Judged::Refused(r) => Compared::FirstRefused(r),
-        Judged::Accepted(_) => Compared::Same,
-    }
+    judge::judge_length(s, found).map_err(Unaccepted::First)?;
+    Ok(true)
 }
 
 // The second, where the first is accepted and this is its normal form. A second that has these bytes is
 // the same and is not judged, since a normal form is accepted and is its own; another's normal form is
 // stored in the buffer.
-fn compare_with(text: &[u8], buffer: &mut [u8], second: &[u8]) -> Compared
+fn compare_with(text: &[u8], buffer: &mut [u8], second: &[u8]) -> Result<bool, Unaccepted>
     requires { IsForm text.now × Room buffer.old second.now }
     ensures { told_compared result ≡ compared_to text.now second.now }
 {
     if equal(text, second) {
-        return Compared::Same;
+        return Ok(true);
     }
-    match normalise::normalise(buffer, second) {
-        Stored::Refused(r) => Compared::SecondRefused(r),
-        Stored::Length(n) => {
-            if equal(text, &buffer[..n]) {
-                return Compared::Same;
-            }
-            Compared::Different
-        }
-    }
+    let n = normalise::normalise(buffer, second).map_err(Unaccepted::Second)?;
+    Ok(equal(text, &buffer[..n]))
 }
 
 // Both, where 1 to 12 pass the first; their normal forms are stored in the buffers.
-fn compare_in(a: &mut [u8], b: &mut [u8], first: &[u8], second: &[u8], found: Found) -> Compared
+fn compare_in(
+    a: &mut [u8],
+    b: &mut [u8],
+    first: &[u8],
+    second: &[u8],
+    found: Found,
+) -> Result<bool, Unaccepted>
     requires { ((answering (stages_in first.now 1 12) ≡ none) × (found ≡ found_by 12 first.now)) × Room a.old first.now × Room b.old second.now }
     ensures { Compares first.now second.now result }
 {
-    match normalise::store_found(a, first, found) {
-        Stored::Refused(r) => Compared::FirstRefused(r),
-        Stored::Length(n) => compare_with(&a[..n], b, second),
-    }
+    let n = normalise::store_found(a, first, found).map_err(Unaccepted::First)?;
+    compare_with(&a[..n], b, second)
 }
 
-// In arrays with room for the normal forms of two inputs of at most 1,019 bytes. Clearing larger ones
-// would take long beside judging such inputs.
-fn compare_short(first: &[u8], second: &[u8], found: Found) -> Compared
-    requires { ((answering (stages_in first.now 1 12) ≡ none) × (found ≡ found_by 12 first.now)) × (length first.now ≤ 1019) × (length second.now ≤ 1019) }
+// In arrays of so many bytes, which have room for both normal forms.
+fn compare_within<const N: usize>(
+    first: &[u8],
+    second: &[u8],
+    found: Found,
+) -> Result<bool, Unaccepted>
+    requires { (N ≤ most_bytes) × ((answering (stages_in first.now 1 12) ≡ none) × (found ≡ found_by 12 first.now)) × Room (replicate N 0) first.now × Room (replicate N 0) second.now }
     ensures { Compares first.now second.now result }
 {
-    let mut a = [0u8; 2048];
-    let mut b = [0u8; 2048];
+    let mut a = [0u8; N];
+    let mut b = [0u8; N];
     compare_in(&mut a, &mut b, first, second, found)
 }
 
-// The same of at most 4,091 bytes.
-fn compare_middle(first: &[u8], second: &[u8], found: Found) -> Compared
-    requires { ((answering (stages_in first.now 1 12) ≡ none) × (found ≡ found_by 12 first.now)) × (length first.now ≤ 4091) × (length second.now ≤ 4091) }
-    ensures { Compares first.now second.now result }
-{
-    let mut a = [0u8; 8192];
-    let mut b = [0u8; 8192];
-    compare_in(&mut a, &mut b, first, second, found)
-}
-
-// In arrays with room for any normal forms.
-fn compare_long(first: &[u8], second: &[u8], found: Found) -> Compared
-    requires { (answering (stages_in first.now 1 12) ≡ none) × (found ≡ found_by 12 first.now) }
-    ensures { Compares first.now second.now result }
-{
-    let mut a = [0u8; refusals::MOST_BYTES];
-    let mut b = [0u8; refusals::MOST_BYTES];
-    compare_in(&mut a, &mut b, first, second, found)
-}
-
-// How many bytes the longer of the two has.
-fn longer(first: &[u8], second: &[u8]) -> usize
-    ensures { (length first.now ≤ result) × (length second.now ≤ result) }
-{
-    if first.len() < second.len() {
-        return second.len();
-    }
-    first.len()
-}
-
-// The first passes 1 to 12.
-fn compare_passed(first: &[u8], second: &[u8], found: Found) -> Compared
+// The first passes 1 to 12. A normal form has at most 2n + 9 bytes for n bytes; clearing larger arrays than are needed
+// would take long beside judging short inputs.
+fn compare_passed(first: &[u8], second: &[u8], found: Found) -> Result<bool, Unaccepted>
     requires { (answering (stages_in first.now 1 12) ≡ none) × (found ≡ found_by 12 first.now) }
     ensures { Compares first.now second.now result }
 {
     if equal(first, second) {
         return compare_itself(first, found);
     }
-    let longest = longer(first, second);
+    let longest = first.len().max(second.len());
     if 4091 < longest {
-        return compare_long(first, second, found);
+        return compare_within::<MOST_BYTES>(first, second, found);
     }
     if 1019 < longest {
-        return compare_middle(first, second, found);
+        return compare_within::<8192>(first, second, found);
     }
-    compare_short(first, second, found)
+    compare_within::<2048>(first, second, found)
 }
 
 // The first is normalised first, and its normal form held against the second's bytes.
-fn compare_in_order(first: &[u8], second: &[u8]) -> Compared
+fn compare_in_order(first: &[u8], second: &[u8]) -> Result<bool, Unaccepted>
     ensures { Compares first.now second.now result }
 {
-    match judge::stages_to_12(first) {
-        Progress::Refused(r) => Compared::FirstRefused(r),
-        Progress::Passed(found) => compare_passed(first, second, found),
-    }
+    let found = judge::stages_to_12(first).map_err(Unaccepted::First)?;
+    compare_passed(first, second, found)
 }
 
 // The second is normalised first, and its normal form held against the first's bytes. "1st is judged
 // first": where the second is refused, the first's refusal answers before it.
-fn compare_turned(first: &[u8], second: &[u8]) -> Compared
+fn compare_turned(first: &[u8], second: &[u8]) -> Result<bool, Unaccepted>
     ensures { Compares first.now second.now result }
 {
     match compare_in_order(second, first) {
-        Compared::Same => Compared::Same,
-        Compared::Different => Compared::Different,
-        Compared::SecondRefused(r) => Compared::FirstRefused(r),
-        Compared::FirstRefused(r) => match judge::judge(first) {
-            Judged::Refused(q) => Compared::FirstRefused(q),
-            Judged::Accepted(_) => Compared::SecondRefused(r),
+        Ok(same) => Ok(same),
+        Err(Unaccepted::Second(r)) => Err(Unaccepted::First(r)),
+        Err(Unaccepted::First(r)) => match judge::judge(first) {
+            Err(q) => Err(Unaccepted::First(q)),
+            Ok(_) => Err(Unaccepted::Second(r)),
         },
     }
 }
@@ -174,7 +142,7 @@ fn may_be_form(first: &[u8], second: &[u8]) -> bool {
 }
 
 // What may be the other's normal form is not normalised first, since it need not be judged where it is.
-pub fn compare(first: &[u8], second: &[u8]) -> Compared
+pub fn compare(first: &[u8], second: &[u8]) -> Result<bool, Unaccepted>
     ensures { Compares first.now second.now result }
 {
     if may_be_form(first, second) {
@@ -195,15 +163,15 @@ pub fn kept_part(first: &[u8], second: &[u8]) -> Kept
     ensures { part_of result ≡ keep_of first.now second.now }
 {
     match compare(first, second) {
-        Compared::Same => {
+        Ok(true) => {
             if second.len() < first.len() {
                 return Kept::Second(second.len());
             }
             Kept::First(first.len())
         }
-        Compared::Different => Kept::First(0),
-        Compared::FirstRefused(_) => Kept::First(0),
-        Compared::SecondRefused(_) => Kept::First(0),
+        // Two arms: of an arm for both a proof does not see what it matched.
+        Ok(false) => Kept::First(0),
+        Err(_) => Kept::First(0),
     }
 }
 

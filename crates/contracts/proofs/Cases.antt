@@ -1,4 +1,6 @@
 -- What each contract allows, case by case: which answer, which bytes in each buffer, which part of which slice. Assumes nothing.
+use Rattle.answers.specs.declared.Unaccepted.TheVariants.{First, Second}
+use Rattle.std.specs.Prelude.{Ok, Err, Some, Result}
 use Prim.Native.Nat.{ℕ, ◌+◌, ◌≤◌, ◌<◌}
 use mathlib.Core.Path.{◌≡◌, ap, subst, ◌∙◌}
 use mathlib.Core.Bool.{true, false}
@@ -10,17 +12,8 @@ use Rattle.refusals.specs.declared.Refusal.{Refusal}
 use Rattle.values.specs.Values.{Value}
 use Rattle.stages.specs.Contents.{normal_form}
 use Rattle.stages.specs.Stages.{refusal_of}
-use Rattle.answers.specs.declared.Judged.{Judged}
-use Rattle.answers.specs.declared.Judged.TheVariants as judged
-use Rattle.answers.specs.declared.Stored.{Stored}
-use Rattle.answers.specs.declared.Stored.TheVariants as stored
-use Rattle.answers.specs.declared.Compared.{Compared}
-use Rattle.answers.specs.declared.Compared.TheVariants.{FirstRefused, SecondRefused}
-use Rattle.answers.specs.declared.Located.{Located}
-use Rattle.answers.specs.declared.Located.TheVariants as place
 use Rattle.answers.specs.declared.Listed.{Listed}
-use Rattle.answers.specs.declared.Listed.TheVariants as listed
-use Rattle.answers.specs.Answers.{given, told_judged, told_stored, told_compared, told_located, told_listed}
+use Rattle.answers.specs.Answers.{given, told_judged, told_stored, told_compared, told_located, told_listed, Stored, Judged, Compared, Located}
 use Rattle.operations.specs.Judge.{figures_of}
 use Rattle.operations.specs.Compare.{are_same, Part, of_first, of_second, keep}
 use Rattle.operations.specs.Locate.{located, locate, part_offset}
@@ -34,58 +27,58 @@ use Rattle.contracts.specs.Tight.{SameSlice}
 use Rattle.contracts.proofs.Told.{judged_tells, stored_tells, compared_tells, located_tells, listed_tells}
 
 pub judges : (s : List ℕ) (r : Judged) → Judges s r
-    → (refusal_of s ≡ none → r ≡ judged.Accepted (figures_of s)) × ((q : Refusal) → refusal_of s ≡ some q → r ≡ judged.Refused q)
+    → (refusal_of s ≡ none → r ≡ Ok (figures_of s)) × ((q : Refusal) → refusal_of s ≡ some q → r ≡ Err q)
 unfolding told_judged
 judges s r h = (
-  λ e. judged_tells r (judged.Accepted (figures_of s)) (h ∙ (judge_is s).0 e),
-  λ q e. judged_tells r (judged.Refused q) (h ∙ (judge_is s).1 q e),
+  λ e. judged_tells r (Ok (figures_of s)) (h ∙ (judge_is s).0 e),
+  λ q e. judged_tells r (Err q) (h ∙ (judge_is s).1 q e),
 )
 
 -- the form goes to the front of the buffer
 pub stores_form : (buffer s : List ℕ) (r : Stored) (after : List ℕ) → Normalises buffer s r after
     → refusal_of s ≡ none → length (normal_form s) ≤ length buffer
-    → (r ≡ stored.Length (length (normal_form s))) × (after ≡ normal_form s ++ drop (length (normal_form s)) buffer)
+    → (r ≡ Ok (length (normal_form s))) × (after ≡ normal_form s ++ drop (length (normal_form s)) buffer)
 unfolding told_stored
 stores_form buffer s r after h e fits =
     let told = normalises buffer s e fits in
-    (stored_tells r (stored.Length (length (normal_form s))) (h.0 ∙ told.0), h.1 ∙ told.1)
+    (stored_tells r (Ok (length (normal_form s))) (h.0 ∙ told.0), h.1 ∙ told.1)
 
 -- the first input is judged first
 pub compares : (a b : List ℕ) (r : Compared) → Compares a b r
-    → ((q : Refusal) → refusal_of a ≡ some q → r ≡ FirstRefused q)
-    × ((q : Refusal) → refusal_of a ≡ none → refusal_of b ≡ some q → r ≡ SecondRefused q)
+    → ((q : Refusal) → refusal_of a ≡ some q → r ≡ Err (First q))
+    × ((q : Refusal) → refusal_of a ≡ none → refusal_of b ≡ some q → r ≡ Err (Second q))
 unfolding told_compared
 compares a b r h = (
-  λ q e. compared_tells r (FirstRefused q) (h ∙ first_refused a b e),
-  λ q e d. compared_tells r (SecondRefused q) (h ∙ second_refused a b e d),
+  λ q e. compared_tells r (Err (First q)) (h ∙ first_refused a b e),
+  λ q e d. compared_tells r (Err (Second q)) (h ∙ second_refused a b e d),
 )
 
 pub locates : (s : List ℕ) (segment element repeat component : ℕ) (r : Located) → Locates s segment element repeat component r
-    → refusal_of s ≡ none → (v : Value) → located s segment element repeat component ≡ some v → r ≡ place.At v.offset v.spelled
+    → refusal_of s ≡ none → (v : Value) → located s segment element repeat component ≡ some v → r ≡ Ok (Some (record { offset = v.offset; length = v.spelled }))
 unfolding told_located
 locates s segment element repeat component r h e v d =
-    located_tells r (place.At v.offset v.spelled) (h ∙ locate_found s segment element repeat component e v d)
+    located_tells r (Ok (Some (record { offset = v.offset; length = v.spelled }))) (h ∙ locate_found s segment element repeat component e v d)
 
 -- the values' bytes go to the front of the first buffer, their table to the front of the second
-pub lists_values : (buffer table s : List ℕ) (r : Listed) (bytesAfter tableAfter : List ℕ) → Reads buffer table s r bytesAfter tableAfter
+pub lists_values : (buffer table s : List ℕ) (r : Result Listed Refusal) (bytesAfter tableAfter : List ℕ) → Reads buffer table s r bytesAfter tableAfter
     → read_refusal buffer table s ≡ none
-    → (r ≡ listed.Values (length (value_bytes s)) (length (value_table s)))
+    → (r ≡ Ok (record { bytes = length (value_bytes s); numbers = length (value_table s) }))
     × (bytesAfter ≡ value_bytes s ++ drop (length (value_bytes s)) buffer)
     × (tableAfter ≡ value_table s ++ drop (length (value_table s)) table)
 unfolding told_listed
 lists_values buffer table s r bytesAfter tableAfter h e =
     let told = read_given buffer table s e in
-    (listed_tells r (listed.Values (length (value_bytes s)) (length (value_table s))) (h.0 ∙ told.0), h.1 ∙ told.1, h.2 ∙ told.2)
+    (listed_tells r (Ok (record { bytes = length (value_bytes s); numbers = length (value_table s) })) (h.0 ∙ told.0), h.1 ∙ told.1, h.2 ∙ told.2)
 
 -- the text goes to the front of the output buffer
 pub stores_text : (service bytes table output : List ℕ) (r : Stored) (after : List ℕ) → Writes service bytes table output r after
     → write_refusal service bytes table output ≡ none
     → let text : List ℕ = written_text service bytes table in
-    (r ≡ stored.Length (length text)) × (after ≡ text ++ drop (length text) output)
+    (r ≡ Ok (length text)) × (after ≡ text ++ drop (length text) output)
 unfolding told_stored
 stores_text service bytes table output r after h e =
     let told = write_given service bytes table output e in
-    (stored_tells r (stored.Length (length (written_text service bytes table))) (h.0 ∙ told.0), h.1 ∙ told.1)
+    (stored_tells r (Ok (length (written_text service bytes table))) (h.0 ∙ told.0), h.1 ∙ told.1)
 
 -- the whole of the first slice, the whole of the second, or zero bytes of the first
 pub keeps : (first second r : Bor (List ℕ)) → Keeps first second r

@@ -1,4 +1,6 @@
 -- The number and the values of an answer determine it: two answers with the same number and values are equal. Assumes nothing.
+use Rattle.answers.specs.declared.Unaccepted.TheVariants.{First, Second}
+use Rattle.std.specs.Prelude.{Ok, Err, Some, None, Result, true, false}
 use Prim.Native.Nat.{ℕ}
 use mathlib.Core.Path.{◌≡◌, refl, sym, ap, ap₂}
 use mathlib.Core.List.{List, [], ◌∷◌}
@@ -10,17 +12,8 @@ use Rattle.characters.specs.Characters.{spelled_out}
 use Rattle.refusals.specs.declared.Refusal.{Refusal}
 use Rattle.refusals.proofs.Order.{number_tells, number_not_zero}
 use Rattle.answers.specs.declared.Figures.{Figures}
-use Rattle.answers.specs.declared.Judged.{Judged}
-use Rattle.answers.specs.declared.Judged.TheVariants as judged
-use Rattle.answers.specs.declared.Stored.{Stored}
-use Rattle.answers.specs.declared.Stored.TheVariants as stored
-use Rattle.answers.specs.declared.Compared.{Compared}
-use Rattle.answers.specs.declared.Compared.TheVariants.{Same, Different, FirstRefused, SecondRefused}
-use Rattle.answers.specs.declared.Located.{Located}
-use Rattle.answers.specs.declared.Located.TheVariants as located
 use Rattle.answers.specs.declared.Listed.{Listed}
-use Rattle.answers.specs.declared.Listed.TheVariants as listed
-use Rattle.answers.specs.Answers.{Answer, given, refused, refused_input, accepted, told_judged, told_stored, told_compared, told_located, told_listed}
+use Rattle.answers.specs.Answers.{Answer, given, refused, refused_input, accepted, told_judged, told_stored, told_compared, told_located, told_listed, Stored, Judged, Compared, Located}
 
 -- how many values an answer has, and the one at a number
 abbrev values : Answer → ℕ
@@ -93,52 +86,52 @@ refused_is values r (some q) e = ap some (sym (refused_tells r q e))
 
 pub judged_tells : (a b : Judged) → told_judged a ≡ told_judged b → a ≡ b
 unfolding told_judged
-judged_tells (judged.Accepted i) (judged.Accepted j) e = ap judged.Accepted (accepted_tells i j e)
-judged_tells (judged.Accepted i) (judged.Refused r) e = absurd (different i r e)
-judged_tells (judged.Refused r) (judged.Accepted i) e = absurd (different i r (sym e))
-judged_tells (judged.Refused r) (judged.Refused q) e = ap judged.Refused (refused_tells r q e)
+judged_tells (Ok i) (Ok j) e = ap Ok (accepted_tells i j e)
+judged_tells (Ok i) (Err r) e = absurd (different i r e)
+judged_tells (Err r) (Ok i) e = absurd (different i r (sym e))
+judged_tells (Err r) (Err q) e = ap Err (refused_tells r q e)
 
 pub stored_tells : (a b : Stored) → told_stored a ≡ told_stored b → a ≡ b
 unfolding told_stored given
-stored_tells (stored.Length n) (stored.Length m) e = ap stored.Length (ap (value 0) e)
-stored_tells (stored.Length n) (stored.Refused r) e = absurd (given_refused (n ∷ []) r e)
-stored_tells (stored.Refused r) (stored.Length n) e = absurd (given_refused (n ∷ []) r (sym e))
-stored_tells (stored.Refused r) (stored.Refused q) e = ap stored.Refused (refused_tells r q e)
+stored_tells (Ok n) (Ok m) e = ap Ok (ap (value 0) e)
+stored_tells (Ok n) (Err r) e = absurd (given_refused (n ∷ []) r e)
+stored_tells (Err r) (Ok n) e = absurd (given_refused (n ∷ []) r (sym e))
+stored_tells (Err r) (Err q) e = ap Err (refused_tells r q e)
 
 pub compared_tells : (a b : Compared) → told_compared a ≡ told_compared b → a ≡ b
 unfolding told_compared given refused_input
-compared_tells Same Same e = refl
-compared_tells Same Different e = absurd (omega (arith, ap (value 0) e))
-compared_tells Same (FirstRefused q) e = absurd (given_input (1 ∷ []) 1 q e)
-compared_tells Same (SecondRefused q) e = absurd (given_input (1 ∷ []) 2 q e)
-compared_tells Different Same e = absurd (omega (arith, ap (value 0) e))
-compared_tells Different Different e = refl
-compared_tells Different (FirstRefused q) e = absurd (given_input (0 ∷ []) 1 q e)
-compared_tells Different (SecondRefused q) e = absurd (given_input (0 ∷ []) 2 q e)
-compared_tells (FirstRefused r) Same e = absurd (given_input (1 ∷ []) 1 r (sym e))
-compared_tells (FirstRefused r) Different e = absurd (given_input (0 ∷ []) 1 r (sym e))
-compared_tells (FirstRefused r) (FirstRefused q) e = ap FirstRefused (input_tells 1 r q e)
-compared_tells (FirstRefused r) (SecondRefused q) e = absurd (omega (arith, ap (value 0) e))
-compared_tells (SecondRefused r) Same e = absurd (given_input (1 ∷ []) 2 r (sym e))
-compared_tells (SecondRefused r) Different e = absurd (given_input (0 ∷ []) 2 r (sym e))
-compared_tells (SecondRefused r) (FirstRefused q) e = absurd (omega (arith, ap (value 0) e))
-compared_tells (SecondRefused r) (SecondRefused q) e = ap SecondRefused (input_tells 2 r q e)
+compared_tells (Ok true) (Ok true) e = refl
+compared_tells (Ok true) (Ok false) e = absurd (omega (arith, ap (value 0) e))
+compared_tells (Ok true) (Err (First q)) e = absurd (given_input (1 ∷ []) 1 q e)
+compared_tells (Ok true) (Err (Second q)) e = absurd (given_input (1 ∷ []) 2 q e)
+compared_tells (Ok false) (Ok true) e = absurd (omega (arith, ap (value 0) e))
+compared_tells (Ok false) (Ok false) e = refl
+compared_tells (Ok false) (Err (First q)) e = absurd (given_input (0 ∷ []) 1 q e)
+compared_tells (Ok false) (Err (Second q)) e = absurd (given_input (0 ∷ []) 2 q e)
+compared_tells (Err (First r)) (Ok true) e = absurd (given_input (1 ∷ []) 1 r (sym e))
+compared_tells (Err (First r)) (Ok false) e = absurd (given_input (0 ∷ []) 1 r (sym e))
+compared_tells (Err (First r)) (Err (First q)) e = ap (λ x. Err (First x)) (input_tells 1 r q e)
+compared_tells (Err (First r)) (Err (Second q)) e = absurd (omega (arith, ap (value 0) e))
+compared_tells (Err (Second r)) (Ok true) e = absurd (given_input (1 ∷ []) 2 r (sym e))
+compared_tells (Err (Second r)) (Ok false) e = absurd (given_input (0 ∷ []) 2 r (sym e))
+compared_tells (Err (Second r)) (Err (First q)) e = absurd (omega (arith, ap (value 0) e))
+compared_tells (Err (Second r)) (Err (Second q)) e = ap (λ x. Err (Second x)) (input_tells 2 r q e)
 
 pub located_tells : (a b : Located) → told_located a ≡ told_located b → a ≡ b
 unfolding told_located given
-located_tells (located.At o n) (located.At p m) e = ap₂ located.At (ap (value 0) e) (ap (value 1) e)
-located_tells (located.At o n) located.Absent e = absurd (omega (arith, ap values e))
-located_tells (located.At o n) (located.Refused r) e = absurd (given_refused (o ∷ n ∷ []) r e)
-located_tells located.Absent (located.At p m) e = absurd (omega (arith, ap values e))
-located_tells located.Absent located.Absent e = refl
-located_tells located.Absent (located.Refused r) e = absurd (given_refused [] r e)
-located_tells (located.Refused q) (located.At p m) e = absurd (given_refused (p ∷ m ∷ []) q (sym e))
-located_tells (located.Refused q) located.Absent e = absurd (given_refused [] q (sym e))
-located_tells (located.Refused q) (located.Refused r) e = ap located.Refused (refused_tells q r e)
+located_tells (Ok (Some v)) (Ok (Some w)) e = ap₂ (λ (o n : ℕ). Ok (Some (record { offset = o; length = n }))) (ap (value 0) e) (ap (value 1) e)
+located_tells (Ok (Some v)) (Ok None) e = absurd (omega (arith, ap values e))
+located_tells (Ok (Some v)) (Err r) e = absurd (given_refused (v.offset ∷ v.length ∷ []) r e)
+located_tells (Ok None) (Ok (Some v)) e = absurd (omega (arith, ap values e))
+located_tells (Ok None) (Ok None) e = refl
+located_tells (Ok None) (Err r) e = absurd (given_refused [] r e)
+located_tells (Err q) (Ok (Some v)) e = absurd (given_refused (v.offset ∷ v.length ∷ []) q (sym e))
+located_tells (Err q) (Ok None) e = absurd (given_refused [] q (sym e))
+located_tells (Err q) (Err r) e = ap Err (refused_tells q r e)
 
-pub listed_tells : (a b : Listed) → told_listed a ≡ told_listed b → a ≡ b
+pub listed_tells : (a b : Result Listed Refusal) → told_listed a ≡ told_listed b → a ≡ b
 unfolding told_listed given
-listed_tells (listed.Values n m) (listed.Values k l) e = ap₂ listed.Values (ap (value 0) e) (ap (value 1) e)
-listed_tells (listed.Values n m) (listed.Refused r) e = absurd (given_refused (n ∷ m ∷ []) r e)
-listed_tells (listed.Refused r) (listed.Values n m) e = absurd (given_refused (n ∷ m ∷ []) r (sym e))
-listed_tells (listed.Refused r) (listed.Refused q) e = ap listed.Refused (refused_tells r q e)
+listed_tells (Ok v) (Ok w) e = ap₂ (λ (n m : ℕ). Ok (record { bytes = n; numbers = m })) (ap (value 0) e) (ap (value 1) e)
+listed_tells (Ok v) (Err r) e = absurd (given_refused (v.bytes ∷ v.numbers ∷ []) r e)
+listed_tells (Err r) (Ok v) e = absurd (given_refused (v.bytes ∷ v.numbers ∷ []) r (sym e))
+listed_tells (Err r) (Err q) e = ap Err (refused_tells r q e)

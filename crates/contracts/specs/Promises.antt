@@ -1,13 +1,10 @@
 -- What each public operation promises of its answer and of each lent buffer, for any input, refused or not. Its contract is this, of what
 -- was there at entry and what is there at exit. Assumes nothing.
-use Rattle.std.specs.Prelude.{ℕ, ◌+◌, ◌≡◌, List, length, take, drop}
+use Rattle.refusals.specs.declared.Refusal.{Refusal}
+use Rattle.std.specs.Prelude.{ℕ, ◌+◌, ◌≡◌, List, length, take, drop, Result}
 use Rattle.std.specs.Borrow.{Bor}
-use Rattle.answers.specs.declared.Judged.{Judged}
-use Rattle.answers.specs.declared.Stored.{Stored}
-use Rattle.answers.specs.declared.Compared.{Compared}
-use Rattle.answers.specs.declared.Located.{Located}
 use Rattle.answers.specs.declared.Listed.{Listed}
-use Rattle.answers.specs.Answers.{told_judged, told_stored, told_compared, told_located, told_listed}
+use Rattle.answers.specs.Answers.{told_judged, told_stored, told_compared, told_located, told_listed, Stored, Judged, Compared, Located}
 use Rattle.operations.specs.Judge.{judge, normalise, normalise_buffer}
 use Rattle.operations.specs.Compare.{Part, of_first, of_second, compare, keep}
 use Rattle.operations.specs.Locate.{locate, part_offset, part_length}
@@ -28,7 +25,7 @@ Compares first second r = told_compared r ≡ compare first second
 abbrev pub Locates : (s : List ℕ) (segment element repeat component : ℕ) → Located → Type 0
 Locates s segment element repeat component r = told_located r ≡ locate s segment element repeat component
 
-abbrev pub Reads : (buffer table s : List ℕ) → Listed → (bytesAfter tableAfter : List ℕ) → Type 0
+abbrev pub Reads : (buffer table s : List ℕ) → Result Listed Refusal → (bytesAfter tableAfter : List ℕ) → Type 0
 Reads buffer table s r bytesAfter tableAfter =
     (told_listed r ≡ read buffer table s) × (bytesAfter ≡ read_bytes buffer table s) × (tableAfter ≡ read_table buffer table s)
 

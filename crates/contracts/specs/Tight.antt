@@ -1,11 +1,9 @@
 -- "For every input, refused or not, a public operation's contract determines its answer and the final bytes of each buffer": two results
 -- that it allows are equal. Each field is a theorem; `proofs/Tight.antt` proves the record. Assumes nothing.
-use Rattle.std.specs.Prelude.{ℕ, ◌≡◌, List}
+use Rattle.refusals.specs.declared.Refusal.{Refusal}
+use Rattle.answers.specs.Answers.{Stored, Judged, Compared, Located}
+use Rattle.std.specs.Prelude.{ℕ, ◌≡◌, List, Result}
 use Rattle.std.specs.Borrow.{Bor}
-use Rattle.answers.specs.declared.Judged.{Judged}
-use Rattle.answers.specs.declared.Stored.{Stored}
-use Rattle.answers.specs.declared.Compared.{Compared}
-use Rattle.answers.specs.declared.Located.{Located}
 use Rattle.answers.specs.declared.Listed.{Listed}
 use Rattle.contracts.specs.Promises.{Judges, Normalises, Compares, Keeps, Locates, HandsBack, Reads, Writes}
 
@@ -24,7 +22,7 @@ pub record Tight : Type 0 where
       → Locates s segment element repeat component q → r ≡ q
   pub part : (s : Bor (List ℕ)) (segment element repeat component : ℕ) (r q : Bor (List ℕ))
       → HandsBack s segment element repeat component r → HandsBack s segment element repeat component q → SameSlice r q
-  pub read : (buffer table s : List ℕ) (r q : Listed) (x y t u : List ℕ) → Reads buffer table s r x t → Reads buffer table s q y u
+  pub read : (buffer table s : List ℕ) (r q : Result Listed Refusal) (x y t u : List ℕ) → Reads buffer table s r x t → Reads buffer table s q y u
       → (r ≡ q) × (x ≡ y) × (t ≡ u)
   pub write : (service bytes table output : List ℕ) (r q : Stored) (x y : List ℕ) → Writes service bytes table output r x
       → Writes service bytes table output q y → (r ≡ q) × (x ≡ y)

@@ -23,19 +23,11 @@ pub struct Field {
     pub alone: bool,
 }
 
-fn both(a: bool, b: bool) -> bool
-    ensures { result ≡ (a && b) }
-{
-    if a { b } else { false }
-}
-
+#[tactic(auto, unfolding(characters::specs::Characters::between))]
 fn is_between(low: usize, high: usize, n: usize) -> bool
     ensures { result ≡ between low high n }
 {
-    if n < low {
-        return false;
-    }
-    n <= high
+    low <= n && n <= high
 }
 
 // The number that one byte more spells; after the sixth byte it stays.
@@ -46,21 +38,19 @@ fn with_digit(f: Field, b: u8) -> u32
     if 6 <= f.size {
         return f.number;
     }
-    if b < 48 {
-        return f.number * 10;
-    }
-    f.number * 10 + (b as u32 - 48)
+    f.number * 10 + u32::from(b.saturating_sub(b'0'))
 }
 
+#[tactic(auto, unfolding(crate::specs::Reading::with_byte, characters::specs::Characters::digit, characters::specs::Characters::between))]
 fn with_byte(f: Field, b: u8) -> Field
     requires { Room f }
     ensures { result ≡ with_byte f b }
 {
     Field {
         size: f.size + 1,
-        digits: both(f.digits, is_between(48, 57, b as usize)),
+        digits: f.digits & b.is_ascii_digit(),
         number: with_digit(f, b),
-        alone: f.alone,
+        ..f
     }
 }
 
@@ -83,10 +73,8 @@ pub fn field_at(s: &[u8], c: Characters, from: usize) -> Field
             }
             NextByte::Ended { place } => {
                 return Field {
-                    size: f.size,
-                    digits: f.digits,
-                    number: f.number,
                     alone: is_alone(s, c, place),
+                    ..f
                 };
             }
         }
@@ -94,15 +82,17 @@ pub fn field_at(s: &[u8], c: Characters, from: usize) -> Field
 }
 
 // "A reference is one component of 1 to 14 bytes", of one repeat
+#[tactic(auto, unfolding(crate::specs::Fields::spells_reference))]
 pub fn is_reference(f: Field) -> bool
     ensures { result ≡ spells_reference f }
 {
-    both(f.alone, is_between(1, 14, f.size))
+    f.alone && is_between(1, 14, f.size)
 }
 
 // "a count is one component of 1 to 6 digits (leading zeros allowed)", of one repeat
+#[tactic(auto, unfolding(crate::specs::Fields::spells_count))]
 pub fn is_count(f: Field) -> bool
     ensures { result ≡ spells_count f }
 {
-    both(both(f.alone, f.digits), is_between(1, 6, f.size))
+    f.alone && f.digits && is_between(1, 6, f.size)
 }

@@ -1,5 +1,7 @@
 -- Texts put one after the other on shelves that are alike, in two orders, leave them alike: by swaps of neighbours, from the law for two.
 -- Assumes nothing.
+use Rattle.refusals.specs.declared.Refusal.{Refusal}
+use Rattle.std.specs.Prelude.{Result}
 use Prim.Native.Nat.{ℕ, ◌+◌, ◌-◌, ◌≤◌, min}
 use mathlib.Core.Path.{◌≡◌, refl, sym, ap, subst, ◌∙◌}
 use mathlib.Core.Bool.{true, ◌||◌}
@@ -234,7 +236,7 @@ module _ (l : Layout) where
     -- ---- the contract of Put
 
     -- a Put that the contract allows, where there is room: what it does, and that it answers a slot
-    pub put_step : (s input : List ℕ) (forms : Texts) (after : List ℕ) (r : Shelved) → IsAccepted input → Ready s (normal_form input ∷ forms)
+    pub put_step : (s input : List ℕ) (forms : Texts) (after : List ℕ) (r : Result Shelved Refusal) → IsAccepted input → Ready s (normal_form input ∷ forms)
         → Puts l s input r after → Stepped l s (normal_form input) after × ((slot : ℕ) × Keeps l s input slot)
     put_step s input forms after r accepted room p =
         let one = one_put l sums s input room.is accepted (room_first s (normal_form input) forms room) in

@@ -1,4 +1,6 @@
 -- Two networks, either order, for every layout that has the two sums. Assumes nothing.
+use Rattle.refusals.specs.declared.Refusal.{Refusal}
+use Rattle.std.specs.Prelude.{Ok, Result}
 use Prim.Native.Nat.{ℕ, ◌+◌, ◌-◌, ◌≤◌, min}
 use mathlib.Core.Path.{◌≡◌, refl, sym, ap, ◌∙◌}
 use mathlib.Core.Bool.{true}
@@ -13,7 +15,6 @@ use Rattle.operations.specs.Compare.{is_accepted}
 use Rattle.answers.specs.Answers.{Answer, given}
 use Rattle.shelves.specs.declared.Shelved.{Shelved}
 use Rattle.shelves.specs.declared.Shelved.TheVariants as shelved
-use Rattle.shelves.specs.declared.Slots.TheVariants as slots
 use Rattle.shelves.specs.Answers.{new_at, copy_at, told_shelved, told_slots}
 use Rattle.shelves.specs.declared.TwoSums.{TwoSums}
 use Rattle.shelves.specs.Layout.{Layout, version_two, total, occupied, free, duplicates_of, kept, held}
@@ -81,8 +82,8 @@ module _ (l : Layout) (sums : 21 ≤ l.pairs) where
 
   none_refused : (s : List ℕ) (before : Texts) (input : List ℕ) (behind : Texts) → Sound l s
       → all is_accepted (before ++ input ∷ behind) ≡ true → Room l s (before ++ input ∷ behind)
-      → (m after : List ℕ) (r : Shelved) → PutAll l s before m → Puts l m input r after
-      → (slot : ℕ) × ((r ≡ shelved.New slot) ⊎ (r ≡ shelved.Copy slot))
+      → (m after : List ℕ) (r : Result Shelved Refusal) → PutAll l s before m → Puts l m input r after
+      → (slot : ℕ) × ((r ≡ Ok (shelved.New slot)) ⊎ (r ≡ Ok (shelved.Copy slot)))
   unfolding told_shelved Each
   none_refused s before input behind sane accepted room m after r all p =
       let (each, left) =
@@ -91,8 +92,8 @@ module _ (l : Layout) (sums : 21 ≤ l.pairs) where
       let (slot, told) = (put_step l sums m input (map normal_form behind) after r each.0 left p).1 in (
         slot,
         ⊎_elim
-            (λ (e : put l m input ≡ new_at slot). inl (shelved_tells r (shelved.New slot) (p.0 ∙ e)))
-            (λ (e : put l m input ≡ copy_at slot). inr (shelved_tells r (shelved.Copy slot) (p.0 ∙ e)))
+            (λ (e : put l m input ≡ new_at slot). inl (shelved_tells r (Ok (shelved.New slot)) (p.0 ∙ e)))
+            (λ (e : put l m input ≡ copy_at slot). inr (shelved_tells r (Ok (shelved.Copy slot)) (p.0 ∙ e)))
             told,
       )
 
@@ -111,7 +112,7 @@ module _ (l : Layout) (sums : 21 ≤ l.pairs) where
 
   -- ---- what is told
 
-  sums_alike : (s t : List ℕ) → Sound l s → Sound l t → Alike l s t → (r q : TwoSums) → Sums l s r → Sums l t q → r ≡ q
+  sums_alike : (s t : List ℕ) → Sound l s → Sound l t → Alike l s t → (r q : Result TwoSums Refusal) → Sums l s r → Sums l t q → r ≡ q
   sums_alike s t sane also a r q h k =
       sums_tells r q (h ∙ sums_given l s sane ∙ same ∙ sym (k ∙ sums_given l t also))
     where
@@ -121,12 +122,12 @@ module _ (l : Layout) (sums : 21 ≤ l.pairs) where
   abbrev first_value : Answer → ℕ
   first_value a = get_or a.values 0 0
 
-  told_occupied : (s : List ℕ) → Sound l s → (n j : ℕ) → Counts l s (slots.Numbers n j) → n ≡ length (occupied s)
+  told_occupied : (s : List ℕ) → Sound l s → (n j : ℕ) → Counts l s (Ok (record { occupied = n; lowest_free = j })) → n ≡ length (occupied s)
   unfolding told_slots given
   told_occupied s sane n j h = ap first_value (h ∙ slots_given l s sane)
 
   slots_alike : (s t : List ℕ) → Sound l s → Sound l t → Alike l s t
-      → (n m j k : ℕ) → Counts l s (slots.Numbers n j) → Counts l t (slots.Numbers m k) → n ≡ m
+      → (n m j k : ℕ) → Counts l s (Ok (record { occupied = n; lowest_free = j })) → Counts l t (Ok (record { occupied = m; lowest_free = k })) → n ≡ m
   slots_alike s t sane also a n m j k h i = told_occupied s sane n j h ∙ a.slots ∙ sym (told_occupied t also m k i)
 
   pub either_order : EitherOrder l

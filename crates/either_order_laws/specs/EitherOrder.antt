@@ -1,13 +1,13 @@
 -- Request 2026-13, two networks, either order. Each field of the record is a theorem; `proofs/Theorems.antt` proves it for every layout that has
 -- the two sums, and so for version 2. Assumes nothing.
-use Rattle.std.specs.Prelude.{ℕ, ◌+◌, ◌-◌, ◌≤◌, min, ◌≡◌, true, ◌⊎◌, ◌↔◌, length, if◌then◌else◌}
+use Rattle.refusals.specs.declared.Refusal.{Refusal}
+use Rattle.std.specs.Prelude.{ℕ, ◌+◌, ◌-◌, ◌≤◌, min, ◌≡◌, true, ◌⊎◌, ◌↔◌, length, if◌then◌else◌, Ok, None, Result}
 use mathlib.Core.List.{List, [], ◌∷◌, ◌++◌, map, Memᴰ}
 use Rattle.lists.specs.Lists.{same, all, any, those}
 use Rattle.stages.specs.Contents.{normal_form}
 use Rattle.operations.specs.Compare.{is_accepted}
 use Rattle.shelves.specs.declared.Shelved.{Shelved}
 use Rattle.shelves.specs.declared.Shelved.TheVariants as shelved
-use Rattle.shelves.specs.declared.Slots.TheVariants as slots
 use Rattle.shelves.specs.declared.TwoSums.{TwoSums}
 use Rattle.shelves.specs.Layout.{Layout, total, Occupied, occupied, free, duplicates_of, text_of, kept, held, end_of}
 use Rattle.shelf_contracts.specs.Promises.{Puts, Counts, Sums}
@@ -55,7 +55,7 @@ pub record RoomForEither (l : Layout) (s a b : List ℕ) : Type 0 where
 -- leaves what its contract allows
 unfoldable pub PutAll : Layout → (s : List ℕ) → List (List ℕ) → (t : List ℕ) → Type 0
 PutAll l s [] t = t ≡ s
-PutAll l s (input ∷ inputs) t = (r : Shelved) × (after : List ℕ) × Puts l s input r after × PutAll l after inputs t
+PutAll l s (input ∷ inputs) t = (r : Result Shelved Refusal) × (after : List ℕ) × Puts l s input r after × PutAll l after inputs t
 
 -- how often it stands in the list
 unfoldable pub times_in : List (List ℕ) → List ℕ → ℕ
@@ -72,7 +72,7 @@ pub record EitherOrder (l : Layout) : Type 0 where
   -- same under two spellings, and also where the figure is at its ceiling.
   pub two : (s a b : List ℕ) → Sound l s → is_accepted a ≡ true → is_accepted b ≡ true
       → 2 ≤ length (free s) → length (normal_form a) + length (normal_form b) ≤ free_bytes l s
-      → (ra rb qb qa : Shelved) (afterA afterAB afterB afterBA : List ℕ)
+      → (ra rb qb qa : Result Shelved Refusal) (afterA afterAB afterB afterBA : List ℕ)
       → Puts l s a ra afterA → Puts l afterA b rb afterAB
       → Puts l s b qb afterB → Puts l afterB a qa afterBA
       → Alike l afterAB afterBA
@@ -96,8 +96,8 @@ pub record EitherOrder (l : Layout) : Type 0 where
   -- None of these puts is refused: each answers a slot, of a new text or of a copy.
   pub none_refused : (s : List ℕ) (before : List (List ℕ)) (input : List ℕ) (behind : List (List ℕ)) → Sound l s
       → all is_accepted (before ++ input ∷ behind) ≡ true → Room l s (before ++ input ∷ behind)
-      → (m after : List ℕ) (r : Shelved) → PutAll l s before m → Puts l m input r after
-      → (slot : ℕ) × ((r ≡ shelved.New slot) ⊎ (r ≡ shelved.Copy slot))
+      → (m after : List ℕ) (r : Result Shelved Refusal) → PutAll l s before m → Puts l m input r after
+      → (slot : ℕ) × ((r ≡ Ok (shelved.New slot)) ⊎ (r ≡ Ok (shelved.Copy slot)))
   -- The two figures then: the new normal forms' bytes are held too, and every other put found its copy and was counted, up to the ceiling.
   pub figures_then : (s : List ℕ) (inputs : List (List ℕ)) → Sound l s → all is_accepted inputs ≡ true → Room l s inputs
       → (t : List ℕ) → PutAll l s inputs t
@@ -110,5 +110,5 @@ pub record EitherOrder (l : Layout) : Type 0 where
       → (Kept l t (normal_form a) × (Kept l t (normal_form b) → ⊥)) × (Kept l v (normal_form b) × (Kept l v (normal_form a) → ⊥))
   -- Shelves that are alike are told alike: the two sums, and how many slots are occupied.
   pub told_alike : (s t : List ℕ) → Sound l s → Sound l t → Alike l s t
-      → ((r q : TwoSums) → Sums l s r → Sums l t q → r ≡ q)
-      × ((n m j k : ℕ) → Counts l s (slots.Numbers n j) → Counts l t (slots.Numbers m k) → n ≡ m)
+      → ((r q : Result TwoSums Refusal) → Sums l s r → Sums l t q → r ≡ q)
+      × ((n m j k : ℕ) → Counts l s (Ok (record { occupied = n; lowest_free = j })) → Counts l t (Ok (record { occupied = m; lowest_free = k })) → n ≡ m)

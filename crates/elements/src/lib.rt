@@ -14,7 +14,8 @@ use characters::Characters;
 use scanner::{Lexed, lex};
 
 // Where the piece of that number begins, of those that separators of this rank end, in the larger piece
-// that begins at `from`, which a separator of a lower rank ends. The input's length where there is none.
+// that begins at `from`, which a separator of a lower rank ends. The input's length where there is none. (A `for` over
+// the pieces would need the loop over a piece's bytes inside it.)
 pub fn piece_at(s: &[u8], c: Characters, from: usize, rank: u8, number: usize) -> usize
     ensures { PieceAt c s.now from rank number result }
 {
@@ -22,11 +23,7 @@ pub fn piece_at(s: &[u8], c: Characters, from: usize, rank: u8, number: usize) -
     let mut left = number;
     while 0 < left {
         match lex(s, c, at) {
-            Lexed::Byte {
-                byte: _,
-                place: _,
-                next,
-            } => {
+            Lexed::Byte { next, .. } => {
                 at = next;
             }
             Lexed::Separator { rank: found, next } => {
@@ -75,10 +72,8 @@ fn separators(s: &[u8], c: Characters, from: usize) -> u8
     ensures { Separators c s.now from (from + 16) result }
 {
     let mut sum: u8 = 0;
-    let mut number: usize = 0;
-    while number < 16 {
+    for number in 0..16 {
         sum += weight(c, s[from + number]);
-        number += 1;
     }
     sum
 }
@@ -90,7 +85,8 @@ struct Search {
     left: usize,
 }
 
-// The search past as many times sixteen bytes as it can be told of that they only pass elements.
+// The search past as many times sixteen bytes as it can be told of that they only pass elements. (A `for` by sixteen
+// would not tell the place of the last few.)
 fn past_sixteens(s: &[u8], c: Characters, from: usize, position: usize) -> Search
     ensures { GoesOn c s.now from position result }
 {
@@ -104,11 +100,11 @@ fn past_sixteens(s: &[u8], c: Characters, from: usize, position: usize) -> Searc
         if 15 <= passed {
             return Search { at, left };
         }
-        if left <= passed as usize {
+        if left <= usize::from(passed) {
             return Search { at, left };
         }
         at += 16;
-        left -= passed as usize;
+        left -= usize::from(passed);
     }
     Search { at, left }
 }
@@ -145,11 +141,7 @@ pub fn holds_byte(s: &[u8], c: Characters, from: usize, rank: u8) -> bool
     let mut at = from;
     loop {
         match lex(s, c, at) {
-            Lexed::Byte {
-                byte: _,
-                place: _,
-                next: _,
-            } => {
+            Lexed::Byte { .. } => {
                 return true;
             }
             Lexed::Separator { rank: found, next } => {
@@ -181,14 +173,10 @@ pub fn byte_at(s: &[u8], c: Characters, from: usize) -> NextByte
     let mut at = from;
     loop {
         match lex(s, c, at) {
-            Lexed::Byte {
-                byte,
-                place: _,
-                next,
-            } => {
+            Lexed::Byte { byte, next, .. } => {
                 return NextByte::Byte { byte, next };
             }
-            Lexed::Separator { rank: _, next: _ } => {
+            Lexed::Separator { .. } => {
                 return NextByte::Ended { place: at };
             }
             Lexed::Stray { next } => {
@@ -208,7 +196,7 @@ pub fn value_end(s: &[u8], c: Characters, from: usize) -> usize
     let mut at = from;
     loop {
         match byte_at(s, c, at) {
-            NextByte::Byte { byte: _, next } => {
+            NextByte::Byte { next, .. } => {
                 at = next;
             }
             NextByte::Ended { place } => {

@@ -1,4 +1,5 @@
 -- What is stored is the text of the contents, with the rest of the buffer as it was; and what is answered. Assumes nothing.
+use Rattle.std.specs.Prelude.{Ok, Err}
 use Prim.Native.Nat.{ℕ, ◌+◌, ◌≤◌, ◌<◌}
 use mathlib.Core.Path.{◌≡◌, refl, sym, ap, ap₂, ◌∙◌}
 use mathlib.Core.List.{List, [], ◌∷◌}
@@ -18,7 +19,6 @@ use Rattle.stages.specs.Stages.{refusal_of}
 use Rattle.emission_laws.proofs.Cases.{reading_known}
 use Rattle.normal_form_laws.proofs.Normal.{contents_shaped}
 use Rattle.judge.proofs.Bodies.{accepted_ended}
-use Rattle.answers.specs.declared.Stored.TheVariants.{Length, Refused}
 use Rattle.answers.specs.Answers.{given, told_stored}
 use Rattle.operations.specs.Judge.{short_for, unless_refused}
 use Rattle.operations.proofs.Answered.{input_answers, last_answers, short_answers, room_answers, front_stored}
@@ -68,16 +68,16 @@ module _ (s : List ℕ) (c : Characters) (start : ℕ) (buffer : List ℕ) {n : 
 
 module _ (buffer s : List ℕ) where
   -- a refusal answers, and the buffer is unchanged
-  refuses : {r : Refusal} → export_refusal buffer s ≡ some r → Exports buffer s (Refused r) buffer
+  refuses : {r : Refusal} → export_refusal buffer s ≡ some r → Exports buffer s (Err r) buffer
   unfolding exports export_buffer maybe unless_refused told_stored
   refuses e = (sym (rw e), sym (rw e))
 
-  pub judge_refuses : {r : Refusal} → refusal_of s ≡ some r → Exports buffer s (Refused r) buffer
+  pub judge_refuses : {r : Refusal} → refusal_of s ≡ some r → Exports buffer s (Err r) buffer
   unfolding export_refusal
   judge_refuses e = refuses (input_answers s (short_for (export_text s) buffer ∷ []) e)
 
   module _ (a : refusal_of s ≡ none) {n : ℕ} (e : n ≡ length (export_text s)) where
-    pub short_refused : length buffer < n → Exports buffer s (Refused (record { fault = BufferShort; place = n })) buffer
+    pub short_refused : length buffer < n → Exports buffer s (Err (record { fault = BufferShort; place = n })) buffer
     unfolding export_refusal
     short_refused h =
         refuses
@@ -85,7 +85,7 @@ module _ (buffer s : List ℕ) where
         ∙ short_answers (export_text s) buffer [] (omega (arith, e, h))
         ∙ ap (refuse BufferShort) (sym e))
 
-    pub text_stored : {after : List ℕ} → n ≤ length buffer → after ≡ sets buffer 0 (export_text s) → Exports buffer s (Length n) after
+    pub text_stored : {after : List ℕ} → n ≤ length buffer → after ≡ sets buffer 0 (export_text s) → Exports buffer s (Ok n) after
     unfolding exports export_buffer export_refusal answering maybe unless_refused told_stored
     text_stored h p =
         let fits : length (export_text s) ≤ length buffer = omega (arith, e, h) in

@@ -49,19 +49,6 @@ module _ (l : Line) where
   pub end_length : length (line_end l) ≡ length (numbers_due l) + 1
   end_length = length-append (numbers_due l) (line_feed ∷ [])
 
-  -- with them printed, the line ends where it would
-  pub next_begun : (kind : ℕ) → next_line kind (begun_line l) ≡ next_line kind l
-  unfolding numbers_due
-  next_begun kind =
-      ap (λ (n : ℕ). record { end = n; position = next_at l.position kind; begun = false; held = l.held })
-      (omega (arith, length-append (numbers_due l) (line_feed ∷ [])))
-
-  pub grown_begun : grown (begun_line l) ≡ grown l
-  unfolding numbers_due
-  grown_begun =
-      ap (λ (n : ℕ). record { end = n; position = l.position; begun = true; held = nothing })
-      (omega arith)
-
   -- the same from the place that was reached
   pub next_told : (kind : ℕ) {m : Line} {p : Position} → m ≡ begun_line l → p ≡ next_at m.position kind
       → record { end = m.end + 1; position = p; begun = false; held = m.held } ≡ next_line kind l
@@ -71,10 +58,10 @@ module _ (l : Line) where
       ∙ ap (λ (n : ℕ). record { end = n; position = next_at l.position kind; begun = false; held = l.held }) (omega (arith, end_length))
 
   pub grown_told : {m : Line} {h : Held} → m ≡ begun_line l → h ≡ nothing
-      → record { end = m.end + 1; position = m.position; begun = true; held = h } ≡ grown l
+      → record { end = m.end + 1; position = m.position; begun = m.begun; held = h } ≡ grown l
   grown_told {m} d q =
-      ap (λ (h : Held). record { end = m.end + 1; position = m.position; begun = true; held = h }) q
-      ∙ ap (λ (m : Line). record { end = m.end + 1; position = m.position; begun = true; held = nothing }) d
+      ap (λ (h : Held). record { end = m.end + 1; position = m.position; begun = m.begun; held = h }) q
+      ∙ ap (λ (m : Line). record { end = m.end + 1; position = m.position; begun = m.begun; held = nothing }) d
 
 -- ---- room
 
@@ -113,17 +100,6 @@ room_less l h r =
     record { segment = r.segment; element = r.element; repeat = r.repeat; component = r.component; most = omega (arith, r.most) }
 
 module _ (l : Line) {more : ℕ} where
-  pub room_begun : Room l more → Room (begun_line l) more
-  unfolding numbers_due
-  room_begun r =
-      record {
-        segment = omega (arith, r.segment);
-        element = omega (arith, r.element);
-        repeat = omega (arith, r.repeat);
-        component = omega (arith, r.component);
-        most = omega (arith, r.most);
-      }
-
   pub room_holding : (h : Held) → Room l more → Room (holding h l) more
   unfolding numbers_due
   room_holding h r =
@@ -279,9 +255,6 @@ module _ (l : Line) where
   unfolding byte_text
   byte_parts b =
       omega (arith, length-append (held_text l) (numbers_due (past_held l) ++ b ∷ []), length-append (numbers_due (past_held l)) (b ∷ []))
-
-  pub byte_grown : {past m : Line} → past ≡ past_held l → m ≡ begun_line past → grown m ≡ after_byte l
-  byte_grown {past} d e = ap (λ (x : Line). grown x) e ∙ grown_begun past ∙ ap (λ (x : Line). grown x) d
 
   pub end_byte : (b : ℕ) → (after_byte l).end ≡ l.end + length (byte_text b l)
   end_byte b = omega (arith, end_held l, byte_parts b)

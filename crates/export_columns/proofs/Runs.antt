@@ -1,24 +1,23 @@
--- A value's bytes that are plain, after its first: they are printed as they stand. Assumes nothing.
+-- A value's bytes that are plain, after its first: they are put as they stand. Assumes nothing.
 use Prim.Native.Nat.{ℕ, ◌+◌, ◌-◌, ◌≤◌, ◌<◌}
 use mathlib.Core.Path.{◌≡◌, refl, sym, ap, ap₂, subst, ◌∙◌}
 use mathlib.Core.Bool.{Bool, true}
 use mathlib.Core.List.{List, [], ◌∷◌, ◌++◌}
 use native.Mathlib.Omega.{arith}
 use lib.ListN.{length, get_or, take, drop}
-use lib.Seq.{sets}
 use Rattle.characters.specs.declared.Characters.{Characters}
 use Rattle.values.specs.Tokens.{Token, byte, tokens_at}
 use Rattle.values.specs.Spelling.{Bytes}
 use Rattle.emission_laws.specs.declared.Held.{Held}
 use Rattle.emission_laws.specs.Emission.{nothing, waiting}
-use Rattle.storing.proofs.Stores.{stored_length}
-use Rattle.ordinary_runs.proofs.Runs.{none_stored, run_stored}
+use Rattle.storing.specs.Sinks.{SinkLaws}
+use Rattle.storing.proofs.Putting.{room_left}
 use Rattle.plain_runs.specs.Runs.{PlainRun}
-use Rattle.plain_runs.proofs.Runs.{by_bytes}
+use Rattle.plain_runs.proofs.Runs.{by_bytes, none_put, run_put}
 use Rattle.export_columns.specs.declared.Line.{Line}
-use Rattle.export_columns.specs.Printing.{numbers_due, past_held, held_text, grown, longer, after_byte, byte_text}
+use Rattle.export_columns.specs.Printing.{numbers_due, past_held, grown, longer, after_byte, byte_text}
 use Rattle.export_columns.proofs.Lines.{due_none, held_none, held_nothing}
-use Rattle.export_columns.proofs.Steps.{Measured, measured_byte, Put, byte_put}
+use Rattle.export_columns.proofs.Steps.{Put, byte_put}
 
 -- ---- a byte more
 
@@ -48,35 +47,20 @@ module _ (l : Line) (b : l.begun ≡ true) (h : l.held ≡ nothing) where
 
 -- ---- a run of them, after the first
 
-pub measured_run : (c : Characters) (s : List ℕ) {whole : List Token} (l : Line) {ts : List Token} {left b from place next to : ℕ}
-    → Measured whole l ts left → ts ≡ byte b from place ∷ tokens_at c s next → length s - next < left → {m : Line} → m ≡ after_byte l
-    → PlainRun c s next to → Measured whole (longer (to - next) m) (tokens_at c s to) (length s - to)
-measured_run c s {whole} l {ts} {left} {b} {from} {place} {next} {to} g e less {m} d run =
-    by_bytes c s (λ k. Measured whole (longer (k - next) m) (tokens_at c s k) (length s - k)) run
-    (λ k low high there is w. measured_byte (longer (k - next) m) w (omega arith) is (longer_byte m begun none_held (k - next) (omega arith)))
-    (subst (λ (x : Line). Measured whole x (tokens_at c s next) (length s - next)) (longer_none m begun none_held (next - next) (omega arith))
-    (measured_byte l g less e d))
-  where
-    begun : m.begun ≡ true
-    begun = ap (λ (x : Line). x.begun) d
-
-    none_held : m.held ≡ nothing
-    none_held = ap (λ (x : Line). x.held) d
-
-module _ (c : Characters) (s : List ℕ) {b₀ b₁ b₂ : List ℕ} {whole : List Token} (l : Line) {ts : List Token} {left b from place next to : ℕ}
-    (g : Put b₀ b₁ whole l ts left) (e : ts ≡ byte b from place ∷ tokens_at c s next) (less : length s - next < left)
-    (p : b₂ ≡ sets b₁ l.end (byte_text b l)) {m : Line} (d : m ≡ after_byte l) (run : PlainRun c s next to) where
-  pub put_run : Put b₀ (sets b₂ m.end (take (to - next) (drop next s))) whole (longer (to - next) m) (tokens_at c s to) (length s - to)
+module _ {holds : List ℕ → ℕ → List ℕ → List ℕ} {room : List ℕ → ℕ} (laws : SinkLaws holds room) (c : Characters) (s : List ℕ) {b₀ b₁ b₂ : List ℕ} {whole : List Token}
+    (l : Line) {ts : List Token} {left b from place next to : ℕ} (g : Put holds room b₀ b₁ whole l ts left) (e : ts ≡ byte b from place ∷ tokens_at c s next)
+    (less : length s - next < left) (p : b₂ ≡ holds b₁ l.end (byte_text b l)) {m : Line} (d : m ≡ after_byte l) (run : PlainRun c s next to) where
+  pub put_run : Put holds room b₀ (holds b₂ m.end (take (to - next) (drop next s))) whole (longer (to - next) m) (tokens_at c s to) (length s - to)
   put_run =
-      by_bytes c s (λ k. Put b₀ (stored k) whole (longer (k - next) m) (tokens_at c s k) (length s - k)) run
-      (λ k low high there is w. byte_put (longer (k - next) m) w is
-      (sym (run_stored s low b₂ m.end there refl refl) ∙ ap (sets (stored k) (m.end + (k - next))) (one_text m begun none_held (k - next) (get_or s k 0)))
+      by_bytes c s (λ k. Put holds room b₀ (put k) whole (longer (k - next) m) (tokens_at c s k) (length s - k)) run
+      (λ k low high there is w. byte_put laws (longer (k - next) m) w is
+      (run_put laws s low there b₂ m.end refl ∙ ap (holds (put k) (m.end + (k - next))) (one_text m begun none_held (k - next) (get_or s k 0)))
       (longer_byte m begun none_held (k - next) (omega arith)) (omega arith))
-      (subst (λ (x : Line). Put b₀ (stored next) whole x (tokens_at c s next) (length s - next)) (longer_none m begun none_held (next - next) (omega arith))
-      (subst (λ (bs : List ℕ). Put b₀ bs whole m (tokens_at c s next) (length s - next)) (none_stored s next m.end b₂) (byte_put l g e p d less)))
+      (subst (λ (x : Line). Put holds room b₀ (put next) whole x (tokens_at c s next) (length s - next)) (longer_none m begun none_held (next - next) (omega arith))
+      (subst (λ (bs : List ℕ). Put holds room b₀ bs whole m (tokens_at c s next) (length s - next)) (none_put laws s next m.end b₂) (byte_put laws l g e p d less)))
     where
-      stored : ℕ → List ℕ
-      stored k = sets b₂ m.end (take (k - next) (drop next s))
+      put : ℕ → List ℕ
+      put k = holds b₂ m.end (take (k - next) (drop next s))
 
       begun : m.begun ≡ true
       begun = ap (λ (x : Line). x.begun) d
@@ -84,12 +68,12 @@ module _ (c : Characters) (s : List ℕ) {b₀ b₁ b₂ : List ℕ} {whole : Li
       none_held : m.held ≡ nothing
       none_held = ap (λ (x : Line). x.held) d
 
-  pub run_fits : m.end + (to - next) ≤ length b₂
-  run_fits = omega (arith, put_run.goes.fits, stored_length b₂ m.end (take (to - next) (drop next s)) refl)
+  pub run_fits : m.end + (to - next) ≤ room b₂
+  run_fits = omega (arith, put_run.goes.fits, room_left laws b₂ m.end (take (to - next) (drop next s)) refl)
 
-  -- as it is stored and told
-  pub run_told : {b₃ : List ℕ} {n : Line} → b₃ ≡ sets b₂ m.end (take (to - next) (drop next s)) → n ≡ longer (to - next) m
-      → Put b₀ b₃ whole n (tokens_at c s to) (length s - to)
+  -- as it is put and told
+  pub run_told : {b₃ : List ℕ} {n : Line} → b₃ ≡ holds b₂ m.end (take (to - next) (drop next s)) → n ≡ longer (to - next) m
+      → Put holds room b₀ b₃ whole n (tokens_at c s to) (length s - to)
   run_told {b₃} {n} q f =
-      subst (λ (x : Line). Put b₀ b₃ whole x (tokens_at c s to) (length s - to)) (sym f)
-      (subst (λ (bs : List ℕ). Put b₀ bs whole (longer (to - next) m) (tokens_at c s to) (length s - to)) (sym q) put_run)
+      subst (λ (x : Line). Put holds room b₀ b₃ whole x (tokens_at c s to) (length s - to)) (sym f)
+      (subst (λ (bs : List ℕ). Put holds room b₀ bs whole (longer (to - next) m) (tokens_at c s to) (length s - to)) (sym q) put_run)

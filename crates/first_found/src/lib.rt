@@ -10,17 +10,11 @@ ghost use Rattle.std.specs.Prelude.{true, ◌≡◌, ◌≤◌};
 pub fn place_found(found: bool, k: u8) -> u8
     ensures { found ≡ true → result ≤ k }
 {
-    if found {
-        return k;
-    }
-    255
+    if found { k } else { 255 }
 }
 
 pub fn least(a: u8, b: u8) -> u8
     ensures { (result ≤ a) × (result ≤ b) }
 {
-    if a < b {
-        return a;
-    }
-    b
+    a.min(b)
 }

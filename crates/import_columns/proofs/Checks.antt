@@ -9,29 +9,28 @@ use Rattle.lists.specs.Lists.{begins}
 use Rattle.lists.proofs.Tests.{says_begins}
 use Rattle.values.specs.Spelling.{Bytes}
 use Rattle.operations.specs.ValueList.{Item, rank_of}
-use Rattle.columns.specs.Lines.{line, heading}
+use Rattle.columns.specs.Lines.{heading}
 use Rattle.columns.specs.Reading.{is_columns}
 use Rattle.column_laws.specs.declared.Position.{Position}
 use Rattle.column_laws.specs.Positions.{at}
 use Rattle.column_walk.specs.declared.Line.{Line}
-use Rattle.column_walk.specs.Walk.{first_place, position_at, Within, no_kind, Stands, Found}
+use Rattle.column_walk.specs.Walk.{first_place, Within, Leading, Found}
 use Rattle.column_walk.specs.Checking.{items_read, least_after, Taken, Passing}
 use Rattle.column_walk.proofs.Walk.{within_start, within_line}
 use Rattle.column_walk.proofs.Checking.{passing_start, passing_other, passing_idle, passing_next, passing_done, passing_end, heading_dropped, taken_columns, taken_items, columns_headed, none_taken}
-use Rattle.import_columns.specs.declared.Checked.{Checked}
-use Rattle.import_columns.specs.declared.Checked.TheVariants.{Lines, Other}
+use Rattle.std.specs.Prelude.{Option, Some, None}
 use Rattle.import_columns.specs.Importing.{checked_by}
 
 -- ---- the answer
 
 module _ (s : List ℕ) where
-  abbrev answer : Checked
+  abbrev answer : Option ℕ
   answer = checked_by (is_columns s) (length (items_read s))
 
   by_test : {t : Bool} → is_columns s ≡ t → checked_by t (length (items_read s)) ≡ answer
   by_test e = ap (λ (t : Bool). checked_by t (length (items_read s))) (sym e)
 
-  other_is : ((items : List Item) → Taken s items → ⊥) → Other ≡ answer
+  other_is : ((items : List Item) → Taken s items → ⊥) → None ≡ answer
   other_is none = by_test (none_taken s none)
 
   -- the heading stands in front
@@ -40,24 +39,24 @@ module _ (s : List ℕ) where
       let found = (says_begins heading s).0 h in
       found.1 ∙ ap (λ (t : Bytes). heading ++ t) (sym (ap (drop first_place) found.1 ∙ heading_dropped found.0))
 
-  lines_are : begins heading s ≡ true → (count : ℕ) → (items : List Item) × (Taken s items) × (length items ≡ count) → Lines count ≡ answer
+  lines_are : begins heading s ≡ true → (count : ℕ) → (items : List Item) × (Taken s items) × (length items ≡ count) → Some count ≡ answer
   lines_are h count (items, t, n) =
-      ap Lines (sym n ∙ ap length (sym (taken_items s items (headed h) t))) ∙ by_test (taken_columns s items (headed h) t)
+      ap Some (sym n ∙ ap length (sym (taken_items s items (headed h) t))) ∙ by_test (taken_columns s items (headed h) t)
 
   -- it does not
-  pub not_headed : begins heading s ≡ false → Other ≡ answer
+  pub not_headed : begins heading s ≡ false → None ≡ answer
   not_headed h = step (is_columns s) refl
     where
-      step : (t : Bool) → is_columns s ≡ t → Other ≡ answer
+      step : (t : Bool) → is_columns s ≡ t → None ≡ answer
       step true e = absurd (true≢false (sym ((says_begins heading s).1 (drop first_place s, columns_headed s e)) ∙ h))
       step false e = by_test e
 
 -- an answer that was given tells whether the text is taken
-pub lines_told : (t : Bool) (n count : ℕ) → checked_by t n ≡ Lines count → (t ≡ true) × (count ≡ n)
+pub lines_told : (t : Bool) (n count : ℕ) → checked_by t n ≡ Some count → (t ≡ true) × (count ≡ n)
 lines_told true n count e = (refl, cc)
 lines_told false n count e = let no : ◌≡◌ {A = ℕ} 0 1 = cc in absurd (omega arith)
 
-pub other_told : (t : Bool) (n : ℕ) → checked_by t n ≡ Other → t ≡ false
+pub other_told : (t : Bool) (n : ℕ) → checked_by t n ≡ None → t ≡ false
 other_told true n e = let no : ◌≡◌ {A = ℕ} 0 1 = cc in absurd (omega arith)
 other_told false n e = refl
 
@@ -76,32 +75,28 @@ checking_start s e =
     (record { passing = passing_start s; within = within_start first_place; behind = omega arith; few = omega arith })
 
 module _ (s : List ℕ) (place : ℕ) (p : Position) (n least : ℕ) (g : Checking s place p n least) where
-  module _ (l : Line) (h : place < length s) (f : Found s place p l) where
-    pub checking_other : l.kind ≡ no_kind → Other ≡ answer s
-    checking_other e = other_is s (passing_other s place p n least g.passing l h f e)
+  pub checking_other : place < length s → {found : Option Line} → Found s place p found → found ≡ None → None ≡ answer s
+  checking_other h f e = other_is s (passing_other s place p n least g.passing h f e)
 
-    pub checking_idle : rank_of l.kind < least → Other ≡ answer s
-    checking_idle e = other_is s (passing_idle s place p n least g.passing l h f e)
+  module _ (l : Line) (f : Leading s place p l) where
+    pub checking_idle : rank_of l.kind < least → None ≡ answer s
+    checking_idle e = other_is s (passing_idle s place p n least g.passing l f e)
 
-    module _ (known : l.kind ≡ no_kind → ⊥) where
-      stands : Stands s place (position_at place p l.kind) l
-      stands = (f.some known).1
+    pub checking_ahead : (place ≤ l.end) × (l.end < length s)
+    checking_ahead = (omega (arith, f.1.behind, f.1.order), f.1.inside)
 
-      pub checking_ahead : (place ≤ l.end) × (l.end < length s)
-      checking_ahead = (omega (arith, stands.behind, stands.order), stands.inside)
+    pub checking_next : least ≤ rank_of l.kind → {k : ℕ} → k ≡ least_after l → Checking s (l.end + 1) l.position (n + 1) k
+    checking_next low e =
+        subst (λ (k : ℕ). Checking s (l.end + 1) l.position (n + 1) k) (sym e)
+        (record {
+          passing = passing_next s place p n least g.passing l f g.behind low;
+          within = within_line s place p l g.within f.1;
+          behind = omega (arith, g.behind, checking_ahead.0);
+          few = omega (arith, g.few, checking_ahead.0);
+        })
 
-      pub checking_next : least ≤ rank_of l.kind → {k : ℕ} → k ≡ least_after l → Checking s (l.end + 1) l.position (n + 1) k
-      checking_next low e =
-          subst (λ (k : ℕ). Checking s (l.end + 1) l.position (n + 1) k) (sym e)
-          (record {
-            passing = passing_next s place p n least g.passing l h f g.behind known low;
-            within = within_line s place p l g.within stands;
-            behind = omega (arith, g.behind, checking_ahead.0);
-            few = omega (arith, g.few, checking_ahead.0);
-          })
-
-  pub checking_done : begins heading s ≡ true → length s ≤ place → least ≡ 0 → Lines n ≡ answer s
+  pub checking_done : begins heading s ≡ true → length s ≤ place → least ≡ 0 → Some n ≡ answer s
   checking_done b h e = lines_are s b n (passing_done s place p n least g.passing g.behind h e)
 
-  pub checking_end : length s ≤ place → (least ≡ 0 → ⊥) → Other ≡ answer s
+  pub checking_end : length s ≤ place → (least ≡ 0 → ⊥) → None ≡ answer s
   checking_end h e = other_is s (passing_end s place p n least g.passing g.behind h e)

@@ -1,7 +1,7 @@
 -- A line is its four numbers, its value and a line feed: where it stands, and where none does. Assumes nothing.
-use Rattle.std.specs.Prelude.{if◌then◌else◌}
+use Rattle.std.specs.Prelude.{if◌then◌else◌, Some, None}
 use Prim.Native.Nat.{ℕ, ◌+◌, ◌-◌, ◌≤◌, ◌<◌}
-use mathlib.Core.Path.{◌≡◌, refl, sym, ap, ap₂, ◌∙◌}
+use mathlib.Core.Path.{◌≡◌, refl, sym, ap, ap₂, subst, ◌∙◌}
 use mathlib.Core.Bool.{Bool, true, false, not, ◌||◌, true≢false}
 use mathlib.Core.List.{List, [], ◌∷◌, ◌++◌, append_assoc}
 use native.Mathlib.Omega.{arith}
@@ -18,9 +18,10 @@ use Rattle.columns.specs.Reading.{before}
 use Rattle.column_laws.specs.declared.Position.{Position}
 use Rattle.column_laws.specs.Positions.{line_at}
 use Rattle.column_laws.proofs.Columned.{before_append}
-use Rattle.column_lines.specs.Numbers.{cell, numbers_at, past}
+use Rattle.column_lines.specs.Numbers.{cell, numbers_at}
 use Rattle.column_walk.specs.declared.Line.{Line}
-use Rattle.column_walk.specs.Walk.{no_kind, value_of, Stands, Missing, Sought}
+use Rattle.column_walk.specs.Walk.{value_of, Stands, Missing, Sought}
+use Rattle.column_walk.proofs.Walk.{none_not_some, some_same}
 use Rattle.import_columns.specs.Importing.{ends_value}
 
 -- ---- what ends a value
@@ -86,24 +87,6 @@ numbers_some p =
     let front : Bytes = in_decimal p.segment in
     let more : Bytes = cell p.element ++ (cell p.repeat ++ cell p.component) in
     omega (arith, length-append (front ++ tab ∷ []) more, length-append front (tab ∷ []))
-
--- where they end tells whether they stand there
-module _ (s : List ℕ) (place : ℕ) (p : Position) {start : ℕ} (e : start ≡ past (numbers_at p) s place) where
-  pub past_none : start ≡ place → begins (numbers_at p) (drop place s) ≡ false
-  unfolding past
-  past_none d = step (begins (numbers_at p) (drop place s)) (sym e ∙ d)
-    where
-      step : (t : Bool) → (if t then place + length (numbers_at p) else place) ≡ place → t ≡ false
-      step true k = absurd (omega (arith, k, numbers_some p))
-      step false k = refl
-
-  pub past_some : (start ≡ place → ⊥) → (begins (numbers_at p) (drop place s) ≡ true) × (start ≡ place + length (numbers_at p))
-  unfolding past
-  past_some n = step (begins (numbers_at p) (drop place s)) e
-    where
-      step : (t : Bool) → start ≡ (if t then place + length (numbers_at p) else place) → (t ≡ true) × (start ≡ place + length (numbers_at p))
-      step true k = (refl, k)
-      step false k = absurd (n k)
 
 module _ (s : List ℕ) (place : ℕ) (p : Position) where
   -- its numbers do not stand there
@@ -182,9 +165,13 @@ module _ (s : List ℕ) (place : ℕ) (p : Position) where
 
 -- ---- what a search answers
 
-module _ (s : List ℕ) (place : ℕ) (p : Position) (kind : ℕ) (l : Line) where
-  pub sought_none : l.kind ≡ no_kind → Missing s place p → Sought s place p kind l
-  sought_none e m = record { none = λ d. m; some = λ n. absurd (n e) }
+module _ (s : List ℕ) (place : ℕ) (p : Position) (kind : ℕ) where
+  pub sought_none : Missing s place p → Sought s place p kind None
+  sought_none m = record { none = λ d. m; some = λ l e. absurd (none_not_some e) }
 
-  pub sought_some : kind ≤ 3 → l.kind ≡ kind → Stands s place p l → Sought s place p kind l
-  sought_some low e stands = record { none = λ d. absurd (omega (arith, d, e, low)); some = λ n. (e, stands) }
+  pub sought_some : (l : Line) → l.kind ≡ kind → Stands s place p l → Sought s place p kind (Some l)
+  sought_some l e stands =
+      record {
+        none = λ d. absurd (none_not_some (sym d));
+        some = λ k d. subst (λ (j : Line). (j.kind ≡ kind) × Stands s place p j) (some_same d) (e, stands);
+      }

@@ -15,8 +15,7 @@ use Rattle.refusals.specs.declared.Fault.TheVariants.{NoColumns}
 use Rattle.refusals.specs.declared.Refusal.{Refusal}
 use Rattle.refusals.specs.Limits.{most_bytes}
 use Rattle.values.specs.Spelling.{Bytes, leads_break}
-use Rattle.answers.specs.declared.Stored.{Stored}
-use Rattle.answers.specs.Answers.{given, refused, told_stored}
+use Rattle.answers.specs.Answers.{given, refused, told_stored, Stored}
 use Rattle.operations.specs.Judge.{unless_refused, stored_in}
 use Rattle.operations.specs.ValueList.{Item, list_bytes, list_table}
 use Rattle.operations.specs.Write.{bad_list, write_refusal}

@@ -1,10 +1,8 @@
 -- Request 2026-12: what import's steps ask and answer. Assumes nothing.
-use Rattle.std.specs.Prelude.{ℕ, ◌≤◌, Bool, true, false, List, [], ◌∷◌, length}
+use Rattle.std.specs.Prelude.{ℕ, ◌≤◌, Bool, true, false, List, [], ◌∷◌, Option, Some, None, length}
 use Rattle.lists.specs.Lists.{member}
 use Rattle.columns.specs.Lines.{tab, carriage_return, line_feed}
 use Rattle.column_walk.specs.declared.Line.{Line}
-use Rattle.import_columns.specs.declared.Checked.{Checked}
-use Rattle.import_columns.specs.declared.Checked.TheVariants.{Lines, Other}
 
 -- a value holds "no tab, carriage return or line feed": one of them ends it
 abbrev pub ends_value : ℕ → Bool
@@ -14,7 +12,7 @@ ends_value b = member b (tab ∷ carriage_return ∷ line_feed ∷ [])
 abbrev pub is_line_in : List ℕ → Line → Type 0
 is_line_in s l = (l.start ≤ l.end) × (l.end ≤ length s)
 
--- a text that is taken, with the number of its lines, or any other
-abbrev pub checked_by : Bool → ℕ → Checked
-checked_by true count = Lines count
-checked_by false count = Other
+-- the number of lines of a text that is taken, and none of any other
+abbrev pub checked_by : Bool → ℕ → Option ℕ
+checked_by true count = Some count
+checked_by false count = None

@@ -15,107 +15,84 @@ ghost use Rattle.columns.specs.Lines.{heading};
 ghost use Rattle.columns.specs.Reading.{before, is_columns};
 ghost use Rattle.columns.specs.Operations.{bytes_read, table_read};
 ghost use Rattle.columns.specs.Promises.{Imports};
-ghost use Rattle.emission_laws.specs.Emission.{nothing, waiting, emitted, after};
+ghost use Rattle.emission_laws.specs.Emission.{waiting};
 ghost use Rattle.held_separators.specs.Putting.{Fits, Puts};
-ghost use Rattle.value_list_text.specs.Composing.{record_tokens, list_tokens, first_measure, composed_text, capped};
+ghost use Rattle.value_list_text.specs.Composing.{record_tokens, composed_text, HasRoom, Composes};
 ghost use Rattle.value_list_text.specs.Standing.{is_bare, first_bare};
 ghost use Rattle.write.specs.Writing.{Refuses, WritesAfter};
-ghost use Rattle.column_walk.specs.Walk.{first_place, Within, no_kind, item_at, Sought, Found};
+ghost use Rattle.column_walk.specs.Walk.{first_place, Within, item_at, Sought, Found};
 ghost use Rattle.column_walk.specs.Checking.{items_read, least_after};
 ghost use Rattle.import_columns.specs.Importing.{ends_value, is_line_in, checked_by};
 
-use answers::Stored;
 use characters::Characters;
 use column_laws::Position;
-use column_lines::{next_position, past_numbers};
+use column_lines::{next_position, numbers_end};
 use column_walk::Line;
 use emission_laws::Measure;
-use held_separators::{nothing_held, put_separator, put_value, with_separator, with_value};
-use refusals::{Fault, Outcome, Refusal};
+use held_separators::{put_separator, put_value};
+use refusals::{Fault, Refusal};
 use refusing::failed;
-use value_list_text::rank_of;
-use write::{refuse, write_judged};
+use storing::{Measured, Sink, Stored};
+use value_list_text::{first_measure, rank_of};
+use write::{refuse, refuse_at, write_judged};
 
 // ---- lines
-
-// What no line begins with.
-const NO_KIND: u32 = 4;
 
 // The place of the first tab, carriage return or line feed from a place on, or the end of the text.
 fn value_end(s: &[u8], from: usize) -> usize
     requires { from ≤ length s.now }
     ensures { result ≡ from + length (before ends_value (drop from s.now)) }
 {
-    let mut at = from;
-    while at < s.len() {
+    for at in from..s.len() {
         let b = s[at];
         if (b == b'\t') | ((b == b'\r') | (b == b'\n')) {
             return at;
         }
-        at += 1;
     }
-    at
-}
-
-// No line at a place.
-fn no_line(at: usize, position: Position) -> Line
-    ensures { result.kind ≡ no_kind }
-{
-    Line {
-        kind: NO_KIND,
-        position,
-        start: at,
-        end: at,
-    }
+    s.len()
 }
 
 // The line of a value at a position: its numbers stand at the place, and its value goes on to the line feed.
-fn line_of(s: &[u8], at: usize, position: Position, kind: u32) -> Line
-    requires { (at ≤ length s.now) × (kind ≤ 3) }
+fn line_of(s: &[u8], at: usize, position: Position, kind: u32) -> Option<Line>
+    requires { at ≤ length s.now }
     ensures { Sought s.now at position kind result }
 {
-    let start = past_numbers(s, at, position);
-    if start == at {
-        return no_line(at, position);
-    }
+    let start = numbers_end(s, at, position)?;
     let end = value_end(s, start);
     if end == s.len() {
-        return no_line(at, position);
+        return None;
     }
     if s[end] != b'\n' {
-        return no_line(at, position);
+        return None;
     }
-    Line {
+    Some(Line {
         kind,
         position,
         start,
         end,
-    }
+    })
 }
 
 // The line that begins at a place after a value at a position: the next component, repeat, element or segment.
-fn next_line(s: &[u8], at: usize, p: Position) -> Line
-    requires { (first_place < at) × (at < length s.now) × Within p at }
+fn next_line(s: &[u8], at: usize, p: Position) -> Option<Line>
+    requires { (first_place < at) × (at ≤ length s.now) × Within p at }
     ensures { Found s.now at p result }
 {
-    let component = line_of(s, at, next_position(p, 2), 2);
-    if component.kind == 2 {
-        return component;
+    if let Some(component) = line_of(s, at, next_position(p, 2), 2) {
+        return Some(component);
     }
-    let repeat = line_of(s, at, next_position(p, 3), 3);
-    if repeat.kind == 3 {
-        return repeat;
+    if let Some(repeat) = line_of(s, at, next_position(p, 3), 3) {
+        return Some(repeat);
     }
-    let element = line_of(s, at, next_position(p, 1), 1);
-    if element.kind == 1 {
-        return element;
+    if let Some(element) = line_of(s, at, next_position(p, 1), 1) {
+        return Some(element);
     }
     line_of(s, at, next_position(p, 0), 0)
 }
 
-// The line that begins at a place: the first one begins a segment.
-fn line_at(s: &[u8], at: usize, p: Position) -> Line
-    requires { (first_place ≤ at) × (at < length s.now) × Within p at }
+// The line that begins at a place: the first one begins a segment. At the end of the text there is none.
+fn line_at(s: &[u8], at: usize, p: Position) -> Option<Line>
+    requires { (first_place ≤ at) × (at ≤ length s.now) × Within p at }
     ensures { Found s.now at p result }
 {
     if at == column_lines::HEADING {
@@ -137,15 +114,9 @@ fn least_after(l: Line) -> u8
     0
 }
 
-// How many lines the text has, or that it is none that export gives.
-#[derive(Clone, Copy)]
-pub enum Checked {
-    Lines(usize),
-    Other,
-}
-
-// The lines behind the heading.
-fn check_lines(s: &[u8]) -> Checked
+// How many lines the text has behind the heading, if export gives such a text. Where a line begins only the one
+// before it tells, so that neither the place nor the count can be a `for`'s.
+fn check_lines(s: &[u8]) -> Option<usize>
     requires { begins heading s.now ≡ true }
     ensures { result ≡ checked_by (is_columns s.now) (length (items_read s.now)) }
 {
@@ -154,12 +125,9 @@ fn check_lines(s: &[u8]) -> Checked
     let mut n = 0;
     let mut least: u8 = 0;
     while at < s.len() {
-        let l = line_at(s, at, p);
-        if l.kind == NO_KIND {
-            return Checked::Other;
-        }
+        let l = line_at(s, at, p)?;
         if rank_of(l.kind) < least {
-            return Checked::Other;
+            return None;
         }
         least = least_after(l);
         n += 1;
@@ -167,18 +135,18 @@ fn check_lines(s: &[u8]) -> Checked
         p = l.position;
     }
     if least == 0 {
-        return Checked::Lines(n);
+        return Some(n);
     }
-    Checked::Other
+    None
 }
 
-fn check_columns(s: &[u8]) -> Checked
+fn check_columns(s: &[u8]) -> Option<usize>
     ensures { result ≡ checked_by (is_columns s.now) (length (items_read s.now)) }
 {
     if column_lines::begins_heading(s) {
         return check_lines(s);
     }
-    Checked::Other
+    None
 }
 
 // ---- 16
@@ -188,20 +156,18 @@ fn cannot_stand(s: &[u8], c: Characters, l: Line) -> bool
     requires { is_line_in s.now l }
     ensures { result ≡ is_bare c (item_at s.now l) }
 {
-    let start = l.start;
-    let end = l.end;
-    value_lists::lacks_release(c, &s[start..end]) | value_lists::lacks_repetition(c, l.kind)
+    value_lists::lacks_release(c, &s[l.start..l.end]) | value_lists::lacks_repetition(c, l.kind)
 }
 
-fn check_release(s: &[u8], c: Characters) -> Outcome
+// The value of the first line that cannot stand; the count stands beside the place, as in `check_lines`.
+fn check_release(s: &[u8], c: Characters) -> Result<(), Refusal>
     requires { is_columns s.now ≡ true }
     ensures { result ≡ outcome (first_bare c 0 (items_read s.now)) }
 {
     let mut at = column_lines::HEADING;
     let mut p = column_lines::origin();
     let mut n = 0;
-    while at < s.len() {
-        let l = line_at(s, at, p);
+    while let Some(l) = line_at(s, at, p) {
         if cannot_stand(s, c, l) {
             return failed(Fault::NeedsRelease, n);
         }
@@ -209,80 +175,41 @@ fn check_release(s: &[u8], c: Characters) -> Outcome
         at = l.end + 1;
         p = l.position;
     }
-    Outcome::Passed
+    Ok(())
 }
 
 // ---- the text
 
-// The text with nothing but its advice, of which the last byte is stored as it would end a segment.
-fn first_measure() -> Measure
-    ensures { result ≡ first_measure }
+// Puts a line where the text ends: its separator, and its value.
+fn put_line<S: Sink>(output: &mut [u8], m: Measure, c: Characters, s: &[u8], l: Line) -> Measure
+    requires { is_line_in s.now l × (m.total + waiting m.held ≤ most_spelled) × Fits S.room c output.old m (record_tokens (item_at s.now l)) }
+    ensures { Puts S.holds c output.old m (record_tokens (item_at s.now l)) output.new result }
 {
-    Measure {
-        total: 8,
-        held: nothing_held(),
-    }
+    let kept = put_separator::<S>(output, m, c, rank_of(l.kind));
+    put_value::<S>(output, kept, c, &s[l.start..l.end])
 }
 
-fn with_line(m: Measure, c: Characters, s: &[u8], l: Line) -> Measure
-    requires { is_line_in s.now l × (l.end ≤ l.start + most_bytes) × (m.total + waiting m.held ≤ most_spelled) }
-    ensures { result ≡ after c m (record_tokens (item_at s.now l)) }
-{
-    let kept = with_separator(m, rank_of(l.kind));
-    let start = l.start;
-    let end = l.end;
-    with_value(kept, c, &s[start..end])
-}
-
-// The length of the text; 32,001 where it is over 32,000 bytes, which is seen before all is measured.
-fn text_length(s: &[u8], c: Characters) -> usize
-    requires { (is_columns s.now ≡ true) × (length (items_read s.now) ≤ most_bytes) }
-    ensures { result ≡ capped (length (composed_text c (items_read s.now))) }
+// Puts the lines' values from the advice's last byte on, and returns the length of the text: the first ends the advice as
+// it would end a segment. A text over 32,000 bytes is given up where that is seen, and 32,001 is returned.
+fn put_lines<S: Sink>(output: &mut [u8], s: &[u8], c: Characters) -> usize
+    requires { (is_columns s.now ≡ true) × (length (items_read s.now) ≤ most_bytes) × HasRoom S.room (composed_text c (items_read s.now)) output.old }
+    ensures { Composes S.holds c (items_read s.now) output.old output.new result }
 {
     let mut m = first_measure();
     let mut at = column_lines::HEADING;
     let mut p = column_lines::origin();
-    while at < s.len() {
-        let l = line_at(s, at, p);
+    while let Some(l) = line_at(s, at, p) {
         if refusals::MOST_BYTES < l.end - l.start {
             return 32001;
         }
-        m = with_line(m, c, s, l);
+        m = put_line::<S>(output, m, c, s, l);
         if refusals::MOST_BYTES < m.total {
             return 32001;
         }
         at = l.end + 1;
         p = l.position;
     }
-    let end = with_separator(m, 0);
-    end.total
-}
-
-fn put_line(output: &mut [u8], m: Measure, c: Characters, s: &[u8], l: Line) -> Measure
-    requires { is_line_in s.now l × (m.total + waiting m.held ≤ most_spelled) × Fits c output.old m (record_tokens (item_at s.now l)) }
-    ensures { Puts c output.old m (record_tokens (item_at s.now l)) output.new result }
-{
-    let kept = put_separator(output, m, c, rank_of(l.kind));
-    let start = l.start;
-    let end = l.end;
-    put_value(output, kept, c, &s[start..end])
-}
-
-// Stores the lines' values from the advice's last byte on: the first ends the advice as it would end a segment.
-fn put_lines(output: &mut [u8], s: &[u8], c: Characters)
-    requires { (is_columns s.now ≡ true) × (length (items_read s.now) ≤ most_bytes) × (8 + length (emitted c nothing (list_tokens (items_read s.now))) ≤ most_bytes) × (8 + length (emitted c nothing (list_tokens (items_read s.now))) ≤ length output.old) }
-    ensures { output.new ≡ sets output.old 8 (emitted c nothing (list_tokens (items_read s.now))) }
-{
-    let mut m = first_measure();
-    let mut at = column_lines::HEADING;
-    let mut p = column_lines::origin();
-    while at < s.len() {
-        let l = line_at(s, at, p);
-        m = put_line(output, m, c, s, l);
-        at = l.end + 1;
-        p = l.position;
-    }
-    put_separator(output, m, c, 0);
+    put_separator::<S>(output, m, c, 0).total
 }
 
 // Stores the text at the front.
@@ -291,23 +218,17 @@ fn put_text(output: &mut [u8], s: &[u8], c: Characters)
     ensures { output.new ≡ sets output.old 0 (composed_text c (items_read s.now)) }
 {
     storing::put_advice(output, c);
-    put_lines(output, s, c);
+    put_lines::<Stored>(output, s, c);
 }
 
 // ---- stage by stage
 
-fn refuse_at(output: &mut [u8], fault: Fault, place: usize) -> Stored
-    ensures { Refuses (record { fault = fault; place = place }) output.old result output.new }
-{
-    refuse(output, Refusal { fault, place })
-}
-
 // 1 and 14, then the text itself, and 3 to 13 as Judge answers for it.
-fn import_text(service: &[u8], s: &[u8], c: Characters, output: &mut [u8]) -> Stored
+fn import_text(service: &[u8], s: &[u8], c: Characters, output: &mut [u8]) -> Result<usize, Refusal>
     requires { (c ≡ six_bytes service.now) × (usable c ≡ true) × (is_columns s.now ≡ true) × (length (items_read s.now) ≤ most_bytes) }
     ensures { WritesAfter 3 service.now (bytes_read s.now) (table_read s.now) output.old result output.new }
 {
-    let n = text_length(s, c);
+    let n = put_lines::<Measured>(&mut [], s, c);
     if refusals::MOST_BYTES < n {
         return refuse_at(output, Fault::TooLong, 0);
     }
@@ -319,18 +240,23 @@ fn import_text(service: &[u8], s: &[u8], c: Characters, output: &mut [u8]) -> St
 }
 
 // 16, and what follows it.
-fn import_released(service: &[u8], s: &[u8], c: Characters, output: &mut [u8]) -> Stored
+fn import_released(
+    service: &[u8],
+    s: &[u8],
+    c: Characters,
+    output: &mut [u8],
+) -> Result<usize, Refusal>
     requires { (c ≡ six_bytes service.now) × (usable c ≡ true) × (is_columns s.now ≡ true) × (length (items_read s.now) ≤ most_bytes) }
     ensures { WritesAfter 2 service.now (bytes_read s.now) (table_read s.now) output.old result output.new }
 {
     match check_release(s, c) {
-        Outcome::Failed(r) => refuse(output, r),
-        Outcome::Passed => import_text(service, s, c, output),
+        Err(r) => refuse(output, r),
+        Ok(()) => import_text(service, s, c, output),
     }
 }
 
 // 2, and what follows it.
-fn import_listed(service: &[u8], s: &[u8], output: &mut [u8]) -> Stored
+fn import_listed(service: &[u8], s: &[u8], output: &mut [u8]) -> Result<usize, Refusal>
     requires { (is_columns s.now ≡ true) × (length (items_read s.now) ≤ most_bytes) }
     ensures { WritesAfter 1 service.now (bytes_read s.now) (table_read s.now) output.old result output.new }
 {
@@ -345,7 +271,7 @@ fn import_listed(service: &[u8], s: &[u8], output: &mut [u8]) -> Stored
 }
 
 // 15, and what follows it: lines are never refused but for their number.
-fn import_lines(service: &[u8], s: &[u8], count: usize, output: &mut [u8]) -> Stored
+fn import_lines(service: &[u8], s: &[u8], count: usize, output: &mut [u8]) -> Result<usize, Refusal>
     requires { (is_columns s.now ≡ true) × (count ≡ length (items_read s.now)) }
     ensures { WritesAfter 0 service.now (bytes_read s.now) (table_read s.now) output.old result output.new }
 {
@@ -356,11 +282,11 @@ fn import_lines(service: &[u8], s: &[u8], count: usize, output: &mut [u8]) -> St
 }
 
 // Imports a text: any slices.
-pub fn import_columns(service: &[u8], s: &[u8], output: &mut [u8]) -> Stored
+pub fn import_columns(service: &[u8], s: &[u8], output: &mut [u8]) -> Result<usize, Refusal>
     ensures { Imports service.now s.now output.old result output.new }
 {
     match check_columns(s) {
-        Checked::Other => refuse_at(output, Fault::NoColumns, 0),
-        Checked::Lines(count) => import_lines(service, s, count, output),
+        None => refuse_at(output, Fault::NoColumns, 0),
+        Some(count) => import_lines(service, s, count, output),
     }
 }

@@ -7,9 +7,10 @@
 mod number;
 mod wide;
 
+ghost use Rattle.std.specs.Prelude.{IfSome};
 ghost use Rattle.inputs.specs.Counts.{IsPrefixLen};
 
-pub use number::{Number, number_of};
+pub use number::number_of;
 use std::env::FillError;
 use std::fs::File;
 use std::io;
@@ -30,13 +31,6 @@ pub enum Source {
     Argument(usize),
 }
 
-// Whether an input could be read, and how many bytes of it stand at the start of the buffer.
-#[derive(Clone, Copy)]
-pub struct Input {
-    pub is_read: bool,
-    pub count: usize,
-}
-
 // How many arguments the program was started with, its own name among them.
 pub fn argument_count(rt: &HostRuntime) -> usize {
     for i in 0..usize::MAX {
@@ -48,11 +42,7 @@ pub fn argument_count(rt: &HostRuntime) -> usize {
 }
 
 fn is_argument(rt: &HostRuntime, i: usize) -> bool {
-    match rt.arg(i, &mut []) {
-        Ok(_) => true,
-        Err(FillError::TooLong) => true,
-        Err(FillError::NotPresent) => false,
-    }
+    !matches!(rt.arg(i, &mut []), Err(FillError::NotPresent))
 }
 
 // Puts an argument at the start of the buffer and answers its length, or 0 where it is missing or longer
@@ -60,39 +50,30 @@ fn is_argument(rt: &HostRuntime, i: usize) -> bool {
 pub fn argument(rt: &HostRuntime, i: usize, buf: &mut [u8]) -> usize
     ensures { IsPrefixLen result buf.new }
 {
-    match rt.arg(i, buf) {
-        Ok(n) => n,
-        Err(_) => 0,
-    }
+    rt.arg(i, buf).unwrap_or(0)
 }
 
 // Reads until the input ends or the buffer is full.
-fn read_open<R: Read>(rt: &HostRuntime, reader: &mut R, name: &[u8], buf: &mut [u8]) -> Input
-    ensures { IsPrefixLen result.count buf.new }
+fn read_open<R: Read>(
+    rt: &HostRuntime,
+    reader: &mut R,
+    name: &[u8],
+    buf: &mut [u8],
+) -> Option<usize>
+    ensures { IfSome result (λ n. IsPrefixLen n buf.new) }
 {
     let mut done = 0;
     while done < buf.len() {
         match reader.read(&mut buf[done..]) {
-            Ok(0) => {
-                return Input {
-                    is_read: true,
-                    count: done,
-                };
-            }
+            Ok(0) => return Some(done),
             Ok(more) => done += more,
             Err(error) => {
                 printing::fail(&rt.stderr(), name, error);
-                return Input {
-                    is_read: false,
-                    count: 0,
-                };
+                return None;
             }
         }
     }
-    Input {
-        is_read: true,
-        count: done,
-    }
+    Some(done)
 }
 
 // std opens a file by a name that is text.
@@ -111,8 +92,8 @@ fn missing(why: FillError) -> Error {
     }
 }
 
-fn read_argument(rt: &HostRuntime, i: usize, buf: &mut [u8]) -> Input
-    ensures { IsPrefixLen result.count buf.new }
+fn read_argument(rt: &HostRuntime, i: usize, buf: &mut [u8]) -> Option<usize>
+    ensures { IfSome result (λ n. IsPrefixLen n buf.new) }
 {
     let mut name = [0u8; NAME_ROOM];
     let n = match rt.arg(i, &mut name) {
@@ -120,26 +101,21 @@ fn read_argument(rt: &HostRuntime, i: usize, buf: &mut [u8]) -> Input
         Err(why) => {
             // Longer than the name of any file: its first bytes are there.
             printing::fail(&rt.stderr(), &name, missing(why));
-            return Input {
-                is_read: false,
-                count: 0,
-            };
+            return None;
         }
     };
     match open_file(rt, &name[..n]) {
         Ok(mut file) => read_open(rt, &mut file, &name[..n], buf),
         Err(error) => {
             printing::fail(&rt.stderr(), &name[..n], error);
-            Input {
-                is_read: false,
-                count: 0,
-            }
+            None
         }
     }
 }
 
-pub fn read(rt: &HostRuntime, source: Source, buf: &mut [u8]) -> Input
-    ensures { IsPrefixLen result.count buf.new }
+// How many bytes of an input stand at the start of the buffer, if it could be read.
+pub fn read(rt: &HostRuntime, source: Source, buf: &mut [u8]) -> Option<usize>
+    ensures { IfSome result (λ n. IsPrefixLen n buf.new) }
 {
     match source {
         Source::StandardInput => read_open(rt, &mut rt.stdin(), b"standard input", buf),

@@ -2,35 +2,29 @@
 ghost use Rattle.std.specs.Prelude.{◌≡◌};
 ghost use Rattle.inputs.specs.WideNumber.{wide_number_of};
 
-use crate::number::Number;
-
-// Digits only, at least one of them; what 64 bits do not hold is no number of ours.
-pub fn wide_number_of(text: &[u8]) -> Number
+// What a text spells in decimal digits. Digits only, at least one of them; what 64 bits do not hold is no
+// number of ours.
+pub fn wide_number_of(text: &[u8]) -> Option<usize>
     ensures { result ≡ wide_number_of text.now }
 {
     if text.len() == 0 {
-        return Number::NotOne;
+        return None;
     }
     let mut n: usize = 0;
-    let mut i = 0;
-    while i < text.len() {
-        let b = text[i];
-        if b < 48 {
-            return Number::NotOne;
+    for b in text {
+        let b = *b;
+        if b < 48 || 57 < b {
+            return None;
         }
-        if 57 < b {
-            return Number::NotOne;
-        }
-        let digit = b as usize - 48;
+        let digit = usize::from(b - 48);
         if 1844674407370955161 < n {
-            return Number::NotOne;
+            return None;
         }
         let tens = 10 * n;
         if 18446744073709551615 - digit < tens {
-            return Number::NotOne;
+            return None;
         }
         n = tens + digit;
-        i += 1;
     }
-    Number::Is(n)
+    Some(n)
 }

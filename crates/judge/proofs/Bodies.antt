@@ -1,7 +1,7 @@
 -- What is known of an input that its first stages pass: how long it is and how its body reads; and so of one that is accepted.
 -- Assumes nothing.
 use Prim.Native.Nat.{ℕ, ◌+◌, ◌≤◌, ◌<◌}
-use mathlib.Core.Path.{◌≡◌, refl, ap, ap₂, ◌∙◌}
+use mathlib.Core.Path.{◌≡◌, refl, ap, ◌∙◌}
 use mathlib.Core.Bool.{true, false, not}
 use mathlib.Core.List.{List, [], ◌∷◌, append-eq-nil_iff}
 use mathlib.Core.Option.{none}
@@ -10,14 +10,14 @@ use native.Mathlib.Nat.{lt_of_not-le}
 use native.Mathlib.Omega.{arith}
 use lib.Dec.{eqb, leb}
 use borrow.Author.Tests.{eqb-true, leb-true, le-leb}
-use lib.ListN.{length, drop, length-append, length-drop}
+use lib.ListN.{length, length-append, length-drop}
 use Rattle.lists.specs.Lists.{member, all, any, those, gather}
 use Rattle.lists.proofs.Tests.{all_from, tested_from}
 use Rattle.lists.proofs.Texts.{and_both}
 use Rattle.characters.specs.declared.Characters.{Characters}
 use Rattle.characters.specs.Characters.{between, upper, lower, digit, characters_of, body_start, body, advice_of, spelled_out, opens}
 use Rattle.refusals.specs.declared.Fault.TheVariants.{TooLong, NoOpening, StrayRelease, UnendedSegment}
-use Rattle.refusals.specs.Refusals.{number, place_if, answering}
+use Rattle.refusals.specs.Refusals.{place_if, answering}
 use Rattle.refusals.proofs.Stages.{place_none, place_none_not}
 use Rattle.values.specs.Tokens.{Token, byte, separator, fault, place_of, tokens_at}
 use Rattle.values.specs.Values.{is_fault, ends_inside}

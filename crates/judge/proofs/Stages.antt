@@ -1,9 +1,9 @@
 -- What each stage of the code finds is what its stage of the paper answers. Assumes nothing.
-use Rattle.std.specs.Prelude.{if◌then◌else◌}
+use Rattle.std.specs.Prelude.{if◌then◌else◌, Ok, Err}
 use Prim.Native.Nat.{ℕ, suc, ◌+◌, ◌<◌, ◌≤◌}
 use mathlib.Core.Path.{◌≡◌, refl, sym, ap, ap₂, subst, ◌∙◌}
 use mathlib.Core.Bool.{Bool, true, false}
-use mathlib.Core.List.{List, [], ◌∷◌, ◌++◌, map, reverse}
+use mathlib.Core.List.{List, [], ◌∷◌, ◌++◌, reverse}
 use mathlib.Core.Option.{Option, none, some}
 use native.Mathlib.Omega.{arith}
 use lib.ListN.{length, drop}
@@ -16,14 +16,12 @@ use Rattle.characters.specs.declared.Characters.{Characters}
 use Rattle.characters.specs.Characters.{characters_of, body_start, body}
 use Rattle.refusals.specs.declared.Fault.TheVariants.{TooLong, ForeignLevel, OutsideLevel, NormalTooLong}
 use Rattle.refusals.specs.declared.Refusal.{Refusal}
-use Rattle.refusals.specs.declared.Outcome.{Outcome}
-use Rattle.refusals.specs.Refusals.{number, met, place_if, or_else, answering, outcome}
+use Rattle.refusals.specs.Refusals.{met, place_if, or_else, answering, outcome, Outcome}
 use Rattle.refusals.proofs.Stages.{one_place, place_none}
 use Rattle.values.specs.Tokens.{Token, Segment, ends, segments, start as start_of, tokens_at}
 use Rattle.values.specs.Trimming.{contents_of}
 use Rattle.levels.specs.Levels.{level_named, syntax_identifier, is_version4, is_our_version, level_in, level_of, has_version4}
 use Rattle.segments.specs.declared.Walk.{Walk}
-use Rattle.segments.specs.Tags.{kind_of}
 use Rattle.segments.specs.Order.{walk_over}
 use Rattle.control_elements.specs.Sections.{last_section}
 use Rattle.scanner.specs.Scan.{segment_at}
@@ -39,16 +37,10 @@ use Rattle.length_bound.proofs.Bound.{contents_most}
 use Rattle.stage_walks.specs.Walks.{ordered}
 use Rattle.stage_walks.proofs.Walks.{ordered_answers}
 use Rattle.stage_opening.specs.declared.Found.{Found}
-use Rattle.stage_opening.specs.declared.Progress.{Progress}
-use Rattle.stage_opening.specs.declared.Progress.TheVariants.{Passed, Refused}
-use Rattle.stage_opening.specs.Runs.{found_by, progress}
+use Rattle.stage_opening.specs.Runs.{found_by, progress, Progress}
 use Rattle.stage_opening.proofs.Runs.{passed_is, asked_next}
-use Rattle.stage_order.specs.declared.Ordered.{Ordered}
-use Rattle.stage_order.specs.declared.Ordered.TheVariants as ordered_as_lem
-use Rattle.stage_order.specs.Ordering.{ordered_by, ordered_as}
-use Rattle.answers.specs.declared.Judged.{Judged}
-use Rattle.answers.specs.declared.Judged.TheVariants as judged_as
-use Rattle.answers.specs.Answers.{told_judged, accepted, refused}
+use Rattle.stage_order.specs.Ordering.{ordered_by, ordered_as, Ordered}
+use Rattle.answers.specs.Answers.{told_judged, accepted, refused, Judged}
 use Rattle.operations.specs.Judge.{figures_of, judge}
 use Rattle.judge.specs.Judging.{after, judged}
 use Rattle.judge.proofs.Bodies.{none_outside, body_tokens_lem, short, begun, sound, form_length, measure_bound}
@@ -58,11 +50,11 @@ use Rattle.refusals.specs.Limits.{most_bytes}
 
 module _ (s : List ℕ) where
   sized : {b : Bool} → ltb most_bytes (length s) ≡ b
-      → maybe (Passed (found_by 6 s)) Refused (if b then some (record { fault = TooLong; place = 0 }) else answering (stages_in s 2 6)) ≡ progress 1 6 s
+      → maybe (Ok (found_by 6 s)) Err (if b then some (record { fault = TooLong; place = 0 }) else answering (stages_in s 2 6)) ≡ progress 1 6 s
   unfolding progress stages_in brackets_in brackets those all bracketed places_of too_long is_over
-  sized e = sym (ap (maybe (Passed (found_by 6 s)) Refused) (one_place TooLong 0 (stages_in s 2 6) e))
+  sized e = sym (ap (maybe (Ok (found_by 6 s)) Err) (one_place TooLong 0 (stages_in s 2 6) e))
 
-  pub too_long_lem : most_bytes < length s → Refused (record { fault = TooLong; place = 0 }) ≡ progress 1 6 s
+  pub too_long_lem : most_bytes < length s → Err (record { fault = TooLong; place = 0 }) ≡ progress 1 6 s
   unfolding maybe
   too_long_lem h = sized (lt-ltb most_bytes (length s) h)
 
@@ -72,13 +64,13 @@ module _ (s : List ℕ) where
 
 -- what comes after it finds no more than 32,000 bytes
 pub short_by : (s : List ℕ) (last : ℕ) → brackets_in 1 last ≡ brackets_in 1 6 ++ brackets_in 7 last → {before : Progress} {found : Found}
-    → before ≡ progress 1 last s → before ≡ Passed found → length s ≤ most_bytes
+    → before ≡ progress 1 last s → before ≡ Ok found → length s ≤ most_bytes
 short_by s last split e d = short s (run_none s 1 6 last split (passed_is s 1 last e d).0).0
 
 -- ---- (4 5 6), 8 and (10 11 12): walks over the tokens
 
 -- what is left after an outcome is what its answer leaves
-after_outcome : (found : Found) (o : Option Refusal) → after found (outcome o) ≡ maybe (Passed found) Refused o
+after_outcome : (found : Found) (o : Option Refusal) → after found (outcome o) ≡ maybe (Ok found) Err o
 unfolding after outcome maybe
 after_outcome found none = refl
 after_outcome found (some r) = refl
@@ -86,14 +78,14 @@ after_outcome found (some r) = refl
 module _ (s : List ℕ) (first last next : ℕ) (split : brackets_in first next ≡ brackets_in first last ++ brackets_in (suc last) next)
     (walk : Found → List Token → Option Refusal) (answers : answering (stages_in s (suc last) next) ≡ walk (found_by last s) (body_tokens s))
     (same : found_by last s ≡ found_by next s) where
-  pub walked : {before : Progress} {found : Found} {stage : Outcome} {r : Progress} → before ≡ progress first last s → before ≡ Passed found
+  pub walked : {before : Progress} {found : Found} {stage : Outcome} {r : Progress} → before ≡ progress first last s → before ≡ Ok found
       → stage ≡ outcome (walk found (tokens_at found.characters s found.start)) → r ≡ after found stage → r ≡ progress first next s
   walked {before} {found} e d w h =
       let f = (passed_is s first last e d).1 in
       h
       ∙ ap (after found) (w ∙ ap₂ (λ (g : Found) (ts : List Token). outcome (walk g ts)) f (body_tokens_lem s last f))
       ∙ after_outcome found (walk (found_by last s) (body_tokens s))
-      ∙ ap (λ (g : Found). maybe (Passed g) Refused (walk (found_by last s) (body_tokens s))) (f ∙ same)
+      ∙ ap (λ (g : Found). maybe (Ok g) Err (walk (found_by last s) (body_tokens s))) (f ∙ same)
       ∙ asked_next s first last e next split d answers
 
 -- ---- 7
@@ -173,7 +165,7 @@ module _ (s : List ℕ) (e : answering (stages_in s 1 6) ≡ none) where
   unfolding stages_in brackets_in brackets those all bracketed places_of answering
   level_answers d = ap (λ (ps : List ℕ). answering (met ForeignLevel ps ∷ [])) foreign_is ∙ one_place ForeignLevel (body_start s) [] d
 
-module _ (s : List ℕ) {before : Progress} {found : Found} (e : before ≡ progress 1 6 s) (d : before ≡ Passed found)
+module _ (s : List ℕ) {before : Progress} {found : Found} (e : before ≡ progress 1 6 s) (d : before ≡ Ok found)
     {l : ℕ} (h : l ≡ number_of (level_of found.characters (segment_at found.characters s found.start))) where
   level_is : l ≡ level s
   unfolding found_by
@@ -181,32 +173,32 @@ module _ (s : List ℕ) {before : Progress} {found : Found} (e : before ≡ prog
       let (passed, f) = passed_is s 1 6 e d in
       h ∙ ap (λ (g : Found). number_of (level_of g.characters (segment_at g.characters s g.start))) f ∙ level_named_lem s passed
 
-  pub level_foreign : l ≡ 0 → Refused (record { fault = ForeignLevel; place = found.start }) ≡ progress 1 7 s
+  pub level_foreign : l ≡ 0 → Err (record { fault = ForeignLevel; place = found.start }) ≡ progress 1 7 s
   unfolding found_by brackets_in brackets those all maybe
   level_foreign z =
       let (passed, f) = passed_is s 1 6 e d in
-      ap (λ (g : Found). Refused (record { fault = ForeignLevel; place = g.start })) f
+      ap (λ (g : Found). Err (record { fault = ForeignLevel; place = g.start })) f
       ∙ asked_next s 1 6 e 7 refl d (level_answers s passed (eq-eqb (level s) 0 (sym level_is ∙ z)))
 
   pub level_ours : (l ≡ 0 → ⊥)
-      → Passed (record { characters = found.characters; start = found.start; level = l; walk = found.walk }) ≡ progress 1 7 s
+      → Ok (record { characters = found.characters; start = found.start; level = l; walk = found.walk }) ≡ progress 1 7 s
   unfolding found_by brackets_in brackets those all maybe
   level_ours z =
       let (passed, f) = passed_is s 1 6 e d in
-      ap₂ (λ (g : Found) (k : ℕ). Passed (record { characters = g.characters; start = g.start; level = k; walk = g.walk })) f level_is
+      ap₂ (λ (g : Found) (k : ℕ). Ok (record { characters = g.characters; start = g.start; level = k; walk = g.walk })) f level_is
       ∙ asked_next s 1 6 e 7 refl d (level_answers s passed (ne_eqb (level s) 0 (λ k. z (level_is ∙ k))))
 
 -- ---- 9, which also hands on the walk
 
-order_failed_is : (walk : Walk) (o : Option Refusal) (r : Refusal) → ordered_by walk o ≡ ordered_as_lem.Failed r → o ≡ some r
+order_failed_is : (walk : Walk) (o : Option Refusal) (r : Refusal) → ordered_by walk o ≡ Err r → o ≡ some r
 order_failed_is walk none r e = cc
 order_failed_is walk (some q) r e = cc
 
-order_whole_is : (walk : Walk) (o : Option Refusal) (w : Walk) → ordered_by walk o ≡ ordered_as_lem.Whole w → (o ≡ none) × (w ≡ walk)
+order_whole_is : (walk : Walk) (o : Option Refusal) (w : Walk) → ordered_by walk o ≡ Ok w → (o ≡ none) × (w ≡ walk)
 order_whole_is walk none w e = (refl, cc)
 order_whole_is walk (some q) w e = (cc, cc)
 
-module _ (s : List ℕ) {before : Progress} {found : Found} (e : before ≡ progress 1 8 s) (d : before ≡ Passed found) {answer : Ordered}
+module _ (s : List ℕ) {before : Progress} {found : Found} (e : before ≡ progress 1 8 s) (d : before ≡ Ok found) {answer : Ordered}
     (h : answer ≡ ordered_as (length s) (tokens_at found.characters s found.start)) where
   -- the walk over all segments
   abbrev whole_walk : Walk
@@ -216,17 +208,17 @@ module _ (s : List ℕ) {before : Progress} {found : Found} (e : before ≡ prog
   unfolding ordered_as kinds_of segments_of
   order_is = h ∙ ap (ordered_as (length s)) (body_tokens_lem s 8 (passed_is s 1 8 e d).1)
 
-  pub order_failed : {r : Refusal} → answer ≡ ordered_as_lem.Failed r → Refused r ≡ progress 1 9 s
+  pub order_failed : {r : Refusal} → answer ≡ Err r → Err r ≡ progress 1 9 s
   unfolding brackets_in brackets those all maybe
   order_failed {r} k =
       asked_next s 1 8 e 9 refl d (ordered_answers s ∙ order_failed_is whole_walk (ordered (length s) (body_tokens s)) r (sym order_is ∙ k))
 
-  pub order_whole : {w : Walk} → answer ≡ ordered_as_lem.Whole w
-      → Passed (record { characters = found.characters; start = found.start; level = found.level; walk = w }) ≡ progress 1 9 s
+  pub order_whole : {w : Walk} → answer ≡ Ok w
+      → Ok (record { characters = found.characters; start = found.start; level = found.level; walk = w }) ≡ progress 1 9 s
   unfolding found_by brackets_in brackets those all maybe
   order_whole {w} k =
       let (o, walk) = order_whole_is whole_walk (ordered (length s) (body_tokens s)) w (sym order_is ∙ k) in
-      ap₂ (λ (g : Found) (v : Walk). Passed (record { characters = g.characters; start = g.start; level = g.level; walk = v })) (passed_is s 1 8 e d).1 walk
+      ap₂ (λ (g : Found) (v : Walk). Ok (record { characters = g.characters; start = g.start; level = g.level; walk = v })) (passed_is s 1 8 e d).1 walk
       ∙ asked_next s 1 8 e 9 refl d (ordered_answers s ∙ o)
 
 -- ---- 7 and 8 pass
@@ -311,19 +303,19 @@ module _ (s : List ℕ) (n : ℕ) (e : n ≡ length (normal_form s)) where
   unfolding stages_in brackets_in brackets those all bracketed places_of normal_too_long is_over answering
   length_answers d = sym (ap (judged s) (one_place NormalTooLong (length (normal_form s)) [] d))
 
-  pub length_refused : most_bytes < n → judged_as.Refused (record { fault = NormalTooLong; place = n }) ≡ judged s (answering (stages_in s 13 13))
+  pub length_refused : most_bytes < n → Err (record { fault = NormalTooLong; place = n }) ≡ judged s (answering (stages_in s 13 13))
   unfolding judged maybe
   length_refused h =
-      ap (λ (p : ℕ). judged_as.Refused (record { fault = NormalTooLong; place = p })) e
+      ap (λ (p : ℕ). Err (record { fault = NormalTooLong; place = p })) e
       ∙ length_answers (lt-ltb most_bytes (length (normal_form s)) (omega arith))
 
   -- what is said of an accepted interchange, from what was found
   pub length_accepted : {f : Found} → f ≡ found_by 12 s → n ≤ most_bytes
-      → judged_as.Accepted (record { characters = f.characters; segments = f.walk.segments; messages = f.walk.messages; groups = f.walk.groups; length = n })
+      → Ok (record { characters = f.characters; segments = f.walk.segments; messages = f.walk.messages; groups = f.walk.groups; length = n })
       ≡ judged s (answering (stages_in s 13 13))
   unfolding judged maybe figures_of walk_over found_by
   length_accepted d h =
-      ap₂ (λ (f : Found) (k : ℕ). judged_as.Accepted (record { characters = f.characters; segments = f.walk.segments; messages = f.walk.messages; groups = f.walk.groups; length = k })) d e
+      ap₂ (λ (f : Found) (k : ℕ). Ok (record { characters = f.characters; segments = f.walk.segments; messages = f.walk.messages; groups = f.walk.groups; length = k })) d e
       ∙ length_answers (le-ltb most_bytes (length (normal_form s)) (omega arith))
 
 -- ---- the whole
@@ -353,7 +345,7 @@ module _ (s : List ℕ) where
   short_accepted e h = whole e (one_place NormalTooLong (length (normal_form s)) [] (le-ltb most_bytes (length (normal_form s)) h))
 
   -- one of 1 to 12 answers
-  pub earlier_answers : {r : Refusal} → answering (stages_in s 1 12) ≡ some r → told_judged (judged_as.Refused r) ≡ judge s
+  pub earlier_answers : {r : Refusal} → answering (stages_in s 1 12) ≡ some r → told_judged (Err r) ≡ judge s
   unfolding judged maybe or_else
   earlier_answers {r} e = told refl (earlier_refuses e)
 

@@ -12,187 +12,117 @@ ghost use Rattle.stages.specs.Contents.{normal_form};
 ghost use Rattle.stages.specs.Stages.{stages_in};
 ghost use Rattle.stage_opening.specs.Runs.{found_by, progress};
 ghost use Rattle.contracts.specs.Promises.{Judges};
-ghost use Rattle.judge.specs.Judging.{after, judged, Quickly};
+ghost use Rattle.judge.specs.Judging.{judged, Quickly};
 ghost use Rattle.refusals.specs.Limits.{most_bytes};
 
-use answers::{Figures, Judged};
-use clean_walk::{Clean, clean_walk};
-use refusals::{Fault, Outcome, Refusal};
-use stage_opening::{Found, Progress, refused};
-use stage_order::Ordered;
+use answers::Figures;
+use clean_walk::clean_walk;
+use refusals::{Fault, Refusal};
+use refusing::failed;
+use stage_opening::Found;
 use verbatim::is_normal;
 
-// What was found before a stage that passes, or the stage's refusal.
-fn after(found: Found, stage: Outcome) -> Progress
-    ensures { result ≡ after found stage }
-{
-    match stage {
-        Outcome::Passed => Progress::Passed(found),
-        Outcome::Failed(r) => Progress::Refused(r),
-    }
-}
-
 // 2, 3 and (4 5 6), of any number of bytes.
-pub fn stages_2_to_6(s: &[u8]) -> Progress
+pub fn stages_2_to_6(s: &[u8]) -> Result<Found, Refusal>
     ensures { result ≡ progress 2 6 s.now }
 {
-    match stage_opening::opening_of(s) {
-        Progress::Refused(r) => Progress::Refused(r),
-        Progress::Passed(found) => {
-            let c = found.characters;
-            after(found, stage_segments::check(s, c, found.start))
-        }
-    }
+    let found = stage_opening::opening_of(s)?;
+    stage_segments::check(s, found.characters, found.start)?;
+    Ok(found)
 }
 
 // 1 before them.
-pub fn stages_to_6(s: &[u8]) -> Progress
+pub fn stages_to_6(s: &[u8]) -> Result<Found, Refusal>
     ensures { result ≡ progress 1 6 s.now }
 {
     if refusals::MOST_BYTES < s.len() {
-        return refused(Fault::TooLong, 0);
+        return failed(Fault::TooLong, 0);
     }
     stages_2_to_6(s)
 }
 
 // 7 after them, which finds the level.
-pub fn stages_to_7(s: &[u8]) -> Progress
+pub fn stages_to_7(s: &[u8]) -> Result<Found, Refusal>
     ensures { result ≡ progress 1 7 s.now }
 {
-    match stages_to_6(s) {
-        Progress::Refused(r) => Progress::Refused(r),
-        Progress::Passed(found) => {
-            let c = found.characters;
-            let start = found.start;
-            let walk = found.walk;
-            let level = stage_level::level_of(s, c, start);
-            if level == 0 {
-                return refused(Fault::ForeignLevel, start);
-            }
-            Progress::Passed(Found {
-                characters: c,
-                start,
-                level,
-                walk,
-            })
-        }
+    let found = stages_to_6(s)?;
+    let level = stage_level::level_of(s, found.characters, found.start);
+    if level == 0 {
+        return failed(Fault::ForeignLevel, found.start);
     }
+    Ok(Found { level, ..found })
 }
 
 // 8 after them.
-pub fn stages_to_8(s: &[u8]) -> Progress
+pub fn stages_to_8(s: &[u8]) -> Result<Found, Refusal>
     ensures { result ≡ progress 1 8 s.now }
 {
-    match stages_to_7(s) {
-        Progress::Refused(r) => Progress::Refused(r),
-        Progress::Passed(found) => {
-            let c = found.characters;
-            after(found, stage_bytes::in_level(s, c, found.level, found.start))
-        }
-    }
+    let found = stages_to_7(s)?;
+    stage_bytes::in_level(s, found.characters, found.level, found.start)?;
+    Ok(found)
 }
 
 // 9 after them, which finds the walk.
-pub fn stages_to_9(s: &[u8]) -> Progress
+pub fn stages_to_9(s: &[u8]) -> Result<Found, Refusal>
     ensures { result ≡ progress 1 9 s.now }
 {
-    match stages_to_8(s) {
-        Progress::Refused(r) => Progress::Refused(r),
-        Progress::Passed(found) => {
-            let c = found.characters;
-            let start = found.start;
-            let level = found.level;
-            match stage_order::check(s, c, start) {
-                Ordered::Failed(r) => Progress::Refused(r),
-                Ordered::Whole(walk) => Progress::Passed(Found {
-                    characters: c,
-                    start,
-                    level,
-                    walk,
-                }),
-            }
-        }
-    }
+    let found = stages_to_8(s)?;
+    let walk = stage_order::check(s, found.characters, found.start)?;
+    Ok(Found { walk, ..found })
 }
 
 // (10 11 12) after them, one stage after the other.
-fn stages_to_12_in_turn(s: &[u8]) -> Progress
+fn stages_to_12_in_turn(s: &[u8]) -> Result<Found, Refusal>
     ensures { result ≡ progress 1 12 s.now }
 {
-    match stages_to_9(s) {
-        Progress::Refused(r) => Progress::Refused(r),
-        Progress::Passed(found) => {
-            let c = found.characters;
-            after(found, stage_control::check(s, c, found.start))
-        }
-    }
-}
-
-// What the quick way says: 1 to 12 pass, and this is what they find; or this is their refusal; or one of them
-// may refuse, and which is not known.
-#[derive(Clone, Copy)]
-pub enum Quick {
-    Passed(Found),
-    Refused(Refusal),
-    Other,
+    let found = stages_to_9(s)?;
+    stage_control::check(s, found.characters, found.start)?;
+    Ok(found)
 }
 
 // The quick way after 2 and 3: one walk for (4 5 6), 9 and (10 11 12), then the level and the bytes, whose
-// refusal is the answer where the walk found nothing.
-fn quickly_after(s: &[u8], found: Found) -> Quick
-    requires { (length s.now ≤ most_bytes) × (Progress.Passed found ≡ progress 2 3 s.now) }
+// refusal is the answer where the walk found nothing. It says what 1 to 12 find, or their refusal; or nothing,
+// where one of them may refuse and which is not known.
+fn quickly_after(s: &[u8], found: Found) -> Option<Result<Found, Refusal>>
+    requires { (length s.now ≤ most_bytes) × (Ok found ≡ progress 2 3 s.now) }
     ensures { Quickly s.now result }
 {
     let c = found.characters;
     let start = found.start;
-    match clean_walk(s, c, start) {
-        Clean::Other => Quick::Other,
-        Clean::Whole(walk) => {
-            let level = stage_level::level_of(s, c, start);
-            if level == 0 {
-                return Quick::Refused(Refusal {
-                    fault: Fault::ForeignLevel,
-                    place: start,
-                });
-            }
-            match stage_bytes::in_level(s, c, level, start) {
-                Outcome::Failed(r) => Quick::Refused(r),
-                Outcome::Passed => Quick::Passed(Found {
-                    characters: c,
-                    start,
-                    level,
-                    walk,
-                }),
-            }
-        }
+    let walk = clean_walk(s, c, start)?;
+    let level = stage_level::level_of(s, c, start);
+    if level == 0 {
+        return Some(failed(Fault::ForeignLevel, start));
+    }
+    match stage_bytes::in_level(s, c, level, start) {
+        Err(r) => Some(Err(r)),
+        Ok(()) => Some(Ok(Found {
+            level,
+            walk,
+            ..found
+        })),
     }
 }
 
 // Of a few bytes, in which no interchange has room, nothing is asked twice.
-pub fn quickly(s: &[u8]) -> Quick
+pub fn quickly(s: &[u8]) -> Option<Result<Found, Refusal>>
     ensures { Quickly s.now result }
 {
-    if s.len() < 32 {
-        return Quick::Other;
+    if s.len() < 32 || refusals::MOST_BYTES < s.len() {
+        return None;
     }
-    if refusals::MOST_BYTES < s.len() {
-        return Quick::Other;
-    }
-    match stage_opening::opening_of(s) {
-        Progress::Refused(_) => Quick::Other,
-        Progress::Passed(found) => quickly_after(s, found),
-    }
+    let found = stage_opening::opening_of(s).ok()?;
+    quickly_after(s, found)
 }
 
 // 1 to 12. Most inputs pass all of them, and the quick way finds that; where it does not tell, the stages are
 // asked one after the other.
-pub fn stages_to_12(s: &[u8]) -> Progress
+pub fn stages_to_12(s: &[u8]) -> Result<Found, Refusal>
     ensures { result ≡ progress 1 12 s.now }
 {
     match quickly(s) {
-        Quick::Passed(found) => Progress::Passed(found),
-        Quick::Refused(r) => Progress::Refused(r),
-        Quick::Other => stages_to_12_in_turn(s),
+        Some(told) => told,
+        None => stages_to_12_in_turn(s),
     }
 }
 
@@ -214,7 +144,7 @@ pub fn most_length(s: &[u8], found: Found) -> usize
 }
 
 // 13, of an input that all others passed: the length of the normal form.
-pub fn judge_length(s: &[u8], found: Found) -> Judged
+pub fn judge_length(s: &[u8], found: Found) -> Result<Figures, Refusal>
     requires { (answering (stages_in s.now 1 12) ≡ none) × (found ≡ found_by 12 s.now) }
     ensures { result ≡ judged s.now (answering (stages_in s.now 13 13)) }
 {
@@ -223,30 +153,22 @@ pub fn judge_length(s: &[u8], found: Found) -> Judged
     let repetition = stage_level::normal_repetition(s, characters, start);
     let length = stage_length::measured(s, characters, start, repetition) + 9;
     if refusals::MOST_BYTES < length {
-        return Judged::Refused(Refusal {
-            fault: Fault::NormalTooLong,
-            place: length,
-        });
+        return failed(Fault::NormalTooLong, length);
     }
     let walk = found.walk;
-    let segments = walk.segments;
-    let messages = walk.messages;
-    let groups = walk.groups;
-    Judged::Accepted(Figures {
+    Ok(Figures {
         characters,
-        segments,
-        messages,
-        groups,
+        segments: walk.segments,
+        messages: walk.messages,
+        groups: walk.groups,
         length,
     })
 }
 
 // Judges one interchange: any bytes, any length.
-pub fn judge(s: &[u8]) -> Judged
+pub fn judge(s: &[u8]) -> Result<Figures, Refusal>
     ensures { Judges s.now result }
 {
-    match stages_to_12(s) {
-        Progress::Refused(r) => Judged::Refused(r),
-        Progress::Passed(found) => judge_length(s, found),
-    }
+    let found = stages_to_12(s)?;
+    judge_length(s, found)
 }

@@ -11,40 +11,33 @@ ghost use Rattle.stage_opening.specs.Runs.{found_by};
 ghost use Rattle.message_tables.specs.Soundness.{is_sound};
 ghost use Rattle.structure_contracts.specs.Promises.{JudgesByTable};
 
-use answers::Judged;
+use answers::Figures;
 use judge::{judge_length, stages_to_12};
-use refusals::Outcome;
-use stage_opening::{Found, Progress};
+use refusals::Refusal;
+use stage_opening::Found;
 
 // 22 and 13, of an input that all others passed.
-fn judge_bodies(table: &[u8], s: &[u8], found: Found) -> Judged
+fn judge_bodies(table: &[u8], s: &[u8], found: Found) -> Result<Figures, Refusal>
     requires { (is_sound table.now ≡ true) × (answering (stages_in s.now 1 12) ≡ none) × (found ≡ found_by 12 s.now) }
     ensures { JudgesByTable table.now s.now result }
 {
-    let c = found.characters;
-    match stage_structure::check(s, c, table, found.start) {
-        Outcome::Failed(r) => Judged::Refused(r),
-        Outcome::Passed => judge_length(s, found),
-    }
+    stage_structure::check(s, found.characters, table, found.start)?;
+    judge_length(s, found)
 }
 
 // All but 21, by a sound table.
-fn judge_soundly(table: &[u8], s: &[u8]) -> Judged
+fn judge_soundly(table: &[u8], s: &[u8]) -> Result<Figures, Refusal>
     requires { is_sound table.now ≡ true }
     ensures { JudgesByTable table.now s.now result }
 {
-    match stages_to_12(s) {
-        Progress::Refused(r) => Judged::Refused(r),
-        Progress::Passed(found) => judge_bodies(table, s, found),
-    }
+    let found = stages_to_12(s)?;
+    judge_bodies(table, s, found)
 }
 
 // Judges one interchange by a table: any bytes, any length of either.
-pub fn judge_by_table(table: &[u8], s: &[u8]) -> Judged
+pub fn judge_by_table(table: &[u8], s: &[u8]) -> Result<Figures, Refusal>
     ensures { JudgesByTable table.now s.now result }
 {
-    match table_soundness::check(table) {
-        Outcome::Failed(r) => Judged::Refused(r),
-        Outcome::Passed => judge_soundly(table, s),
-    }
+    table_soundness::check(table)?;
+    judge_soundly(table, s)
 }

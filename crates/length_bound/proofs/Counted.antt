@@ -37,6 +37,13 @@ module _ (t : ℕ → Bool) where
   unfolding counted those
   counted_end s at h = ap (counted t) (drop_of_length-le s h)
 
+  -- one after another
+  pub counted_append : (xs ys : List ℕ) → counted t (xs ++ ys) ≡ counted t xs + counted t ys
+  unfolding counted those
+  counted_append [] ys = omega arith
+  counted_append (b ∷ bs) ys =
+      omega (arith, counted_first b (bs ++ ys), counted_first b bs, counted_append bs ys)
+
   -- no more than there are
   pub counted_most : (bytes : List ℕ) → counted t bytes ≤ length bytes
   unfolding counted those

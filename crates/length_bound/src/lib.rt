@@ -47,34 +47,30 @@ fn is_unshared(n: Characters, u: Unshared, b: u8) -> bool
 
 // How many bytes of a part are such bytes. The count fits a byte, and the loop never ends early, so that
 // many bytes are counted at once.
-fn part_unshared(s: &[u8], n: Characters, u: Unshared, from: usize, end: usize) -> u8
-    requires { (from ≤ end) × (end ≤ length s.now) × (end ≤ from + 128) }
-    ensures { result + counted (is_unshared n u) (drop end s.now) ≡ counted (is_unshared n u) (drop from s.now) }
+fn part_unshared(part: &[u8], n: Characters, u: Unshared) -> u8
+    requires { length part.now ≤ 128 }
+    ensures { result ≡ counted (is_unshared n u) part.now }
 {
     let mut count: u8 = 0;
-    let mut at = from;
-    while at < end {
-        count += is_unshared(n, u, s[at]) as u8;
-        at += 1;
+    for &b in part {
+        count += u8::from(is_unshared(n, u, b));
     }
     count
 }
 
-// How many from a place on are, part by part: a part has 128 bytes, and the last has fewer.
-fn count_unshared(s: &[u8], n: Characters, u: Unshared, start: usize) -> usize
-    ensures { result ≡ counted (is_unshared n u) (drop start s.now) }
+// How many bytes are, part by part: a part has 128 bytes, and the last has fewer. (`chunks(128)` was tried:
+// since it does not tell the compiler that a part is full, it costs some 15 in 100 more.)
+fn count_unshared(s: &[u8], n: Characters, u: Unshared) -> usize
+    ensures { result ≡ counted (is_unshared n u) s.now }
 {
     let mut count: usize = 0;
-    let mut at = start;
-    while at < s.len() {
-        if s.len() - at < 128 {
-            return count + part_unshared(s, n, u, at, s.len()) as usize;
-        }
-        let end = at + 128;
-        count += part_unshared(s, n, u, at, end) as usize;
-        at = end;
+    let mut rest = s;
+    while 128 <= rest.len() {
+        let (part, after) = rest.split_at(128);
+        count += usize::from(part_unshared(part, n, u));
+        rest = after;
     }
-    count
+    count + usize::from(part_unshared(rest, n, u))
 }
 
 // A length that these contents do not exceed: one byte for each byte of the body, and a release character
@@ -88,5 +84,5 @@ pub fn at_most(s: &[u8], c: Characters, start: usize, repetition: u8) -> usize
         return count;
     }
     let n = normal_characters(c.mark, repetition);
-    count + count_unshared(s, n, unshared_of(c, n), start)
+    count + count_unshared(&s[start..], n, unshared_of(c, n))
 }

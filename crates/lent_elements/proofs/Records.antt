@@ -1,39 +1,41 @@
 -- The records of a lent list, one after the other. Assumes nothing.
-use Prim.Native.Nat.{ℕ, suc, ◌+◌, ◌≤◌, ◌<◌}
+use Rattle.std.specs.Prelude.{Ok, Err}
+use Rattle.std.specs.Result.{is_err}
+use Prim.Native.Nat.{ℕ, suc, ◌+◌, ◌*◌, ◌≤◌, ◌<◌}
 use mathlib.Core.Path.{◌≡◌, refl, sym, ap, ◌∙◌}
-use mathlib.Core.Bool.{Bool, true, false, not, ◌||◌}
+use mathlib.Core.Bool.{Bool, true, false, not, ◌||◌, true≢false, false≢true}
 use mathlib.Core.List.{List, [], ◌∷◌, ◌++◌, map}
 use mathlib.Core.Option.{some, some-ne-none}
 use native.Mathlib.Omega.{arith}
 use lib.Dec.{leb}
-use lib.ListN.{length, drop}
+use lib.ListN.{length, drop, length-map}
 use borrow.Author.Tests.{le-leb, lt-leb}
 use Rattle.lists.specs.Lists.{is_empty, any, gather}
 use Rattle.characters.specs.declared.Characters.{Characters}
 use Rattle.refusals.specs.declared.Fault.TheVariants.{BadList}
 use Rattle.refusals.specs.declared.Refusal.{Refusal}
-use Rattle.refusals.specs.declared.Outcome.TheVariants.{Passed, Failed}
-use Rattle.refusals.specs.Refusals.{met, lowest, outcome}
+use Rattle.refusals.specs.Refusals.{met, lowest, outcome, Outcome}
 use Rattle.refusals.proofs.Lowest.{lowest_none}
 use Rattle.refusals.proofs.Stages.{met_none, passed_is, failed_is}
 use Rattle.values.specs.Tokens.{Token}
 use Rattle.emission_laws.specs.declared.Measure.{Measure}
 use Rattle.emission_laws.specs.Emission.{waiting, emitted, after}
-use Rattle.emission_laws.proofs.Steps.{goes_on, goes_end}
-use Rattle.storing.proofs.Stores.{Goes}
-use Rattle.held_separators.specs.Putting.{Fits}
+use Rattle.emission_laws.proofs.Steps.{emitted_append, after_most, goes_on, goes_end}
+use Rattle.storing.specs.Sinks.{SinkLaws}
+use Rattle.storing.proofs.Putting.{put_after, room_left}
+use Rattle.held_separators.specs.Putting.{value_byte, Fits, Puts}
 use Rattle.operations.specs.ValueList.{Item, Entry, entries, value_in, listed_in}
 use Rattle.operations.specs.Write.{bad_list}
 use Rattle.value_lists.specs.declared.Record.{Record}
 use Rattle.value_lists.specs.Records.{entry_of, record_at, well_listed}
 use Rattle.value_lists.proofs.Records.{records_next, read_next, records_end, good_value, good_rest}
 use Rattle.value_list_text.specs.Composing.{record_tokens, item_of}
-use Rattle.value_list_text.specs.Advancing.{records_tokens, Advanced}
-use Rattle.value_list_text.proofs.Composed.{record_holds}
+use Rattle.value_list_text.specs.Advancing.{records_tokens}
+use Rattle.value_list_text.proofs.Composed.{value_size, record_holds}
 use Rattle.value_list_text.proofs.Advancing.{alike_same, records_few}
 use Rattle.refusals.specs.Limits.{most_bytes}
 use Rattle.acknowledgements.specs.Lent.{LentList, is_bad_lent}
-use Rattle.lent_elements.specs.Leading.{leading, LeadsTable}
+use Rattle.lent_elements.specs.Leading.{leading, lent_items, LeadsTable, Reaches, Advances}
 
 -- ---- whether it is one element
 
@@ -69,7 +71,7 @@ module _ (bytes table : List ℕ) where
   bad = not (is_empty (bad_list bytes table))
 
   -- refusal 15 refuses the list
-  pub list_refused : (r : Refusal) → outcome (lowest (met BadList (bad_list bytes table))) ≡ Failed r → true ≡ is_bad_lent lent
+  list_refused : (r : Refusal) → outcome (lowest (met BadList (bad_list bytes table))) ≡ Err r → true ≡ is_bad_lent lent
   unfolding is_bad_lent is_empty
   list_refused r h = sym (step (bad_list bytes table) refl)
     where
@@ -84,7 +86,16 @@ module _ (bytes table : List ℕ) where
       step [] e = absurd (some-ne-none r (sym low ∙ (lowest_none (met BadList (bad_list bytes table))).1 ((met_none BadList (bad_list bytes table)).1 e)))
       step (n ∷ ns) e = front (is_empty (entries table)) (any starts (drop 1 (entries table)))
 
-  module _ (h : outcome (lowest (met BadList (bad_list bytes table))) ≡ Passed) where
+  -- the answer of 15, as it is asked
+  pub refused_by : (o : Outcome) → o ≡ outcome (lowest (met BadList (bad_list bytes table))) → is_err o ≡ true → true ≡ is_bad_lent lent
+  refused_by (Err r) e h = list_refused r (sym e)
+  refused_by (Ok u) e h = absurd (false≢true h)
+
+  pub passed_by : (o : Outcome) → o ≡ outcome (lowest (met BadList (bad_list bytes table))) → is_err o ≡ false → outcome (lowest (met BadList (bad_list bytes table))) ≡ Ok tt
+  passed_by (Err r) e h = absurd (true≢false h)
+  passed_by (Ok u) e h = sym e
+
+  module _ (h : outcome (lowest (met BadList (bad_list bytes table))) ≡ Ok tt) where
     unrefused : bad_list bytes table ≡ []
     unrefused = (met_none BadList (bad_list bytes table)).0 ((lowest_none (met BadList (bad_list bytes table))).0 (passed_is (lowest (met BadList (bad_list bytes table))) h))
 
@@ -106,29 +117,51 @@ module _ (bytes table : List ℕ) where
 
 -- ---- its records, one after the other
 
--- nothing is stored yet
-pub start_goes : (c : Characters) (m : Measure) (buffer : List ℕ) (ts : List Token) → Fits c buffer m ts
-    → Goes buffer buffer m.total m.total (emitted c m.held ts) (emitted c m.held ts)
-start_goes c m buffer ts f = record { stored = refl; fits = f; as_long = refl }
+pub leading_length : (items : List Item) → length (leading items) ≡ length items
+unfolding leading
+leading_length [] = refl
+leading_length (l ∷ ls) = refl
 
 -- a measure is at most what it becomes
 pub most_start : (c : Characters) (m : Measure) (ts : List Token) → m.total ≤ (after c m ts).total
 unfolding after
 most_start c m ts = omega arith
 
+-- the tokens of a record add two bytes at most for each byte of its value, and for its separator
+pub record_most : (c : Characters) (m : Measure) (bytes : List ℕ) (r : Record)
+    → (after c m (record_tokens (item_of bytes r))).total ≤ m.total + waiting m.held + 2 * r.size + 2
+record_most c m bytes r =
+    omega (
+      arith,
+      after_most c m (record_tokens (item_of bytes r)) refl,
+      length-map (value_in bytes (entry_of r)) value_byte,
+      value_size bytes (entry_of r),
+    )
+
+-- tokens that are left, once the first of them are put
+pub tokens_left : {holds : List ℕ → ℕ → List ℕ → List ℕ} {room : List ℕ → ℕ} (laws : SinkLaws holds room) (c : Characters) (m : Measure) {all : List ℕ}
+    (ts us rest : List Token) → ts ≡ us ++ rest → {l₁ l₂ : List ℕ} {n : Measure} → all ≡ holds l₁ m.total (emitted c m.held ts) → Puts holds c l₁ m us l₂ n
+    → all ≡ holds l₂ n.total (emitted c n.held rest)
+unfolding after
+tokens_left {holds} laws c m ts us rest d {l₁} {l₂} {n} p (s, e) =
+    p
+    ∙ ap (holds l₁ m.total)
+    (ap (emitted c m.held) d ∙ emitted_append c m.held us rest ∙ ap (λ (k : Measure). emitted c m.held us ++ emitted c k.held rest) (sym e))
+    ∙ sym (put_after laws l₁ m.total (emitted c m.held us) (emitted c n.held rest) s (ap (λ (k : Measure). k.total) e) refl)
+
 module _ (bytes table : List ℕ) where
   -- the tokens from a place of the table on
   abbrev pub rest_from : ℕ → List Token
   rest_from at = records_tokens (listed_in bytes (drop at table))
 
-  pub next_record : {r : Record} (at : ℕ) → at + 3 ≤ length table → entry_of r ≡ record_at table at
+  next_record : {r : Record} (at : ℕ) → at + 3 ≤ length table → entry_of r ≡ record_at table at
       → rest_from at ≡ record_tokens (item_of bytes r) ++ rest_from (at + 3)
   unfolding listed_in gather
   next_record at h d =
       ap (λ (es : List Entry). gather record_tokens (map (λ e. record { kind = e.kind; value = value_in bytes e }) es)) (read_next table at h d)
 
   -- one record less
-  pub one_less : (at : ℕ) → at + 3 ≤ length table → length (listed_in bytes (drop at table)) ≡ 1 + length (listed_in bytes (drop (at + 3) table))
+  one_less : (at : ℕ) → at + 3 ≤ length table → length (listed_in bytes (drop at table)) ≡ 1 + length (listed_in bytes (drop (at + 3) table))
   unfolding listed_in
   one_less at h =
       let item : Entry → Item = λ e. record { kind = e.kind; value = value_in bytes e } in
@@ -137,37 +170,22 @@ module _ (bytes table : List ℕ) where
       suc_is : (n : ℕ) → suc n ≡ 1 + n
       suc_is n = omega arith
 
-  pub no_record : (at : ℕ) → length table ≤ at + 2 → rest_from at ≡ []
+  no_record : (at : ℕ) → length table ≤ at + 2 → rest_from at ≡ []
   unfolding listed_in gather
   no_record at h = ap (λ (es : List Entry). gather record_tokens (map (λ e. record { kind = e.kind; value = value_in bytes e }) es)) (records_end table at h)
 
-  -- The records before a place of the table are passed, from the measure `b` at a place before it.
-  pub record Going (c : Characters) (b : Measure) (from : ℕ) (n : Measure) (at : ℕ) : Type 0 where
-    pub moved : after c b (rest_from from) ≡ after c n (rest_from at)
-    pub good : well_listed bytes (drop at table) ≡ true
-    pub inside : at ≤ length table
-    pub few : waiting n.held + length (listed_in bytes (drop at table)) ≤ waiting b.held + length (listed_in bytes (drop from table))
+  -- all of them, of which the first begins an element
+  abbrev pub items : List Item
+  items = lent_items (record { bytes = bytes; table = table })
 
-  module _ (c : Characters) (b : Measure) (from : ℕ) {n : Measure} {at : ℕ} (g : Going c b from n at) where
-    pub next_value : {r : Record} → at + 3 ≤ length table → entry_of r ≡ record_at table at → r.start + r.size ≤ length bytes
-    next_value h d = good_value bytes (drop at table) (drop (at + 3) table) (read_next table at h d) g.good
-
-    pub going_next : {r : Record} {k : Measure} → at + 3 ≤ length table → entry_of r ≡ record_at table at → k ≡ after c n (record_tokens (item_of bytes r))
-        → Going c b from k (at + 3)
-    going_next {r} h d e =
-        record {
-          moved = goes_on c n g.moved (record_tokens (item_of bytes r)) (rest_from (at + 3)) (next_record at h d) e;
-          good = good_rest bytes (drop at table) (drop (at + 3) table) (read_next table at h d) g.good;
-          inside = h;
-          few = omega (arith, g.few, record_holds c n (item_of bytes r) e, one_less at h);
-        }
-
-  -- the first record, and all of them
   abbrev pub whole : List Token
-  whole = records_tokens (leading (listed_in bytes table))
+  whole = records_tokens items
 
-  module _ (c : Characters) (m : Measure) (w : well_listed bytes table ≡ true) (h : 3 ≤ length table) {r : Record} (d : LeadsTable table r) where
-    pub first_record_lem : whole ≡ record_tokens (item_of bytes r) ++ rest_from 3
+  items_length : length items ≡ length (listed_in bytes table)
+  items_length = leading_length (listed_in bytes table)
+
+  module _ (w : well_listed bytes table ≡ true) (h : 3 ≤ length table) {r : Record} (d : LeadsTable table r) where
+    first_record_lem : whole ≡ record_tokens (item_of bytes r) ++ rest_from 3
     unfolding listed_in gather leading value_in
     first_record_lem =
         ap (λ (es : List Entry). gather record_tokens (leading (map (λ e. record { kind = e.kind; value = value_in bytes e }) es))) (records_next table 0 h)
@@ -178,33 +196,89 @@ module _ (bytes table : List ℕ) where
         let good = good_value bytes table (drop 3 table) (records_next table 0 h) w in
         omega (arith, good, ap (λ (e : Entry). e.start) d, ap (λ (e : Entry). e.size) d)
 
-    pub going_first : {b : Measure} → Going c b 3 b 3
-    going_first = record { moved = refl; good = good_rest bytes table (drop 3 table) (records_next table 0 h) w; inside = h; few = omega arith }
+  -- The records before a place of the table are put, from the measure `m` on: what is left of them, put from here, gives what all of them, put
+  -- at the start, give.
+  pub record Placed (holds : List ℕ → ℕ → List ℕ → List ℕ) (room : List ℕ → ℕ) (c : Characters) (m : Measure) (l₀ l₁ : List ℕ) (n : Measure) (at : ℕ) : Type 0 where
+    pub put : holds l₀ m.total (emitted c m.held whole) ≡ holds l₁ n.total (emitted c n.held (rest_from at))
+    pub same_room : room l₁ ≡ room l₀
+    pub moved : after c m whole ≡ after c n (rest_from at)
+    pub good : well_listed bytes (drop at table) ≡ true
+    pub inside : at ≤ length table
+    pub few : waiting n.held + length (listed_in bytes (drop at table)) ≤ waiting m.held + length items
 
-    module _ {b : Measure} (e : b ≡ after c m (record_tokens (item_of bytes r))) where
-      pub first_few : waiting b.held ≤ waiting m.held + 1
-      first_few = record_holds c m (item_of bytes r) e
-
-      -- what is measured is at most the whole
-      pub going_whole : {n : Measure} {at : ℕ} → Going c b 3 n at → after c m whole ≡ after c n (rest_from at)
-      going_whole g = goes_on c m refl (record_tokens (item_of bytes r)) (rest_from 3) first_record_lem e ∙ g.moved
-
-      pub going_most : {n : Measure} {at : ℕ} → Going c b 3 n at → n.total ≤ (after c m whole).total
+  module _ {holds : List ℕ → ℕ → List ℕ → List ℕ} {room : List ℕ → ℕ} (laws : SinkLaws holds room) (c : Characters) (m : Measure) {l₀ : List ℕ} where
+    -- the first record
+    module _ (w : well_listed bytes table ≡ true) (h : 3 ≤ length table) {r : Record} (d : LeadsTable table r) where
+      pub first_fits : Reaches room c l₀ m whole → (after c m (record_tokens (item_of bytes r))).total ≤ 18446744073709551615 → Fits room c l₀ m (record_tokens (item_of bytes r))
       unfolding after
-      going_most g = omega (arith, ap (λ (k : Measure). k.total) (going_whole g))
+      first_fits f k =
+          omega (
+            arith,
+            f,
+            k,
+            ap (λ (n : Measure). n.total) (goes_on c m {ts = whole} refl (record_tokens (item_of bytes r)) (rest_from 3) (first_record_lem w h d) refl),
+            most_start c (after c m (record_tokens (item_of bytes r))) (rest_from 3),
+          )
 
-      pub going_over : {n : Measure} {at : ℕ} → Going c b 3 n at → most_bytes < n.total → Advanced c m (leading (listed_in bytes table)) n
-      going_over g k =
-          record { known = λ l. absurd (omega (arith, l)); over = λ l. omega (arith, going_most g); few = λ l. absurd (omega (arith, l)) }
-
-      pub going_end : {n : Measure} {at : ℕ} → Going c b 3 n at → length table ≤ at + 2 → n ≡ after c m whole
-      going_end {n} {at} g k = goes_end c n (going_whole g) (no_record at k)
-
-      pub going_done : {n : Measure} {at : ℕ} → Going c b 3 n at → length table ≤ at + 2 → Advanced c m (leading (listed_in bytes table)) n
-      going_done g k =
-          let same = going_end g k in
+      pub first_placed : {l₁ : List ℕ} {n : Measure} → Puts holds c l₀ m (record_tokens (item_of bytes r)) l₁ n → Placed holds room c m l₀ l₁ n 3
+      first_placed p =
           record {
-            known = λ l. alike_same same;
-            over = λ l. omega (arith, ap (λ (x : Measure). x.total) same);
-            few = λ l. omega (arith, ap (λ (x : Measure). waiting x.held) same, records_few c m (leading (listed_in bytes table)));
+            put = tokens_left laws c m whole (record_tokens (item_of bytes r)) (rest_from 3) (first_record_lem w h d) refl p;
+            same_room = room_left laws l₀ m.total (emitted c m.held (record_tokens (item_of bytes r))) p.0;
+            moved = goes_on c m refl (record_tokens (item_of bytes r)) (rest_from 3) (first_record_lem w h d) p.1;
+            good = good_rest bytes table (drop 3 table) (records_next table 0 h) w;
+            inside = h;
+            few = omega (arith, record_holds c m (item_of bytes r) p.1, one_less 0 h, items_length);
+          }
+
+    module _ {l₁ : List ℕ} (n : Measure) {at : ℕ} (g : Placed holds room c m l₀ l₁ n at) where
+      -- what is put is at most the whole
+      placed_most : n.total ≤ (after c m whole).total
+      placed_most = omega (arith, most_start c n (rest_from at), ap (λ (k : Measure). k.total) g.moved)
+
+      -- the next one
+      module _ {r : Record} (h : at + 3 ≤ length table) (d : entry_of r ≡ record_at table at) where
+        pub next_value : r.start + r.size ≤ length bytes
+        next_value = good_value bytes (drop at table) (drop (at + 3) table) (read_next table at h d) g.good
+
+        pub next_fits : Reaches room c l₀ m whole → (after c n (record_tokens (item_of bytes r))).total ≤ 18446744073709551615 → Fits room c l₁ n (record_tokens (item_of bytes r))
+        unfolding after
+        next_fits f k =
+            omega (
+              arith,
+              f,
+              k,
+              g.same_room,
+              ap (λ (x : Measure). x.total) (goes_on c n g.moved (record_tokens (item_of bytes r)) (rest_from (at + 3)) (next_record at h d) refl),
+              most_start c (after c n (record_tokens (item_of bytes r))) (rest_from (at + 3)),
+            )
+
+        pub next_placed : {l₂ : List ℕ} {k : Measure} → Puts holds c l₁ n (record_tokens (item_of bytes r)) l₂ k → Placed holds room c m l₀ l₂ k (at + 3)
+        next_placed p =
+            record {
+              put = tokens_left laws c n (rest_from at) (record_tokens (item_of bytes r)) (rest_from (at + 3)) (next_record at h d) g.put p;
+              same_room = room_left laws l₁ n.total (emitted c n.held (record_tokens (item_of bytes r))) p.0 ∙ g.same_room;
+              moved = goes_on c n g.moved (record_tokens (item_of bytes r)) (rest_from (at + 3)) (next_record at h d) p.1;
+              good = good_rest bytes (drop at table) (drop (at + 3) table) (read_next table at h d) g.good;
+              inside = h;
+              few = omega (arith, g.few, record_holds c n (item_of bytes r) p.1, one_less at h);
+            }
+
+      -- the text is over 32,000 bytes
+      pub placed_over : most_bytes < n.total → Advances holds c l₀ m items l₁ n
+      placed_over k = record { all = λ s. absurd (omega (arith, k, s)); over = λ s. omega (arith, s, placed_most) }
+
+      -- all are put
+      pub placed_done : length table ≤ at + 2 → Advances holds c l₀ m items l₁ n
+      unfolding emitted
+      placed_done k =
+          let same : n ≡ after c m whole = goes_end c n g.moved (no_record at k) in
+          record {
+            all =
+                λ s. record {
+                  stored = sym (g.put ∙ ap (λ (ts : List Token). holds l₁ n.total (emitted c n.held ts)) (no_record at k) ∙ laws.none l₁ n.total);
+                  known = alike_same same;
+                  few = omega (arith, ap (λ (x : Measure). waiting x.held) same, records_few c m items);
+                };
+            over = λ s. omega (arith, s, ap (λ (x : Measure). x.total) same);
           }

@@ -21,7 +21,7 @@ fn is_set(mask: u64, first: u8, b: u8) -> bool
     requires { first ≤ 192 }
     ensures { result ≡ is_set mask first b }
 {
-    let k = std::num::wrapping_sub_u8(b, first);
+    let k = b.wrapping_sub(first);
     (k < 64) & ((mask >> (k % 64)) % 2 == 1)
 }
 
@@ -32,7 +32,8 @@ fn is_between(low: u8, high: u8, b: u8) -> bool
 }
 
 // A byte's class is the number of levels in which it belongs; a level is known by the least class that
-// it holds. What is known of the byte: it is in level A, it is one of `a` to `z`.
+// it holds, a number, so that one comparison without a branch tells. What is known of the byte: it is in
+// level A, it is one of `a` to `z`.
 fn holds(level: u8, in_a: bool, letter: bool) -> bool
     ensures { result ≡ in_class level in_a letter }
 {
@@ -60,10 +61,8 @@ pub fn all_in_level(s: &[u8], start: usize, level: u8) -> bool
     ensures { result ≡ all (in_level level) (drop start s.now) }
 {
     let mut inside = true;
-    let mut at = start;
-    while at < s.len() {
-        inside = inside & is_within(level, s[at]);
-        at += 1;
+    for at in start..s.len() {
+        inside &= is_within(level, s[at]);
     }
     inside
 }

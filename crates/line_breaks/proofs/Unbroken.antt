@@ -3,7 +3,7 @@ use Rattle.std.specs.Prelude.{if◌then◌else◌}
 use Prim.Native.Nat.{ℕ, suc, ◌+◌, ◌-◌, ◌≤◌, ◌<◌}
 use mathlib.Core.Path.{◌≡◌, refl, sym, ap, ◌∙◌}
 use mathlib.Core.Bool.{Bool, true, false}
-use mathlib.Core.List.{List, [], ◌∷◌}
+use mathlib.Core.List.{List, [], ◌∷◌, ◌++◌}
 use native.Mathlib.Decide.{dec_le}
 use native.Mathlib.Nat.{add-zero, lt_of_not-le}
 use native.Mathlib.Omega.{arith}
@@ -25,6 +25,17 @@ unbroken_most (b ∷ bs) = step (leb 32 b) (unbroken_most bs)
     step : (t : Bool) → length (unbroken bs) ≤ length bs → length (if t then b ∷ unbroken bs else unbroken bs) ≤ length (b ∷ bs)
     step true h = omega arith
     step false h = omega arith
+
+-- two texts, one after the other
+pub unbroken_append : (xs ys : List ℕ) → length (unbroken (xs ++ ys)) ≡ length (unbroken xs) + length (unbroken ys)
+unfolding unbroken those
+unbroken_append [] ys = omega arith
+unbroken_append (b ∷ bs) ys = step (leb 32 b) (unbroken_append bs ys)
+  where
+    step : (t : Bool) → length (unbroken (bs ++ ys)) ≡ length (unbroken bs) + length (unbroken ys)
+        → length (if t then b ∷ unbroken (bs ++ ys) else unbroken (bs ++ ys)) ≡ length (if t then b ∷ unbroken bs else unbroken bs) + length (unbroken ys)
+    step true h = omega arith
+    step false h = h
 
 -- where it is as long, it is the text
 pub unbroken_whole : (bytes : List ℕ) → length (unbroken bytes) ≡ length bytes → unbroken bytes ≡ bytes

@@ -5,7 +5,7 @@
 ghost use Rattle.std.specs.Prelude.{◌≡◌, ◌+◌, ◌≤◌, length, drop};
 ghost use Rattle.std.proofs.lemmas.List.Edits.{sets};
 ghost use Rattle.characters.specs.Characters.{is_break, after_breaks};
-ghost use Rattle.line_breaks.specs.Unbroken.{unbroken, PartEnd};
+ghost use Rattle.line_breaks.specs.Unbroken.{unbroken};
 
 use storing::copy;
 
@@ -18,16 +18,15 @@ pub fn is_break(b: u8) -> bool
 
 // The place after the breaks that stand at a place, byte by byte.
 fn past_breaks(s: &[u8], from: usize) -> usize
+    requires { from ≤ length s.now }
     ensures { result ≡ after_breaks s.now from }
 {
-    let mut at = from;
-    while at < s.len() {
+    for at in from..s.len() {
         if !is_break(s[at]) {
             return at;
         }
-        at += 1;
     }
-    at
+    s.len()
 }
 
 // The place after the breaks that stand at a place. Where there are none, which is most often so, one
@@ -46,47 +45,35 @@ pub fn after_breaks(s: &[u8], from: usize) -> usize
 
 // How many bytes of a part are no control bytes. The count fits a byte, and nothing branches on what a
 // byte is, so that many bytes are counted at once.
-fn part_length(s: &[u8], from: usize, end: usize) -> u8
-    requires { (from ≤ end) × (end ≤ length s.now) × (end ≤ from + 255) }
-    ensures { result + length (unbroken (drop end s.now)) ≡ length (unbroken (drop from s.now)) }
+fn part_length(part: &[u8]) -> u8
+    requires { length part.now ≤ 255 }
+    ensures { result ≡ length (unbroken part.now) }
 {
     let mut count: u8 = 0;
-    let mut at = from;
-    while at < end {
-        count += (32 <= s[at]) as u8;
-        at += 1;
+    for &b in part {
+        count += u8::from(32 <= b);
     }
     count
 }
 
-// The place after the part that begins at a place: 224 bytes on, or the end.
-fn part_end(s: &[u8], from: usize) -> usize
-    requires { from ≤ length s.now }
-    ensures { PartEnd (length s.now) from result }
-{
-    if s.len() - from < 224 {
-        return s.len();
-    }
-    from + 224
-}
-
-// How long the text from a place on is without its breaks.
+// How long the text from a place on is without its breaks, part by part: a part has 224 bytes, and the last
+// has fewer. (`chunks` does not tell the compiler that a part is full; `length_bound` tried it.)
 pub fn unbroken_length(s: &[u8], start: usize) -> usize
     ensures { result ≡ length (unbroken (drop start s.now)) }
 {
     let mut count: usize = 0;
-    let mut at = start;
-    while at < s.len() {
-        let end = part_end(s, at);
-        count += part_length(s, at, end) as usize;
-        at = end;
+    let mut rest = &s[start.min(s.len())..];
+    while 224 <= rest.len() {
+        let (part, after) = rest.split_at(224);
+        count += usize::from(part_length(part));
+        rest = after;
     }
-    count
+    count + usize::from(part_length(rest))
 }
 
 // Stores the text from a place on without its breaks, of which `count` bytes are left, from a place of
 // the buffer on. A break is stored too, and the byte after it takes its place: the loop ends with the
-// last byte that is none.
+// last byte that is none. (A `for` over the bytes would test twice at each byte: whether there is another, and `to`.)
 fn copy_unbroken(buffer: &mut [u8], from: usize, s: &[u8], start: usize, count: usize)
     requires { (count ≡ length (unbroken (drop start s.now))) × (from + count ≤ length buffer.old) }
     ensures { buffer.new ≡ sets buffer.old from (unbroken (drop start s.now)) }
@@ -97,23 +84,24 @@ fn copy_unbroken(buffer: &mut [u8], from: usize, s: &[u8], start: usize, count: 
     while to < end {
         let b = s[at];
         buffer[to] = b;
-        to += (32 <= b) as usize;
+        to += usize::from(32 <= b);
         at += 1;
     }
 }
 
-// The same of any text; one that has no breaks is copied.
-pub fn put_unbroken(buffer: &mut [u8], from: usize, s: &[u8], start: usize)
+// The same of any text, and the place after it; a text that has no breaks is copied.
+pub fn put_unbroken(buffer: &mut [u8], from: usize, s: &[u8], start: usize) -> usize
     requires { from + length (unbroken (drop start s.now)) ≤ length buffer.old }
-    ensures { buffer.new ≡ sets buffer.old from (unbroken (drop start s.now)) }
+    ensures { (buffer.new ≡ sets buffer.old from (unbroken (drop start s.now))) × (result ≡ from + length (unbroken (drop start s.now))) }
 {
     if s.len() <= start {
-        return;
+        return from;
     }
     let count = unbroken_length(s, start);
     if count == s.len() - start {
         copy(buffer, from, s, start);
-        return;
+        return from + count;
     }
     copy_unbroken(buffer, from, s, start, count);
+    from + count
 }

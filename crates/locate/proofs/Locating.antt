@@ -1,5 +1,6 @@
 -- What Locate answers, from the segment that is found and the value in it; and the part of the input that its answer names.
 -- Assumes nothing.
+use Rattle.std.specs.Prelude.{Ok, Err, Some, None, Option as Perhaps}
 use Prim.Native.Nat.{ℕ, ◌+◌, ◌-◌, ◌≤◌}
 use mathlib.Core.Path.{◌≡◌, refl, sym, ap, ap₂, subst, ◌∙◌}
 use mathlib.Core.List.{List, [], ◌∷◌}
@@ -21,26 +22,22 @@ use Rattle.stages.specs.Contents.{body_tokens, segments_of}
 use Rattle.stages.specs.Stages.{refusal_of}
 use Rattle.elements.specs.Elements.{outer, segment_from, first_piece, SegmentAt}
 use Rattle.elements.proofs.Elements.{segment_number}
-use Rattle.trimmed_values.specs.declared.Found.{Found}
-use Rattle.trimmed_values.specs.declared.Found.TheVariants as found
 use Rattle.trimmed_values.specs.Trimmed.{placed, Inside as InputHolds}
 use Rattle.trimmed_values.proofs.Ends.{Whole, from_whole}
 use Rattle.judge.proofs.Bodies.{tokens_here, accepted_ended}
 use Rattle.judge.proofs.Told.{characters_of_lem}
 use Rattle.answers.specs.declared.Figures.{Figures}
-use Rattle.answers.specs.declared.Located.{Located}
-use Rattle.answers.specs.declared.Located.TheVariants.{At, Absent, Refused}
-use Rattle.answers.specs.Answers.{Answer, given, refused, told_located}
+use Rattle.answers.specs.Answers.{Answer, given, refused, told_located, Located}
 use Rattle.operations.specs.Judge.{figures_of}
 use Rattle.operations.specs.Locate.{located, locate}
 use Rattle.operations.proofs.Answered.{part_in, part_told}
 use Rattle.contracts.specs.Promises.{HandsBack}
-use Rattle.locate.specs.declared.Span.{Span}
-use Rattle.locate.specs.Locating.{answer_of, Inside, part_of}
+use Rattle.values.specs.declared.Span.{Span}
+use Rattle.locate.specs.Locating.{Inside, part_of}
 
 module _ (s : List ℕ) (segment element repeat component : ℕ) where
   -- Judge's refusal answers
-  pub locate_refused : {r : Refusal} → refusal_of s ≡ some r → told_located (Refused r) ≡ locate s segment element repeat component
+  pub locate_refused : {r : Refusal} → refusal_of s ≡ some r → told_located (Err r) ≡ locate s segment element repeat component
   unfolding locate told_located maybe
   locate_refused e = sym (ap (maybe _ refused) e)
 
@@ -80,26 +77,26 @@ module _ (s : List ℕ) (segment element repeat component : ℕ) where
         (segment_number segment (body_tokens s) ∙ ap (first_piece 0) (sym start_is))
         ∙ of_segment_lem (tokens_at i.characters s start)
 
-    pub locate_found : {f : Found} → f ≡ placed (value_at (trimmed (segment_at i.characters s start)) element repeat component)
-        → told_located (answer_of f) ≡ locate s segment element repeat component
+    pub locate_found : {f : Perhaps Span} → f ≡ placed (value_at (trimmed (segment_at i.characters s start)) element repeat component)
+        → told_located (Ok f) ≡ locate s segment element repeat component
     unfolding locate maybe told_located placed
     locate_found e =
-        ap (λ (f : Found). told_located (answer_of f)) (e ∙ ap placed (sym located_is))
+        ap (λ (f : Perhaps Span). told_located (Ok f)) (e ∙ ap placed (sym located_is))
         ∙ told (located s segment element repeat component)
         ∙ sym (ap (maybe (maybe (given []) (λ v. given (v.offset ∷ v.spelled ∷ [])) (located s segment element repeat component)) refused) a)
       where
-        told : (o : Option Value) → told_located (answer_of (placed o)) ≡ maybe (given []) (λ v. given (v.offset ∷ v.spelled ∷ [])) o
+        told : (o : Option Value) → told_located (Ok (placed o)) ≡ maybe (given []) (λ v. given (v.offset ∷ v.spelled ∷ [])) o
         told none = refl
         told (some v) = refl
 
 -- what was found lies in the input, and so does what is answered
-pub answer_inside : (s : List ℕ) (f : Found) → InputHolds s f → Inside s (answer_of f)
-answer_inside s (found.At offset size) h = h
-answer_inside s found.Absent h = h
+pub answer_inside : (s : List ℕ) (f : Perhaps Span) → InputHolds s f → Inside s (Ok f)
+answer_inside s (Some part) h = h
+answer_inside s None h = h
 
 -- ---- the part that an answer names
 
-pub found_inside : (s : List ℕ) {r : Located} {o n : ℕ} → Inside s r → r ≡ At o n → o + n ≤ length s
+pub found_inside : (s : List ℕ) {r : Located} {p : Span} → Inside s r → r ≡ Ok (Some p) → p.offset + p.length ≤ length s
 found_inside s h e = subst (Inside s) e h
 
 module _ (s : List ℕ) (segment element repeat component : ℕ) {r : Located} (told : told_located r ≡ locate s segment element repeat component) where
@@ -111,15 +108,15 @@ module _ (s : List ℕ) (segment element repeat component : ℕ) {r : Located} (
       (ap (λ (a : Answer). part_in a.values) (ap told_located (sym e) ∙ told) ∙ part_told s segment element repeat component)
 
   -- the part that was found, or zero bytes at the input's start
-  pub part_found : {o n : ℕ} → r ≡ At o n → record { offset = o; length = n } ≡ part_of s segment element repeat component
+  pub part_found : {p : Span} → r ≡ Ok (Some p) → p ≡ part_of s segment element repeat component
   unfolding told_located given part_in
   part_found e = part_is _ e
 
-  pub part_absent : r ≡ Absent → record { offset = 0; length = 0 } ≡ part_of s segment element repeat component
+  pub part_absent : r ≡ Ok None → record { offset = 0; length = 0 } ≡ part_of s segment element repeat component
   unfolding told_located given part_in
-  part_absent e = part_is Absent e
+  part_absent e = part_is (Ok None) e
 
-  pub part_refused : {q : Refusal} → r ≡ Refused q → record { offset = 0; length = 0 } ≡ part_of s segment element repeat component
+  pub part_refused : {q : Refusal} → r ≡ Err q → record { offset = 0; length = 0 } ≡ part_of s segment element repeat component
   unfolding told_located refused part_in
   part_refused e = part_is _ e
 

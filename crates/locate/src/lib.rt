@@ -5,43 +5,29 @@
 
 ghost use Rattle.std.specs.Prelude.{◌+◌, ◌≤◌, ◌≡◌, length};
 ghost use Rattle.contracts.specs.Promises.{Locates, HandsBack};
-ghost use Rattle.locate.specs.Locating.{answer_of, Inside, part_of};
+ghost use Rattle.locate.specs.Locating.{Inside, part_of};
 
-use answers::{Judged, Located};
 use elements::segment_at;
-use trimmed_values::{Found, value_at};
-
-// A part of the input: where it begins, and how long it is.
-#[derive(Clone, Copy)]
-pub struct Span {
-    pub offset: usize,
-    pub length: usize,
-}
-
-// What was found, as Locate answers it.
-fn answer_of(found: Found) -> Located
-    ensures { result ≡ answer_of found }
-{
-    match found {
-        Found::At { offset, length } => Located::At { offset, length },
-        Found::Absent => Located::Absent,
-    }
-}
+use refusals::Refusal;
+use trimmed_values::value_at;
+use values::Span;
 
 // Where the value is spelled. Segments, elements, repeats and components are numbered from 0; element 0
 // is the tag.
-pub fn locate(s: &[u8], segment: usize, element: usize, repeat: usize, component: usize) -> Located
+pub fn locate(
+    s: &[u8],
+    segment: usize,
+    element: usize,
+    repeat: usize,
+    component: usize,
+) -> Result<Option<Span>, Refusal>
     ensures locates { Locates s.now segment element repeat component result }
     ensures inside { Inside s.now result }
 {
-    match judge::judge(s) {
-        Judged::Refused(r) => Located::Refused(r),
-        Judged::Accepted(i) => {
-            let c = i.characters;
-            let start = segment_at(s, c, stage_opening::body_start(s), segment);
-            answer_of(value_at(s, c, start, element, repeat, component))
-        }
-    }
+    let figures = judge::judge(s)?;
+    let c = figures.characters;
+    let start = segment_at(s, c, stage_opening::body_start(s), segment);
+    Ok(value_at(s, c, start, element, repeat, component))
 }
 
 // Which part of the input `run_locate` finds; zero bytes at the input's start where it finds none.
@@ -50,12 +36,12 @@ pub fn part_of(s: &[u8], segment: usize, element: usize, repeat: usize, componen
     ensures inside { result.offset + result.length ≤ length s.now }
 {
     match locate(s, segment, element, repeat, component) {
-        Located::At { offset, length } => Span { offset, length },
-        Located::Absent => Span {
+        Ok(Some(found)) => found,
+        Ok(None) => Span {
             offset: 0,
             length: 0,
         },
-        Located::Refused(_) => Span {
+        Err(_) => Span {
             offset: 0,
             length: 0,
         },

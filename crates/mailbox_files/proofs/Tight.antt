@@ -1,16 +1,16 @@
 -- The number and the values of what is answered determine it, so that the promise leaves one answer. Assumes nothing.
+use Rattle.refusals.specs.declared.Refusal.{Refusal}
+use Rattle.std.specs.Prelude.{Result, Ok, Err}
 use Prim.Native.Nat.{ℕ}
 use mathlib.Core.Path.{◌≡◌, refl, sym, ap, ap₂, ◌∙◌}
 use mathlib.Core.List.{List, [], ◌∷◌, ◌++◌, tail-eq_of_cons-eq, head-eq_of_cons-eq}
 use native.Mathlib.Omega.{arith}
 use lib.ListN.{length, take, drop, get_or, length-append}
 use lib.Seq.{take-append_seam, drop-append_seam}
-use Rattle.refusals.specs.declared.Outcome.{Outcome}
-use Rattle.refusals.specs.declared.Outcome.TheVariants.{Passed, Failed}
 use Rattle.refusals.proofs.Order.{number_tells, number_not_zero}
 use Rattle.answers.specs.Answers.{Answer, given, refused}
 use Rattle.mailbox_files.specs.declared.Report.{Report}
-use Rattle.mailbox_files.specs.Report.{listed, with_figures, told_outcome, told_reported}
+use Rattle.mailbox_files.specs.Report.{listed, with_figures, told_reported}
 use Rattle.mailbox_files.specs.Promises.{Tight}
 
 -- lists with ends of the same length
@@ -38,19 +38,14 @@ listed_tells r q e =
     }
 
 -- what is answered
-pub answer_tells : (o p : Outcome) (r q : Report) → with_figures (told_outcome o) r ≡ with_figures (told_outcome p) q → (o ≡ p) × (r ≡ q)
-unfolding with_figures told_outcome given refused
-answer_tells Passed Passed r q e = (refl, listed_tells r q (ap (λ (a : Answer). a.values) e))
-answer_tells Passed (Failed p) r q e = absurd (number_not_zero p.fault (sym (ap (λ (a : Answer). a.number) e)))
-answer_tells (Failed o) Passed r q e = absurd (number_not_zero o.fault (ap (λ (a : Answer). a.number) e))
-answer_tells (Failed o) (Failed p) r q e =
-    let values = ap (λ (a : Answer). a.values) e in (
-      ap Failed (ap₂ (λ f n. record { fault = f; place = n }) (number_tells o.fault p.fault (ap (λ (a : Answer). a.number) e)) (head-eq_of_cons-eq values)),
-      listed_tells r q (tail-eq_of_cons-eq values),
-    )
+pub reported_tells : (r q : Result Report Refusal) → told_reported r ≡ told_reported q → r ≡ q
+unfolding told_reported with_figures given refused
+reported_tells (Ok r) (Ok q) e = ap Ok (listed_tells r q (ap (λ (a : Answer). a.values) e))
+reported_tells (Ok r) (Err q) e = absurd (number_not_zero q.fault (sym (ap (λ (a : Answer). a.number) e)))
+reported_tells (Err r) (Ok q) e = absurd (number_not_zero r.fault (ap (λ (a : Answer). a.number) e))
+reported_tells (Err r) (Err q) e =
+    let values = ap (λ (a : Answer). a.values) e in
+    ap Err (ap₂ (λ f n. record { fault = f; place = n }) (number_tells r.fault q.fault (ap (λ (a : Answer). a.number) e)) (head-eq_of_cons-eq values))
 
 pub tight : Tight
-unfolding told_reported
-tight file r q h k =
-    let (outcome, report) = answer_tells r.outcome q.outcome r.report q.report (h ∙ sym k) in
-    ap₂ (λ (o : Outcome) (f : Report). record { outcome = o; report = f }) outcome report
+tight file r q h k = reported_tells r q (h ∙ sym k)

@@ -1,10 +1,8 @@
 -- Request 2026-02, the morning figures: "Each figure equals its definition over the list of pieces." Assumes nothing.
-use Rattle.std.specs.Prelude.{ℕ, zero, ◌+◌, max, List, [], ◌∷◌, ◌++◌, map, length, replicate, eqb, ltb}
+use Rattle.std.specs.Prelude.{ℕ, zero, ◌+◌, max, List, [], ◌∷◌, ◌++◌, map, length, replicate, eqb, ltb, Ok, Err, Result}
 use Rattle.std.proofs.Math.Option.{Option}
 use Rattle.lists.specs.Lists.{those, maybe}
 use Rattle.refusals.specs.declared.Fault.TheVariants.{TooLong}
-use Rattle.refusals.specs.declared.Outcome.{Outcome}
-use Rattle.refusals.specs.declared.Outcome.TheVariants.{Passed, Failed}
 use Rattle.refusals.specs.declared.Refusal.{Refusal}
 use Rattle.refusals.specs.Refusals.{met, place_if, answering}
 use Rattle.stages.specs.Contents.{normal_form}
@@ -12,7 +10,6 @@ use Rattle.answers.specs.Answers.{Answer, given, refused}
 use Rattle.operations.specs.Judge.{figures_of, judge}
 use Rattle.operations.specs.Compare.{is_accepted}
 use Rattle.mailbox_files.specs.declared.Report.{Report}
-use Rattle.mailbox_files.specs.declared.Reported.{Reported}
 use Rattle.mailbox_files.specs.Pieces.{pieces}
 
 -- "files of at most 65,536 bytes"
@@ -76,13 +73,10 @@ no_figures = record { accepted = 0; refused = replicate 14 0; segments = record 
 unfoldable pub with_figures : Answer → Report → Answer
 with_figures answer r = record { number = answer.number; values = answer.values ++ listed r }
 
-unfoldable pub told_outcome : Outcome → Answer
-told_outcome Passed = given []
-told_outcome (Failed r) = refused r
-
 -- the number and the values of what is answered: the figures; or the refusal's place and figures that are all 0
-unfoldable pub told_reported : Reported → Answer
-told_reported r = with_figures (told_outcome r.outcome) r.report
+unfoldable pub told_reported : Result Report Refusal → Answer
+told_reported (Ok r) = with_figures (given []) r
+told_reported (Err r) = with_figures (refused r) no_figures
 
 -- "Refusals: a longer file answers 1 at 0."
 unfoldable pub file_refusal : List ℕ → Option Refusal

@@ -3,7 +3,6 @@
 // with what the operation promises. The pieces are bytes; what Judge says of each is left to `operations`.
 #![tactic(auto)]
 
-use refusals::Outcome;
 use segments::{Messages, Segments};
 
 // The most bytes of a file.
@@ -19,11 +18,4 @@ pub struct Report {
     pub messages: Messages,
     pub total: usize,
     pub longest: usize,
-}
-
-// What the operation answers: the report of a file; or what refused the file, and then every figure is 0.
-#[derive(Clone, Copy)]
-pub struct Reported {
-    pub outcome: Outcome,
-    pub report: Report,
 }

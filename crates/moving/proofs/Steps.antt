@@ -7,7 +7,7 @@ use native.Mathlib.Numerals.{add-one}
 use native.Mathlib.Nat.{add-zero}
 use native.Mathlib.Omega.{arith}
 use lib.ListN.{length, take, drop, set, get_or, length-drop}
-use lib.Seq.{sets, take-suc, drop-cons, get_or-take, get_or-drop, length-take-le, set_comm}
+use lib.Seq.{sets, take-suc, drop-cons, get_or-take, get_or-drop, length-take-le, set_comm, sets-eq, paste}
 use Rattle.numbers.proofs.Stores.{front_stays, rest_stays}
 use Rattle.storing.proofs.Stores.{sets_append}
 
@@ -67,6 +67,13 @@ module _ (s₀ s : List ℕ) (to from n : ℕ) (within : from + n ≤ length s�
       ∙ ap (λ (i : ℕ). sets (set s₀ lower b) i part) next
       ∙ ap (λ (i : ℕ). sets s₀ lower (b ∷ take n (drop i s₀))) (sym rest)
       ∙ ap (λ (l : List ℕ). sets s₀ lower l) (sym (ap (λ (m : ℕ). take m (drop first s₀)) (add-one n) ∙ ap (take (suc n)) (drop-cons s₀ first 0 k)))
+
+-- so many bytes pasted over others, as the library says of `copy_within`
+pub copied : (s : List ℕ) (to from n : ℕ) → from + n ≤ length s → to + n ≤ length s → paste s to (drop from s) n ≡ sets s to (take n (drop from s))
+copied s to from n h k =
+    let size = part_length s from n h in
+    sym (sets-eq (take n (drop from s)) s to (omega (arith, size))
+    ∙ ap (λ (m : ℕ). take to s ++ take n (drop from s) ++ drop (to + m) s) size)
 
 pub moved_then_zeroed : (s₀ s₁ s₂ : List ℕ) (to from n : ℕ) (zeros : List ℕ) → from + n ≤ length s₀ → s₁ ≡ sets s₀ to (take n (drop from s₀))
     → s₂ ≡ sets s₁ (to + n) zeros → s₂ ≡ sets s₀ to (take n (drop from s₀) ++ zeros)

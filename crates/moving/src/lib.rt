@@ -6,37 +6,19 @@
 ghost use Rattle.std.specs.Prelude.{◌≡◌, ◌++◌, ◌+◌, ◌-◌, ◌≤◌, length, take, drop, replicate};
 ghost use Rattle.std.proofs.lemmas.List.Edits.{sets};
 
-// Copies what stands from `from` up to `end` to a lower place, from the front on, so that no byte is
-// overwritten before it is copied.
-fn copy_down(s: &mut [u8], to: usize, from: usize, end: usize)
-    requires { (to ≤ from) × (from ≤ end) × (end ≤ length s.old) }
-    ensures { s.new ≡ sets s.old to (take (end - from) (drop from s.old)) }
-{
-    let mut i = 0;
-    while i < end - from {
-        s[to + i] = s[from + i];
-        i += 1;
-    }
-}
-
 // Moves what stands from `from` up to `end` down to `to`, and zeroes as many bytes behind it as it moved by.
 pub fn move_down(s: &mut [u8], to: usize, from: usize, end: usize)
     requires { (to ≤ from) × (from ≤ end) × (end ≤ length s.old) }
     ensures { s.new ≡ sets s.old to (take (end - from) (drop from s.old) ++ replicate (from - to) 0) }
 {
-    copy_down(s, to, from, end);
+    s.copy_within(from..end, to);
     storing::fill(s, to + (end - from), from - to, 0);
 }
 
-// Copies what stands from `from` up to `end` to a higher place, from the end on, so that no byte is
-// overwritten before it is copied.
+// Copies what stands from `from` up to `end` to a higher place.
 pub fn move_up(s: &mut [u8], to: usize, from: usize, end: usize)
     requires { (from ≤ to) × (from ≤ end) × (to + (end - from) ≤ length s.old) }
     ensures { s.new ≡ sets s.old to (take (end - from) (drop from s.old)) }
 {
-    let mut left = end - from;
-    while 0 < left {
-        left -= 1;
-        s[to + left] = s[from + left];
-    }
+    s.copy_within(from..end, to);
 }

@@ -1,17 +1,19 @@
-// The contents of a body stored as the normal form spells them (paper 01, "Normal form"). It
-// promises every byte of the buffer at exit: the emission of the tokens from a place on.
+// The contents of a body as the normal form spells them (paper 01, "Normal form"): stored in a lent buffer, or
+// measured alone, as the sink says. It promises the emission of the tokens from a place on, and where it ends.
 #![tactic(auto)]
 
-ghost use Rattle.std.specs.Prelude.{true, ◌&&◌, ◌≡◌, ◌+◌, ◌*◌, ◌≤◌, length};
+ghost use Rattle.std.specs.Prelude.{true, ◌&&◌, ◌≡◌, ◌+◌, ◌-◌, ◌*◌, ◌≤◌, length, take, drop};
 ghost use Rattle.values.specs.Tokens.{tokens_at};
 ghost use Rattle.stages.specs.Contents.{normal_characters};
 ghost use Rattle.emission_laws.specs.Emission.{nothing, emitted};
 ghost use Rattle.verbatim.specs.Verbatim.{faultless, visible, Sound};
 ghost use Rattle.refusals.specs.Limits.{most_bytes};
+ghost use Rattle.line_breaks.specs.Unbroken.{unbroken};
 ghost use Rattle.ordinary_runs.specs.Runs.{quiet};
+ghost use Rattle.stretches.specs.Stretches.{respelling};
 ghost use Rattle.unbroken_parts.specs.Parts.{Unbroken};
-ghost use Rattle.stage_length.specs.Measured.{Further};
-ghost use Rattle.normal_form_text.specs.Stored.{Fits, Stored, PutAt};
+ghost use Rattle.normal_form_text.specs.Measured.{Further};
+ghost use Rattle.normal_form_text.specs.Put.{Fits, Put, PutAt};
 
 use characters::Characters;
 use clear_parts::clear_end;
@@ -19,23 +21,107 @@ use emission_laws::Measure;
 use held_separators::{nothing_held, put_separator, put_value_byte};
 use ordinary_runs::{is_quiet, put_run, with_run};
 use scanner::{Lexed, lex};
-use stage_length::is_whole;
+use storing::{Measured, Sink, Stored};
 use stretches::{Reached, put_stretch, stretch_end};
-use unbroken_parts::{length_between, put_between};
-use verbatim::normal_characters;
+use unbroken_parts::{is_unbroken, length_between, put_between};
+use verbatim::{is_normal, normal_characters};
 
-// Token by token up to the segment's end, spelled with any characters `n`: what is held back is stored
-// before the next byte of a value, or dropped. The ordinary bytes that follow one of a value are copied.
-fn put_segment(
-    buffer: &mut [u8],
-    n: Characters,
-    s: &[u8],
+// ---- many bytes at once
+
+// A sink that takes many bytes at once. Where the text is measured alone, no more of them are looked at than
+// its length asks for.
+pub trait PartSink: Sink {
+    // Puts the text from a place up to another without its breaks, and returns the place after it; `whole`
+    // says that it has none.
+    fn put_between(
+        buffer: &mut [u8],
+        into: usize,
+        s: &[u8],
+        whole: bool,
+        from: usize,
+        to: usize,
+    ) -> usize
+        requires { (into + length (unbroken (drop from (take to s.now))) ≤ Self.room buffer.old) × (from ≤ to) × (to ≤ length s.now) × (whole ≡ true → Unbroken s.now from) }
+        ensures { PutAt Self.holds buffer.old into (unbroken (drop from (take to s.now))) buffer.new result };
+
+    // Puts the bytes from a place up to another, respelled.
+    fn put_stretch(
+        buffer: &mut [u8],
+        into: usize,
+        c: Characters,
+        n: Characters,
+        s: &[u8],
+        from: usize,
+        end: usize,
+    )
+        requires { (into + (end - from) ≤ Self.room buffer.old) × (end ≤ length s.now) }
+        ensures { buffer.new ≡ Self.holds buffer.old into (respelling c n s.now from (end - from)) };
+}
+
+impl PartSink for Stored {
+    fn put_between(
+        buffer: &mut [u8],
+        into: usize,
+        s: &[u8],
+        whole: bool,
+        from: usize,
+        to: usize,
+    ) -> usize {
+        put_between(buffer, into, s, whole, from, to)
+    }
+
+    fn put_stretch(
+        buffer: &mut [u8],
+        into: usize,
+        c: Characters,
+        n: Characters,
+        s: &[u8],
+        from: usize,
+        end: usize,
+    ) {
+        put_stretch(buffer, into, c, n, s, from, end);
+    }
+}
+
+impl PartSink for Measured {
+    fn put_between(
+        _buffer: &mut [u8],
+        into: usize,
+        s: &[u8],
+        whole: bool,
+        from: usize,
+        to: usize,
+    ) -> usize {
+        into + length_between(s, whole, from, to)
+    }
+
+    fn put_stretch(
+        _buffer: &mut [u8],
+        _into: usize,
+        _c: Characters,
+        _n: Characters,
+        _s: &[u8],
+        _from: usize,
+        _end: usize,
+    ) {}
+}
+
+// ---- part by part
+
+// How a body is spelled: read with the characters `c`, put with the characters `n`. Where `calm` says so, ordinary
+// bytes stand for themselves under both.
+#[derive(Clone, Copy)]
+struct Spelling {
     c: Characters,
+    n: Characters,
     calm: bool,
-    from: Reached,
-) -> Reached
-    requires { (length s.now ≤ most_bytes) × (from.at ≤ length s.now) × (from.total ≤ 9 + 2 * from.at) × (calm ≡ (quiet c && quiet n)) × Fits c n s.now buffer.old from }
-    ensures { Stored c n s.now buffer.old buffer.new from result × Further s.now from result }
+}
+
+// Token by token up to the segment's end, spelled with any characters: what is held back is put
+// before the next byte of a value, or dropped. The ordinary bytes that follow one of a value are put at once.
+fn put_segment<S: PartSink>(buffer: &mut [u8], s: &[u8], by: Spelling, from: Reached) -> Reached
+    requires { (length s.now ≤ most_bytes) × (from.at ≤ length s.now) × (from.total ≤ 9 + 2 * from.at) × (by.calm ≡ (quiet by.c && quiet by.n)) × Fits S.room by.c by.n s.now buffer.old from }
+    ensures { Put S.holds S.room by.c by.n s.now buffer.old buffer.new from result × Further s.now from result }
 {
     let mut m = Measure {
         total: from.total,
@@ -43,18 +129,14 @@ fn put_segment(
     };
     let mut at = from.at;
     loop {
-        match lex(s, c, at) {
-            Lexed::Byte {
-                byte,
-                place: _,
-                next,
-            } => {
-                m = put_value_byte(buffer, m, n, byte);
-                at = put_run(buffer, m.total, s, calm, next);
+        match lex(s, by.c, at) {
+            Lexed::Byte { byte, next, .. } => {
+                m = put_value_byte::<S>(buffer, m, by.n, byte);
+                at = put_run::<S>(buffer, m.total, s, by.calm, next);
                 m = with_run(m, at - next);
             }
             Lexed::Separator { rank, next } => {
-                m = put_separator(buffer, m, n, rank);
+                m = put_separator::<S>(buffer, m, by.n, rank);
                 at = next;
                 if rank == 0 {
                     return Reached { total: m.total, at };
@@ -70,23 +152,21 @@ fn put_segment(
     }
 }
 
-// A stretch is stored byte for byte. Where it is short, what is left of its segment goes token by token,
-// since the next one might be as short (`stage_length` has the same numbers).
-fn put_one_stretch(
+// A stretch is put byte for byte. Where it is short, what is left of its segment goes token by token, since
+// the next one might be as short. (That 192 bytes are short, and 256 enough for one, was found by timing.)
+fn put_one_stretch<S: PartSink>(
     buffer: &mut [u8],
-    n: Characters,
     s: &[u8],
-    c: Characters,
-    calm: bool,
+    by: Spelling,
     until: usize,
     from: Reached,
 ) -> Reached
-    requires { (length s.now ≤ most_bytes) × (from.at ≤ length s.now) × (from.total ≤ 9 + 2 * from.at) × (calm ≡ (quiet c && quiet n)) × Fits c n s.now buffer.old from }
-    ensures { Stored c n s.now buffer.old buffer.new from result × Further s.now from result }
+    requires { (length s.now ≤ most_bytes) × (from.at ≤ length s.now) × (from.total ≤ 9 + 2 * from.at) × (by.calm ≡ (quiet by.c && quiet by.n)) × Fits S.room by.c by.n s.now buffer.old from }
+    ensures { Put S.holds S.room by.c by.n s.now buffer.old buffer.new from result × Further s.now from result }
 {
     let at = from.at;
-    let to = stretch_end(s, c, n, at, until);
-    put_stretch(buffer, from.total, c, n, s, at, to);
+    let to = stretch_end(s, by.c, by.n, at, until);
+    S::put_stretch(buffer, from.total, by.c, by.n, s, at, to);
     let passed = to - at;
     let r = Reached {
         total: from.total + passed,
@@ -95,59 +175,62 @@ fn put_one_stretch(
     if 192 <= passed {
         return r;
     }
-    put_segment(buffer, n, s, c, calm, r)
+    put_segment::<S>(buffer, s, by, r)
 }
 
 // What follows a part: after one that is not empty most often an empty end, with which the segment goes token
 // by token. Where a release character stands there, or the part was empty, it is a stretch, of some 256 bytes
 // at most where the characters are alike.
-fn put_rest(
+fn put_rest<S: PartSink>(
     buffer: &mut [u8],
-    n: Characters,
     s: &[u8],
-    c: Characters,
-    calm: bool,
+    by: Spelling,
     parted: bool,
     from: Reached,
 ) -> Reached
-    requires { (length s.now ≤ most_bytes) × (from.at ≤ length s.now) × (from.total ≤ 9 + 2 * from.at) × (calm ≡ (quiet c && quiet n)) × Fits c n s.now buffer.old from }
-    ensures { Stored c n s.now buffer.old buffer.new from result × Further s.now from result }
+    requires { (length s.now ≤ most_bytes) × (from.at ≤ length s.now) × (from.total ≤ 9 + 2 * from.at) × (by.calm ≡ (quiet by.c && quiet by.n)) × Fits S.room by.c by.n s.now buffer.old from }
+    ensures { Put S.holds S.room by.c by.n s.now buffer.old buffer.new from result × Further s.now from result }
 {
     let at = from.at;
-    if at < s.len() {
-        if parted & (s[at] != c.release) {
-            return put_segment(buffer, n, s, c, calm, from);
-        }
+    if parted && at < s.len() && s[at] != by.c.release {
+        return put_segment::<S>(buffer, s, by, from);
     }
-    put_one_stretch(buffer, n, s, c, calm, at + 256, from)
+    put_one_stretch::<S>(buffer, s, by, at + 256, from)
 }
 
-// A part without empty ends is copied without the line breaks, of which there are none where `whole` says so.
-// It may be empty.
-fn put_part(
+// A part without empty ends is put without the line breaks, of which there are none where `whole` says so. It
+// may be empty.
+fn put_part<S: PartSink>(
     buffer: &mut [u8],
     s: &[u8],
-    c: Characters,
-    repetition: u8,
-    calm: bool,
+    by: Spelling,
     whole: bool,
     from: Reached,
 ) -> Reached
-    requires { (length s.now ≤ most_bytes) × (from.at ≤ length s.now) × (from.total ≤ 9 + 2 * from.at) × (calm ≡ (quiet c && quiet (normal_characters c.mark repetition))) × Fits c (normal_characters c.mark repetition) s.now buffer.old from × Sound c s.now from.at × (32 ≤ repetition) × (whole ≡ true → Unbroken s.now from.at) }
-    ensures { Stored c (normal_characters c.mark repetition) s.now buffer.old buffer.new from result × Further s.now from result }
+    requires { (length s.now ≤ most_bytes) × (from.at ≤ length s.now) × (from.total ≤ 9 + 2 * from.at) × (by.calm ≡ (quiet by.c && quiet by.n)) × Fits S.room by.c by.n s.now buffer.old from × Sound by.c s.now from.at × (by.n ≡ normal_characters by.c.mark by.n.repetition) × (32 ≤ by.n.repetition) × (whole ≡ true → Unbroken s.now from.at) }
+    ensures { Put S.holds S.room by.c by.n s.now buffer.old buffer.new from result × Further s.now from result }
 {
     let at = from.at;
-    let to = clear_end(s, c, repetition, at);
-    let total = from.total + length_between(s, whole, at, to);
-    put_between(buffer, from.total, s, whole, at, to);
-    let n = normal_characters(c.mark, repetition);
-    put_rest(buffer, n, s, c, calm, at < to, Reached { total, at: to })
+    let to = clear_end(s, by.c, by.n.repetition, at);
+    let total = S::put_between(buffer, from.total, s, whole, at, to);
+    put_rest::<S>(buffer, s, by, at < to, Reached { total, at: to })
 }
 
-// Stores the contents of the body that begins at `start`, from a place of the buffer on, as a normal
-// form with this fifth byte spells them: part by part, so that what is spelled otherwise costs time only
-// where it stands. The place after what is stored is handed back.
-pub fn put_contents(
+// Where it says yes, no line break stands from a place on. It is asked only where the characters are the normal
+// form's: elsewhere no part is clear, and nobody needs to know.
+fn is_whole(s: &[u8], c: Characters, repetition: u8, start: usize) -> bool
+    ensures { result ≡ true → Unbroken s.now start }
+{
+    if !is_normal(c, repetition) {
+        return false;
+    }
+    is_unbroken(s, start)
+}
+
+// Puts the contents of the body that begins at `start`, from a place of the buffer on, as a normal form
+// with this fifth byte spells them: part by part, so that what is spelled otherwise costs time only where
+// it stands. The place after them is handed back.
+pub fn put_contents<S: PartSink>(
     buffer: &mut [u8],
     from: usize,
     s: &[u8],
@@ -155,17 +238,19 @@ pub fn put_contents(
     start: usize,
     repetition: u8,
 ) -> usize
-    requires { (from + length (emitted (normal_characters c.mark repetition) nothing (tokens_at c s.now start)) ≤ length buffer.old) × (from ≤ 9) × (length s.now ≤ most_bytes) × (faultless (tokens_at c s.now start) ≡ true) × (visible (tokens_at c s.now start) ≡ true) × (32 ≤ repetition) }
-    ensures { PutAt buffer.old from (emitted (normal_characters c.mark repetition) nothing (tokens_at c s.now start)) buffer.new result }
+    requires { (from + length (emitted (normal_characters c.mark repetition) nothing (tokens_at c s.now start)) ≤ S.room buffer.old) × (from ≤ 9) × (length s.now ≤ most_bytes) × (faultless (tokens_at c s.now start) ≡ true) × (visible (tokens_at c s.now start) ≡ true) × (32 ≤ repetition) }
+    ensures { PutAt S.holds buffer.old from (emitted (normal_characters c.mark repetition) nothing (tokens_at c s.now start)) buffer.new result }
 {
-    let calm = is_quiet(c) & is_quiet(normal_characters(c.mark, repetition));
+    let n = normal_characters(c.mark, repetition);
+    let calm = is_quiet(c) & is_quiet(n);
+    let by = Spelling { c, n, calm };
     let whole = is_whole(s, c, repetition, start);
-    let mut total = from;
-    let mut at = start;
-    while at < s.len() {
-        let r = put_part(buffer, s, c, repetition, calm, whole, Reached { total, at });
-        total = r.total;
-        at = r.at;
+    let mut reached = Reached {
+        total: from,
+        at: start,
+    };
+    while reached.at < s.len() {
+        reached = put_part::<S>(buffer, s, by, whole, reached);
     }
-    total
+    reached.total
 }

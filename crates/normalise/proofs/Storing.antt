@@ -1,4 +1,5 @@
 -- What is stored is the normal form, with the rest of the buffer as it was; and what is answered. Assumes nothing.
+use Rattle.std.specs.Prelude.{Ok, Err}
 use Prim.Native.Nat.{ℕ, ◌+◌, ◌≤◌, ◌<◌}
 use mathlib.Core.Path.{◌≡◌, refl, sym, ap, ap₂, subst, ◌∙◌}
 use mathlib.Core.Bool.{true}
@@ -31,7 +32,6 @@ use Rattle.stage_opening.specs.declared.Found.{Found}
 use Rattle.stage_opening.specs.Runs.{found_by}
 use Rattle.judge.proofs.Bodies.{accepted_ended}
 use Rattle.judge.proofs.Stages.{repetition_is, measurable, short_accepted}
-use Rattle.answers.specs.declared.Stored.TheVariants.{Length, Refused}
 use Rattle.answers.specs.Answers.{given, told_stored}
 use Rattle.contracts.specs.Promises.{Normalises}
 use Rattle.operations.specs.Judge.{short_for, stored_in, normalise_refusal}
@@ -73,17 +73,17 @@ module _ (s : List ℕ) (a : refusal_of s ≡ none) {c : Characters} {start : �
 
 module _ (buffer s : List ℕ) where
   -- a refusal answers, and the buffer is unchanged
-  refuses : {r : Refusal} → normalise_refusal buffer s ≡ some r → Normalises buffer s (Refused r) buffer
+  refuses : {r : Refusal} → normalise_refusal buffer s ≡ some r → Normalises buffer s (Err r) buffer
   unfolding told_stored
   refuses e = let (told, held) = normalise_refused buffer s e in (sym told, sym held)
 
-  pub judge_refuses : {r : Refusal} → refusal_of s ≡ some r → Normalises buffer s (Refused r) buffer
+  pub judge_refuses : {r : Refusal} → refusal_of s ≡ some r → Normalises buffer s (Err r) buffer
   unfolding normalise_refusal
   judge_refuses e = refuses (input_answers s (short_for (normal_form s) buffer ∷ []) e)
 
   module _ (a : refusal_of s ≡ none) where
     pub short_refuses : {n : ℕ} → n ≡ length (normal_form s) → length buffer < n
-        → Normalises buffer s (Refused (record { fault = BufferShort; place = n })) buffer
+        → Normalises buffer s (Err (record { fault = BufferShort; place = n })) buffer
     short_refuses {n} e h = refuses (form_short_lem buffer s a (omega (arith, e, h)) ∙ ap (refuse BufferShort) (sym e))
 
     -- the normal form is the advice and what is emitted
@@ -102,7 +102,7 @@ module _ (buffer s : List ℕ) where
 
     -- it is stored, and the rest of the buffer is as it was
     pub form_stored : {n : ℕ} (c : Characters) (text first after : List ℕ) → n ≡ length (normal_form s) → n ≤ length buffer
-        → normal_form s ≡ advice_of c ++ text → first ≡ sets buffer 0 (advice_of c) → after ≡ sets first 9 text → Normalises buffer s (Length n) after
+        → normal_form s ≡ advice_of c ++ text → first ≡ sets buffer 0 (advice_of c) → after ≡ sets first 9 text → Normalises buffer s (Ok n) after
     unfolding told_stored stored_in
     form_stored {n} c text first after e h w p q =
         let (told, held) = normalises buffer s a (omega (arith, e, h)) in (

@@ -16,10 +16,13 @@ ghost use Rattle.operations.specs.Judge.{figures_of};
 ghost use Rattle.contracts.specs.Promises.{Normalises};
 ghost use Rattle.normal_form_laws.specs.Forms.{form_characters};
 
-use answers::{Figures, Judged, Stored};
+use answers::Figures;
 use characters::Characters;
+use normal_form_text::put_contents;
 use refusals::{Fault, Refusal};
-use stage_opening::{Found, Progress};
+use refusing::failed;
+use stage_opening::Found;
+use storing::Stored;
 
 // The service characters of the normal form of an accepted interchange that uses these: the mark is its
 // own, the fifth byte its version's.
@@ -36,69 +39,55 @@ pub fn form_characters(s: &[u8], i: Figures) -> Characters
     requires { (refusal_of s.now ≡ none) × (i ≡ figures_of s.now) }
     ensures { result ≡ form_characters s.now }
 {
-    let c = i.characters;
-    spelled_with(s, c)
+    spelled_with(s, i.characters)
 }
 
 // Stores the normal form of an accepted interchange that uses these service characters: its advice and
 // its contents. How long it is.
 fn put_form(buffer: &mut [u8], s: &[u8], c: Characters) -> usize
     requires { (refusal_of s.now ≡ none) × (c ≡ characters_of s.now) × (length (normal_form s.now) ≤ length buffer.old) }
-    ensures { Normalises buffer.old s.now (Stored.Length result) buffer.new }
+    ensures { Normalises buffer.old s.now (Ok result) buffer.new }
 {
     let n = spelled_with(s, c);
     storing::put_advice(buffer, n);
-    normal_form_text::put_contents(buffer, 9, s, c, stage_opening::body_start(s), n.repetition)
+    put_contents::<Stored>(buffer, 9, s, c, stage_opening::body_start(s), n.repetition)
 }
 
 // The same of an interchange that Judge accepted, of which it said this.
-pub fn store_form(buffer: &mut [u8], s: &[u8], i: Figures) -> Stored
+pub fn store_form(buffer: &mut [u8], s: &[u8], i: Figures) -> Result<usize, Refusal>
     requires { (refusal_of s.now ≡ none) × (i ≡ figures_of s.now) }
     ensures { Normalises buffer.old s.now result buffer.new }
 {
-    let length = i.length;
-    if buffer.len() < length {
-        return Stored::Refused(Refusal {
-            fault: Fault::BufferShort,
-            place: length,
-        });
+    if buffer.len() < i.length {
+        return failed(Fault::BufferShort, i.length);
     }
-    let c = i.characters;
-    Stored::Length(put_form(buffer, s, c))
+    Ok(put_form(buffer, s, i.characters))
 }
 
 // The same of an input that 1 to 12 pass: 13 is asked before.
-fn store_measured(buffer: &mut [u8], s: &[u8], found: Found) -> Stored
+fn store_measured(buffer: &mut [u8], s: &[u8], found: Found) -> Result<usize, Refusal>
     requires { (answering (stages_in s.now 1 12) ≡ none) × (found ≡ found_by 12 s.now) }
     ensures { Normalises buffer.old s.now result buffer.new }
 {
-    match judge::judge_length(s, found) {
-        Judged::Refused(r) => Stored::Refused(r),
-        Judged::Accepted(i) => store_form(buffer, s, i),
-    }
+    let figures = judge::judge_length(s, found)?;
+    store_form(buffer, s, figures)
 }
 
 // The same; 13 and 14 are asked only where a bound does not tell that they pass.
-pub fn store_found(buffer: &mut [u8], s: &[u8], found: Found) -> Stored
+pub fn store_found(buffer: &mut [u8], s: &[u8], found: Found) -> Result<usize, Refusal>
     requires { (answering (stages_in s.now 1 12) ≡ none) × (found ≡ found_by 12 s.now) }
     ensures { Normalises buffer.old s.now result buffer.new }
 {
     let most = judge::most_length(s, found);
-    if refusals::MOST_BYTES < most {
+    if refusals::MOST_BYTES < most || buffer.len() < most {
         return store_measured(buffer, s, found);
     }
-    if buffer.len() < most {
-        return store_measured(buffer, s, found);
-    }
-    let c = found.characters;
-    Stored::Length(put_form(buffer, s, c))
+    Ok(put_form(buffer, s, found.characters))
 }
 
-pub fn normalise(buffer: &mut [u8], s: &[u8]) -> Stored
+pub fn normalise(buffer: &mut [u8], s: &[u8]) -> Result<usize, Refusal>
     ensures { Normalises buffer.old s.now result buffer.new }
 {
-    match judge::stages_to_12(s) {
-        Progress::Refused(r) => Stored::Refused(r),
-        Progress::Passed(found) => store_found(buffer, s, found),
-    }
+    let found = judge::stages_to_12(s)?;
+    store_found(buffer, s, found)
 }

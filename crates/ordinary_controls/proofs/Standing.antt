@@ -1,6 +1,6 @@
 -- An element of ordinary bytes, by the places between which it stands: its value, that it is alone, and where the next element begins.
 -- Assumes nothing.
-use Rattle.std.specs.Prelude.{if◌then◌else◌}
+use Rattle.std.specs.Prelude.{Option, Some, None, if◌then◌else◌, Ok}
 use Prim.Native.Nat.{ℕ, zero, suc, ◌+◌, ◌-◌, ◌≤◌, ◌<◌}
 use mathlib.Core.Path.{◌≡◌, refl, sym, ap, ap₂, subst, ◌∙◌}
 use mathlib.Core.Bool.{Bool, true, false, not, ◌&&◌, ◌||◌, or-true, false≢true}
@@ -19,7 +19,6 @@ use Rattle.characters.specs.declared.Role.{Role}
 use Rattle.characters.specs.declared.Role.TheVariants as role
 use Rattle.characters.specs.Characters.{role as role_in, between, digit, after_breaks}
 use Rattle.refusals.specs.declared.Fault.TheVariants.{BadControl}
-use Rattle.refusals.specs.declared.Outcome.TheVariants as outcome
 use Rattle.refusals.specs.Refusals.{failed_at}
 use Rattle.values.specs.Tokens.{Token, ends, tokens_at}
 use Rattle.values.proofs.Steps.{at_plain, at_separator, ends_yes, ends_no}
@@ -37,8 +36,6 @@ use Rattle.control_fields.specs.Fields.{field_of, spells_reference, spells_count
 use Rattle.stage_control.specs.Controlling.{trailer_by, controlled_by}
 use Rattle.ordinary_runs.specs.Runs.{is_ordinary, quiet, Run}
 use Rattle.ordinary_runs.proofs.Runs.{role_plain, run_length}
-use Rattle.ordinary_controls.specs.declared.Control.{Control}
-use Rattle.ordinary_controls.specs.declared.Control.TheVariants.{Passed, Other}
 use Rattle.ordinary_controls.specs.declared.Count.{Count}
 use Rattle.ordinary_controls.specs.Standing.{part, SameRun, Counts, Tagged, Refers, Repeats, Heads, Trails, Controls}
 use Rattle.ordinary_controls.proofs.Parts.{same_part, same_ordinary}
@@ -169,7 +166,7 @@ module _ (c : Characters) (s : List ℕ) where
         → (eqb (get_or s r.end 0) c.terminator || eqb (get_or s r.end 0) c.element) ≡ true
         → (spells_count (field_of (tokens_at c s from)) ≡ true) × ((field_of (tokens_at c s from)).number ≡ r.number)
     unfolding spells_count field_of between
-    count_is from r k inside some e =
+    count_is from r k inside several e =
         let value = value_in (tokens_at c s from) in
         let n = length value in
         let size = size_is from r.end k.run inside e in
@@ -177,7 +174,7 @@ module _ (c : Characters) (s : List ℕ) where
         let first = k.run.0 in (
           and_both (is_alone (tokens_at c s from) && all digit value) (between 1 6 n)
               (and_both (is_alone (tokens_at c s from)) (all digit value) (alone_is from r.end k.run inside e) (ap (all digit) equal ∙ k.digits))
-              (and_both (leb 1 n) (leb n 6) (le-leb 1 n (omega (arith, size, first, some))) (le-leb n 6 (omega (arith, size, k.few)))),
+              (and_both (leb 1 n) (leb n 6) (le-leb 1 n (omega (arith, size, first, several))) (le-leb n 6 (omega (arith, size, k.few)))),
           ap decimal (take_all 6 value (omega (arith, size, k.few)) ∙ equal) ∙ sym k.number_is,
         )
 
@@ -193,13 +190,13 @@ module _ (c : Characters) (s : List ℕ) where
       pub trailer_is : (header count : ℕ) (r : Count) → Counts s (at + 3 + 1) r → r.end < length s → (r.end ≡ at + 3 + 1 → ⊥) → r.number ≡ count
           → (eqb (get_or s (at + 3) 0) c.element && not (eqb (get_or s (at + 3) 0) c.terminator)) ≡ true
           → (eqb (get_or s r.end 0) c.element && not (eqb (get_or s r.end 0) c.terminator)) ≡ true
-          → Repeats c s (r.end + 1) header → Trails c s at header count (Passed (r.end + 1))
+          → Repeats c s (r.end + 1) header → Trails c s at header count (Some (r.end + 1))
       unfolding piece_from trailer_by
-      trailer_is header count r k inside some number first second repeats =
+      trailer_is header count r k inside several number first second repeats =
           let counted = next_element at (at + 3) tag.0 tag.1 first in
           let referring = next_element (at + 3 + 1) r.end k.run inside second in
           let ended = separator_ends r.end second in
-          let (spelled, is) = count_is (at + 3 + 1) r k inside some ended in (
+          let (spelled, is) = count_is (at + 3 + 1) r k inside several ended in (
             ((sym (counted 2 (omega arith) ∙ referring 1 (omega arith)), λ h. omega arith), repeats.0),
             ap (λ (ts : List Token). trailer_by at (tokens_at c s (r.end + 1)) ts (tokens_at c s header) count) (counted 1 (omega arith))
                 ∙ if_true (spells_count (field_of (tokens_at c s (at + 3 + 1)))) _ _ spelled
@@ -216,32 +213,32 @@ module _ (c : Characters) (s : List ℕ) where
 
   -- what is told of a header, and of a trailer, is told of the segment
   module _ (at : ℕ) (p : Positions) (header count : ℕ) where
-    pub header_controls : (r : Control) → p.count ≡ 0 → Heads c s at p.reference r → Controls c s at p header count r
+    pub header_controls : (r : Option ℕ) → p.count ≡ 0 → Heads c s at p.reference r → Controls c s at p header count r
     unfolding controlled_by
-    header_controls (Passed r) e (there, is) = (there, by_test (eqb p.reference 0))
+    header_controls (Some r) e (there, is) = (there, by_test (eqb p.reference 0))
       where
         by_test : (t : Bool)
-            → (if t then outcome.Passed
+            → (if t then Ok tt
             else (if spells_reference (field_of (tokens_at c s r))
-            then (if eqb p.count 0 then outcome.Passed
+            then (if eqb p.count 0 then Ok tt
             else trailer_by at (tokens_at c s r) (element_from p.count (tokens_at c s at)) (tokens_at c s header) count)
             else failed_at BadControl at))
-            ≡ outcome.Passed
+            ≡ Ok tt
         by_test true = refl
         by_test false = if_true (spells_reference (field_of (tokens_at c s r))) _ _ is ∙ if_true (eqb p.count 0) _ _ (eq-eqb p.count 0 e)
-    header_controls Other e h = tt
+    header_controls None e h = tt
 
-    pub trailer_controls : (r : Control) → p.count ≡ 1 → p.reference ≡ 2 → Trails c s at header count r → Controls c s at p header count r
+    pub trailer_controls : (r : Option ℕ) → p.count ≡ 1 → p.reference ≡ 2 → Trails c s at header count r → Controls c s at p header count r
     unfolding controlled_by
-    trailer_controls (Passed r) e d ((there, is), passed) = (
+    trailer_controls (Some r) e d ((there, is), passed) = (
       subst (λ (k : ℕ). ElementAt c s at k r) (sym d) there,
       ap₂ (λ (k m : ℕ).
-          if eqb m 0 then outcome.Passed
+          if eqb m 0 then Ok tt
           else (if spells_reference (field_of (tokens_at c s r))
-          then (if eqb k 0 then outcome.Passed
+          then (if eqb k 0 then Ok tt
           else trailer_by at (tokens_at c s r) (element_from k (tokens_at c s at)) (tokens_at c s header) count)
           else failed_at BadControl at)) e d
           ∙ if_true (spells_reference (field_of (tokens_at c s r))) _ _ is
           ∙ passed,
     )
-    trailer_controls Other e d h = tt
+    trailer_controls None e d h = tt

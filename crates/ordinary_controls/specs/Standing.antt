@@ -1,9 +1,8 @@
 -- Control elements of ordinary bytes, by the places between which they stand; and what is told of a segment by them. Assumes nothing.
-use Rattle.std.specs.Prelude.{ℕ, ◌+◌, ◌-◌, ◌≤◌, ◌<◌, ◌≡◌, true, ◌||◌, List, eqb, length, get_or, take, drop}
+use Rattle.std.specs.Prelude.{Option, Some, None, ℕ, ◌+◌, ◌-◌, ◌≤◌, ◌<◌, ◌≡◌, true, ◌||◌, List, eqb, length, get_or, take, drop, Ok}
 use Rattle.lists.specs.Lists.{same, all}
 use Rattle.characters.specs.declared.Characters.{Characters}
 use Rattle.characters.specs.Characters.{digit}
-use Rattle.refusals.specs.declared.Outcome.TheVariants as outcome
 use Rattle.values.specs.Tokens.{tokens_at}
 use Rattle.control_elements.specs.declared.Positions.{Positions}
 use Rattle.control_elements.specs.Control.{decimal}
@@ -12,8 +11,6 @@ use Rattle.elements.specs.Values.{value_in}
 use Rattle.control_fields.specs.Fields.{field_of, spells_reference}
 use Rattle.stage_control.specs.Controlling.{trailer_by, controlled_by}
 use Rattle.ordinary_runs.specs.Runs.{Run}
-use Rattle.ordinary_controls.specs.declared.Control.{Control}
-use Rattle.ordinary_controls.specs.declared.Control.TheVariants.{Passed, Other}
 use Rattle.ordinary_controls.specs.declared.Count.{Count}
 
 -- ---- bytes
@@ -56,18 +53,18 @@ module _ (c : Characters) (s : List ℕ) where
 
   module _ (at : ℕ) where
     -- the element of that number is a reference, and begins there
-    abbrev pub Heads : ℕ → Control → Type 0
-    Heads position (Passed r) = ElementAt c s at position r × (spells_reference (field_of (tokens_at c s r)) ≡ true)
-    Heads position Other = Unit {0}
+    abbrev pub Heads : ℕ → Option ℕ → Type 0
+    Heads position (Some r) = ElementAt c s at position r × (spells_reference (field_of (tokens_at c s r)) ≡ true)
+    Heads position None = Unit {0}
 
     -- the second element is a reference, and stage (10 11 12) passes the trailer
-    abbrev pub Trails : ℕ → ℕ → Control → Type 0
-    Trails header count (Passed r) =
-        Heads 2 (Passed r)
-        × (trailer_by at (tokens_at c s r) (element_from 1 (tokens_at c s at)) (tokens_at c s header) count ≡ outcome.Passed)
-    Trails header count Other = Unit {0}
+    abbrev pub Trails : ℕ → ℕ → Option ℕ → Type 0
+    Trails header count (Some r) =
+        Heads 2 (Some r)
+        × (trailer_by at (tokens_at c s r) (element_from 1 (tokens_at c s at)) (tokens_at c s header) count ≡ Ok tt)
+    Trails header count None = Unit {0}
 
     -- stage (10 11 12) passes the segment, whose reference begins there
-    abbrev pub Controls : Positions → ℕ → ℕ → Control → Type 0
-    Controls p header count (Passed r) = ElementAt c s at p.reference r × (controlled_by c s at p r header count ≡ outcome.Passed)
-    Controls p header count Other = Unit {0}
+    abbrev pub Controls : Positions → ℕ → ℕ → Option ℕ → Type 0
+    Controls p header count (Some r) = ElementAt c s at p.reference r × (controlled_by c s at p r header count ≡ Ok tt)
+    Controls p header count None = Unit {0}

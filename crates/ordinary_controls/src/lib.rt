@@ -1,11 +1,10 @@
 // Control elements of digits and upper case letters, as they stand (paper 01, "Control elements"): most
 // references are spelled so. It says only that stage (10 11 12) passes a segment, and then where the
 // segment's reference begins. Where an element is spelled otherwise, or the segment may be refused, it says
-// `Other`, which promises nothing, and the answer is left to `stage_control`.
+// `None`, which promises nothing, and the answer is left to `stage_control`.
 #![tactic(auto)]
 
 ghost use Rattle.std.specs.Prelude.{◌+◌, ◌≤◌, ◌<◌, ◌≡◌, true, not, ◌&&◌, ◌||◌, eqb, length};
-ghost use Rattle.characters.specs.Characters.{digit};
 ghost use Rattle.elements.specs.Elements.{ElementAt};
 ghost use Rattle.ordinary_runs.specs.Runs.{quiet, Run};
 ghost use Rattle.ordinary_controls.specs.Standing.{SameRun, Counts, Refers, Tagged, Repeats, Heads, Trails, Controls};
@@ -15,21 +14,14 @@ use control_elements::Positions;
 use elements::element_at;
 use ordinary_runs::{is_ordinary, past_run};
 
-// Stage (10 11 12) passes the segment, whose reference begins at this place; or it may not.
-#[derive(Clone, Copy)]
-pub enum Control {
-    Passed(usize),
-    Other,
-}
-
 // The place up to which the bytes from the first place on are ordinary and the same as from the second
 // on.
 fn same_run(s: &[u8], first: usize, second: usize) -> usize
+    requires { first ≤ length s.now }
     ensures { SameRun s.now first second result }
 {
-    let mut at = first;
-    let mut other = second;
-    while at < s.len() {
+    for at in first..s.len() {
+        let other = second + (at - first);
         if s.len() <= other {
             return at;
         }
@@ -39,10 +31,8 @@ fn same_run(s: &[u8], first: usize, second: usize) -> usize
         if s[at] != s[other] {
             return at;
         }
-        at += 1;
-        other += 1;
     }
-    at
+    s.len()
 }
 
 // The terminator or the element separator.
@@ -59,12 +49,6 @@ fn is_separator(c: Characters, b: u8) -> bool
     (b == c.element) & !(b == c.terminator)
 }
 
-fn is_digit(b: u8) -> bool
-    ensures { result ≡ digit b }
-{
-    (48 <= b) & (b <= 57)
-}
-
 // The digits from a place on, up to six, by the place after them and the number that they spell.
 #[derive(Clone, Copy)]
 struct Count {
@@ -73,22 +57,23 @@ struct Count {
 }
 
 fn count_at(s: &[u8], from: usize) -> Count
+    requires { from ≤ length s.now }
     ensures { Counts s.now from result }
 {
-    let mut at = from;
     let mut number: u32 = 0;
-    while at < s.len() {
-        let b = s[at];
-        if !is_digit(b) {
+    for at in from..s.len() {
+        if !s[at].is_ascii_digit() {
             return Count { end: at, number };
         }
         if 6 <= at - from {
             return Count { end: at, number };
         }
-        number = number * 10 + (b as u32 - 48);
-        at += 1;
+        number = number * 10 + u32::from(s[at] - b'0');
     }
-    Count { end: at, number }
+    Count {
+        end: s.len(),
+        number,
+    }
 }
 
 // The element between two places is a reference, if the bytes between them are ordinary.
@@ -96,21 +81,12 @@ fn refers(s: &[u8], c: Characters, from: usize, end: usize) -> bool
     requires { from ≤ end }
     ensures { result ≡ true → Refers c s.now from end }
 {
-    if s.len() <= end {
-        return false;
-    }
-    if end == from {
-        return false;
-    }
-    if 14 < end - from {
-        return false;
-    }
-    ends_element(c, s[end])
+    end < s.len() && from < end && end - from <= 14 && ends_element(c, s[end])
 }
 
 // The element at a place is a reference, and the value at another is the same.
 fn repeats(s: &[u8], c: Characters, from: usize, header: usize) -> bool
-    requires { quiet c ≡ true }
+    requires { (quiet c ≡ true) × (from ≤ length s.now) }
     ensures { result ≡ true → Repeats c s.now from header }
 {
     let end = same_run(s, from, header);
@@ -118,10 +94,7 @@ fn repeats(s: &[u8], c: Characters, from: usize, header: usize) -> bool
         return false;
     }
     let other = header + (end - from);
-    if s.len() <= other {
-        return false;
-    }
-    ends_element(c, s[other])
+    other < s.len() && ends_element(c, s[other])
 }
 
 // Where the element of that number begins, in a segment with a tag of three ordinary bytes.
@@ -139,20 +112,20 @@ fn element_from(s: &[u8], c: Characters, at: usize, position: usize) -> usize
 }
 
 // A header, whose reference is the element of that number.
-fn header_control(s: &[u8], c: Characters, at: usize, position: usize) -> Control
+fn header_control(s: &[u8], c: Characters, at: usize, position: usize) -> Option<usize>
     requires { (quiet c ≡ true) × Tagged s.now at }
     ensures { Heads c s.now at position result }
 {
     let reference = element_from(s, c, at, position);
     let end = past_run(s, true, reference);
     if refers(s, c, reference, end) {
-        return Control::Passed(reference);
+        return Some(reference);
     }
-    Control::Other
+    None
 }
 
 // A trailer: its first element has to be this count, and its second the reference at `header`.
-fn trailer_control(s: &[u8], c: Characters, at: usize, header: usize, count: u32) -> Control
+fn trailer_control(s: &[u8], c: Characters, at: usize, header: usize, count: u32) -> Option<usize>
     requires { (quiet c ≡ true) × Tagged s.now at }
     ensures { Trails c s.now at header count result }
 {
@@ -161,25 +134,26 @@ fn trailer_control(s: &[u8], c: Characters, at: usize, header: usize, count: u32
     let found = count_at(s, counted);
     let end = found.end;
     if s.len() <= end {
-        return Control::Other;
+        return None;
     }
     if end == counted {
-        return Control::Other;
+        return None;
     }
     if found.number != count {
-        return Control::Other;
+        return None;
     }
     if !(is_separator(c, s[tagged]) & is_separator(c, s[end])) {
-        return Control::Other;
+        return None;
     }
     let reference = end + 1;
     if repeats(s, c, reference, header) {
-        return Control::Passed(reference);
+        return Some(reference);
     }
-    Control::Other
+    None
 }
 
-// One segment, with a tag of three ordinary bytes.
+// One segment, with a tag of three ordinary bytes: stage (10 11 12) passes it, and its reference begins at
+// this place; or it may not pass.
 pub fn control_of(
     s: &[u8],
     c: Characters,
@@ -187,18 +161,13 @@ pub fn control_of(
     p: Positions,
     header: usize,
     count: u32,
-) -> Control
+) -> Option<usize>
     requires { (quiet c ≡ true) × Tagged s.now at }
     ensures { Controls c s.now at p header count result }
 {
-    if p.count == 0 {
-        return header_control(s, c, at, p.reference);
+    match (p.count, p.reference) {
+        (0, reference) => header_control(s, c, at, reference),
+        (1, 2) => trailer_control(s, c, at, header, count),
+        _ => None,
     }
-    if p.count != 1 {
-        return Control::Other;
-    }
-    if p.reference != 2 {
-        return Control::Other;
-    }
-    trailer_control(s, c, at, header, count)
 }

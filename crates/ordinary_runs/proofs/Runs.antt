@@ -22,7 +22,9 @@ use Rattle.spelling_laws.proofs.Service.{serves, service_serves}
 use Rattle.emission_laws.specs.declared.Measure.{Measure}
 use Rattle.emission_laws.specs.Emission.{nothing, separated, let_out, emitted, held_next, held_after, after}
 use Rattle.emission_laws.proofs.Steps.{byte_first}
-use Rattle.storing.proofs.Stores.{stored_after}
+use Rattle.storing.specs.Sinks.{SinkLaws}
+use Rattle.storing.specs.Kept.{stored_laws}
+use Rattle.storing.proofs.Putting.{put_after}
 use Rattle.ordinary_runs.specs.Runs.{is_ordinary, quiet, Run, RunFits}
 
 -- ---- under quiet characters an ordinary byte is no service character
@@ -89,30 +91,45 @@ module _ (c n : Characters) (s : List ℕ) {calm : Bool} (q : calm ≡ (quiet c 
       step (to - from) from (λ p x y. o p x (omega arith))
       ∙ ap (λ (p : ℕ). take (to - from) (drop from s) ++ emitted n nothing (tokens_at c s p)) there
 
--- nothing of it is stored
-pub none_stored : (s : List ℕ) (from into : ℕ) (buffer : List ℕ) → buffer ≡ sets buffer into (take (from - from) (drop from s))
-none_stored s from into buffer = let none : 0 ≡ from - from = omega arith in ap (λ (k : ℕ). sets buffer into (take k (drop from s))) none
-
 module _ (s : List ℕ) {from at : ℕ} (l : from ≤ at) where
   -- it has its bytes
   pub run_length : at ≤ length s → length (take (at - from) (drop from s)) ≡ at - from
   run_length h = length-take-le (at - from) (drop from s) (omega (arith, length-drop from s))
 
   -- there is room for a byte more
-  pub run_room : {calm : Bool} (into size : ℕ) → RunFits calm s from into size → Run calm s from (at + 1) → into + (at - from) < size
-  run_room into size fits run = omega (arith, fits (at + 1) run)
+  pub run_room : {calm : Bool} (into room : ℕ) → RunFits calm s from into room → Run calm s from (at + 1) → into + (at - from) < room
+  run_room into room fits run = omega (arith, fits (at + 1) run)
 
-  -- a byte more is stored
-  pub run_stored : (buffer : List ℕ) (into : ℕ) {stored : List ℕ} {to : ℕ} → at < length s → stored ≡ sets buffer into (take (at - from) (drop from s))
-      → to ≡ into + (at - from) → set stored to (get_or s at 0) ≡ sets buffer into (take (at + 1 - from) (drop from s))
-  run_stored buffer into h e d =
-      let front = take (at - from) (drop from s) in
+-- ---- a run is put, into any sink
+
+module _ {holds : List ℕ → ℕ → List ℕ → List ℕ} {room : List ℕ → ℕ} (laws : SinkLaws holds room) (s : List ℕ) where
+  -- nothing of it
+  pub empty_run_put : (from into : ℕ) (buffer : List ℕ) → buffer ≡ holds buffer into (take (from - from) (drop from s))
+  empty_run_put from into buffer =
+      let none : 0 ≡ from - from = omega arith in
+      sym (laws.none buffer into) ∙ ap (λ (k : ℕ). holds buffer into (take k (drop from s))) none
+
+  -- a byte more
+  pub longer_run_put : {from at : ℕ} → from ≤ at → (buffer : List ℕ) (into : ℕ) {front whole : List ℕ} {to : ℕ} → at < length s
+      → front ≡ holds buffer into (take (at - from) (drop from s)) → to ≡ into + (at - from) → whole ≡ holds front to (get_or s at 0 ∷ [])
+      → whole ≡ holds buffer into (take (at + 1 - from) (drop from s))
+  longer_run_put {from} {at} l buffer into h e d last =
+      let passed = take (at - from) (drop from s) in
       let next : at + 1 - from ≡ suc (at - from) = omega arith in
       let there : from + (at - from) ≡ at = omega arith in
-      stored_after buffer into front (get_or s at 0 ∷ []) e (d ∙ ap (λ (k : ℕ). into + k) (sym (run_length (omega arith)))) refl
-      ∙ sym (ap (λ (k : ℕ). sets buffer into (take k (drop from s))) next
-      ∙ ap (sets buffer into) (take-suc (drop from s) (at - from) 0 (omega (arith, length-drop from s)))
-      ∙ ap (λ (b : ℕ). sets buffer into (front ++ (b ∷ []))) (get_or-drop from s (at - from) 0 ∙ ap (λ (k : ℕ). get_or s k 0) there))
+      put_after laws buffer into passed (get_or s at 0 ∷ []) e (d ∙ ap (λ (k : ℕ). into + k) (sym (run_length s l (omega arith)))) last
+      ∙ sym (ap (λ (k : ℕ). holds buffer into (take k (drop from s))) next
+      ∙ ap (holds buffer into) (take-suc (drop from s) (at - from) 0 (omega (arith, length-drop from s)))
+      ∙ ap (λ (b : ℕ). holds buffer into (passed ++ (b ∷ []))) (get_or-drop from s (at - from) 0 ∙ ap (λ (k : ℕ). get_or s k 0) there))
+
+-- the same where it is stored
+pub none_stored : (s : List ℕ) (from into : ℕ) (buffer : List ℕ) → buffer ≡ sets buffer into (take (from - from) (drop from s))
+none_stored s = empty_run_put stored_laws s
+
+pub run_stored : (s : List ℕ) {from at : ℕ} → from ≤ at → (buffer : List ℕ) (into : ℕ) {stored : List ℕ} {to : ℕ} → at < length s
+    → stored ≡ sets buffer into (take (at - from) (drop from s)) → to ≡ into + (at - from)
+    → set stored to (get_or s at 0) ≡ sets buffer into (take (at + 1 - from) (drop from s))
+run_stored s l buffer into h e d = longer_run_put stored_laws s l buffer into h e d refl
 
 -- ---- the run, from a place on
 

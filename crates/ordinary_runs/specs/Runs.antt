@@ -17,9 +17,9 @@ quiet c =
 abbrev pub Run : Bool → List ℕ → ℕ → ℕ → Type 0
 Run calm s from to = (from ≤ to) × ((k : ℕ) → from ≤ k → k < to → (calm ≡ true) × (k < length s) × (is_ordinary (get_or s k 0) ≡ true))
 
--- every run from a place on fits into so many bytes, stored from a place on
+-- every run from a place on fits into so much room, put from a place on
 abbrev pub RunFits : Bool → List ℕ → ℕ → ℕ → ℕ → Type 0
-RunFits calm s from into size = (to : ℕ) → Run calm s from to → into + (to - from) ≤ size
+RunFits calm s from into room = (to : ℕ) → Run calm s from to → into + (to - from) ≤ room
 
 -- a text that is so many bytes longer
 abbrev pub longer : Measure → ℕ → Measure

@@ -4,11 +4,11 @@
 #![tactic(auto)]
 
 ghost use Rattle.std.specs.Prelude.{◌≡◌, ◌+◌, ◌-◌, ◌<◌, length, take, drop};
-ghost use Rattle.std.proofs.lemmas.List.Edits.{sets};
 ghost use Rattle.ordinary_runs.specs.Runs.{is_ordinary, quiet, Run, RunFits, longer};
 
 use characters::Characters;
 use emission_laws::Measure;
+use storing::{Measured, Sink};
 
 // A digit or an upper case letter.
 pub fn is_ordinary(b: u8) -> bool
@@ -29,43 +29,30 @@ pub fn is_quiet(c: Characters) -> bool
     !(component | (element | (release | (repetition | terminator))))
 }
 
-// The place after a run of ordinary bytes, where the characters allow to pass over it.
-pub fn past_run(s: &[u8], calm: bool, from: usize) -> usize
-    ensures { Run calm s.now from result }
+// Puts a run of ordinary bytes from a place of the buffer on, where the characters allow to pass over it, and
+// returns the place after it.
+pub fn put_run<S: Sink>(buffer: &mut [u8], into: usize, s: &[u8], calm: bool, from: usize) -> usize
+    requires { RunFits calm s.now from into (S.room buffer.old) }
+    ensures { (Run calm s.now from result) × (buffer.new ≡ S.holds buffer.old into (take (result - from) (drop from s.now))) }
 {
     if !calm {
         return from;
     }
-    let mut at = from;
-    while at < s.len() {
-        if !is_ordinary(s[at]) {
-            return at;
-        }
-        at += 1;
-    }
-    at
-}
-
-// The place after a run, which is stored from a place of the buffer on.
-pub fn put_run(buffer: &mut [u8], into: usize, s: &[u8], calm: bool, from: usize) -> usize
-    requires { RunFits calm s.now from into (length buffer.old) }
-    ensures { (Run calm s.now from result) × (buffer.new ≡ sets buffer.old into (take (result - from) (drop from s.now))) }
-{
-    if !calm {
-        return from;
-    }
-    let mut at = from;
-    let mut to = into;
-    while at < s.len() {
+    for at in from..s.len() {
         let b = s[at];
         if !is_ordinary(b) {
             return at;
         }
-        buffer[to] = b;
-        at += 1;
-        to += 1;
+        S::set(buffer, into + (at - from), b);
     }
-    at
+    from.max(s.len())
+}
+
+// The place after a run, which is put nowhere.
+pub fn past_run(s: &[u8], calm: bool, from: usize) -> usize
+    ensures { Run calm s.now from result }
+{
+    put_run::<Measured>(&mut [], 0, s, calm, from)
 }
 
 // So many bytes more.
@@ -73,9 +60,8 @@ pub fn with_run(m: Measure, count: usize) -> Measure
     requires { m.total + count < 18446744073709551616 }
     ensures { result ≡ longer m count }
 {
-    let held = m.held;
     Measure {
         total: m.total + count,
-        held,
+        ..m
     }
 }

@@ -7,6 +7,7 @@
 -- `×` is "and", `⊎` "or", `¬` "not", `∈` "is one of", `↔` "exactly where". Of whole operations `crates/theorems/specs/Demands.antt` says the rest:
 -- trimming (part 2), Judge's figures (3), lent buffers (5, 7), Write's output (7), Locate (8), Compare and Keep (9), value lists there and back (10).
 mod Imports
+use Rattle.std.specs.Prelude.{true, false, Some, None, Ok, Err}
 use Imports.*
 
 infix 40 ◌∈◌
@@ -203,18 +204,18 @@ answer n values = record { number = n; values = values }
 pub record Told : Type 0 where
   -- "service characters, counts of segments, messages and groups, length of the normal form"; "the length"; "same, different"; ..
   pub given : (i : Figures) (m n : ℕ)
-      → (told_judged (judged.Accepted i) ≡ answer 0 (six i.characters ++ i.segments.0 ∷ i.messages.0 ∷ i.groups.0 ∷ i.length ∷ []))
-      × (told_stored (stored.Length n) ≡ answer 0 (n ∷ []))
-      × (told_compared compared.Same ≡ answer 0 (1 ∷ [])) × (told_compared compared.Different ≡ answer 0 (0 ∷ []))
-      × (told_located (located.At m n) ≡ answer 0 (m ∷ n ∷ [])) × (told_located located.Absent ≡ answer 0 [])
-      × (told_listed (listed.Values m n) ≡ answer 0 (m ∷ n ∷ []))
+      → (told_judged (Ok i) ≡ answer 0 (six i.characters ++ i.segments.0 ∷ i.messages.0 ∷ i.groups.0 ∷ i.length ∷ []))
+      × (told_stored (Ok n) ≡ answer 0 (n ∷ []))
+      × (told_compared (Ok true) ≡ answer 0 (1 ∷ [])) × (told_compared (Ok false) ≡ answer 0 (0 ∷ []))
+      × (told_located (Ok (Some (record { offset = m; length = n }))) ≡ answer 0 (m ∷ n ∷ [])) × (told_located (Ok None) ≡ answer 0 [])
+      × (told_listed (Ok (record { bytes = m; numbers = n })) ≡ answer 0 (m ∷ n ∷ []))
   -- "or a refusal"; "with 1st or 2nd input"
   pub refused : (r : Refusal)
       → let n : ℕ = number r.fault in
-      (told_judged (judged.Refused r) ≡ answer n (r.place ∷ [])) × (told_stored (stored.Refused r) ≡ answer n (r.place ∷ []))
-      × (told_located (located.Refused r) ≡ answer n (r.place ∷ [])) × (told_listed (listed.Refused r) ≡ answer n (r.place ∷ []))
-      × (told_compared (compared.FirstRefused r) ≡ answer n (1 ∷ r.place ∷ []))
-      × (told_compared (compared.SecondRefused r) ≡ answer n (2 ∷ r.place ∷ []))
+      (told_judged (Err r) ≡ answer n (r.place ∷ [])) × (told_stored (Err r) ≡ answer n (r.place ∷ []))
+      × (told_located (Err r) ≡ answer n (r.place ∷ [])) × (told_listed (Err r) ≡ answer n (r.place ∷ []))
+      × (told_compared (Err (First r)) ≡ answer n (1 ∷ r.place ∷ []))
+      × (told_compared (Err (Second r)) ≡ answer n (2 ∷ r.place ∷ []))
 
 abbrev pub item : ℕ → Bytes → Item
 item kind value = record { kind = kind; value = value }

@@ -1,5 +1,5 @@
 -- The first value of an element, found in one pass over UNB, is the part that Locate's companion hands back. Assumes nothing.
-use Rattle.std.specs.Prelude.{if◌then◌else◌}
+use Rattle.std.specs.Prelude.{if◌then◌else◌, Ok, Err, Option as Perhaps, Some, None}
 use Prim.Native.Nat.{ℕ, zero, suc, ◌+◌, ◌-◌, ◌≤◌, ◌<◌}
 use mathlib.Core.Path.{◌≡◌, refl, sym, ap, subst, ◌∙◌}
 use mathlib.Core.Bool.{Bool, true, false, not, ◌&&◌, ◌||◌}
@@ -16,7 +16,6 @@ use Rattle.characters.specs.Characters.{role, service_characters, is_service, ha
 use Rattle.characters.specs.declared.Role.TheVariants.{Separator}
 use Rattle.characters.specs.declared.Characters.{Characters}
 use Rattle.refusals.specs.declared.Refusal.{Refusal}
-use Rattle.refusals.specs.declared.Outcome.TheVariants.{Passed, Failed}
 use Rattle.refusals.specs.Refusals.{outcome}
 use Rattle.values.specs.Tokens.{Token, byte, ends, tokens_at}
 use Rattle.values.specs.Values.{Value, value_of, bytes_of}
@@ -24,7 +23,6 @@ use Rattle.values.specs.Trimming.{trimmed, value_at}
 use Rattle.values.proofs.Steps.{at_separator, ends_yes, ends_no}
 use Rattle.stages.specs.Stages.{refusal_of}
 use Rattle.answers.specs.declared.Figures.{Figures}
-use Rattle.answers.specs.declared.Located.TheVariants.{Refused}
 use Rattle.answers.specs.Answers.{told_located}
 use Rattle.operations.specs.Judge.{figures_of}
 use Rattle.operations.specs.Locate.{locate}
@@ -36,16 +34,14 @@ use Rattle.elements.proofs.Elements.{from_next, from_plain, holds_byte_lem}
 use Rattle.elements.proofs.Sixteen.{separators_none, separators_next}
 use Rattle.plain_runs.specs.Runs.{PlainRun}
 use Rattle.plain_runs.proofs.Runs.{by_bytes, run_inside}
-use Rattle.trimmed_values.specs.declared.Found.{Found}
-use Rattle.trimmed_values.specs.declared.Found.TheVariants.{At, Absent}
 use Rattle.trimmed_values.specs.Trimmed.{placed, stays_in, value_from, value_stays}
 use Rattle.trimmed_values.proofs.Ends.{Whole, from_whole}
 use Rattle.trimmed_values.proofs.Places.{value_found}
 use Rattle.trimmed_values.proofs.Trimmed.{trimmed_value}
-use Rattle.locate.specs.declared.Span.{Span}
-use Rattle.locate.specs.Locating.{answer_of, part_of}
+use Rattle.values.specs.declared.Span.{Span}
+use Rattle.locate.specs.Locating.{part_of}
 use Rattle.locate.proofs.Locating.{locate_refused, start_whole, locate_found, part_found, part_absent, part_refused}
-use Rattle.parties.specs.Parties.{span_of, first_value, parties_of}
+use Rattle.parties.specs.Parties.{spelled_parties, span_of, first_value, parties_of}
 
 -- ---- elements one after another
 
@@ -168,9 +164,9 @@ run_ends c s from at end run (e, l, m) =
     (e ∙ sym same, omega (arith, run.0), λ h. m (run_inside c s run h))
 
 -- the part that was found
-abbrev found_span : Found → Span
-found_span (At offset size) = record { offset = offset; length = size }
-found_span Absent = record { offset = 0; length = 0 }
+abbrev found_span : Perhaps Span → Span
+found_span (Some part) = part
+found_span None = record { offset = 0; length = 0 }
 
 placed_span : (v : Option Value) → found_span (placed v) ≡ span_of v
 unfolding placed span_of maybe
@@ -214,11 +210,11 @@ module _ (s : List ℕ) (a : refusal_of s ≡ none) {i : Figures} (j : i ≡ fig
       subst Whole (sym e) (from_whole (ends 0) (ends 1) n here (start_whole s 0 0 0 0 a j b body (refl, λ k. k)))
 
   -- what is found of an element, told as a part
-  found_part : (element : ℕ) (f : Found) → f ≡ placed (value_at (trimmed (segment_at i.characters s body)) element 0 0)
+  found_part : (element : ℕ) (f : Perhaps Span) → f ≡ placed (value_at (trimmed (segment_at i.characters s body)) element 0 0)
       → found_span f ≡ part_of s 0 element 0 0
   unfolding piece_from
-  found_part element (At o n) e = part_found s 0 element 0 0 (locate_found s 0 element 0 0 a j b body (refl, λ k. k) e) refl
-  found_part element Absent e = part_absent s 0 element 0 0 (locate_found s 0 element 0 0 a j b body (refl, λ k. k) e) refl
+  found_part element (Some part) e = part_found s 0 element 0 0 (locate_found s 0 element 0 0 a j b body (refl, λ k. k) e) refl
+  found_part element None e = part_absent s 0 element 0 0 (locate_found s 0 element 0 0 a j b body (refl, λ k. k) e) refl
 
   -- trimming leaves the first value of an element where it leaves the element
   stays_with : (ts : List Token) → ((holds_byte 0 ts && not (is_empty ts)) && not (is_empty ts)) ≡ holds_byte 0 ts
@@ -246,24 +242,12 @@ module _ (s : List ℕ) (a : refusal_of s ≡ none) {i : Figures} (j : i ≡ fig
 
   pub parties_found : {sender recipient reference : Span} → sender ≡ part_of s 0 2 0 0 → recipient ≡ part_of s 0 3 0 0
       → reference ≡ part_of s 0 5 0 0
-      → record { outcome = Passed; sender = sender; recipient = recipient; reference = reference } ≡ parties_of s
-  unfolding parties_of outcome
+      → Ok (record { sender = sender; recipient = recipient; reference = reference }) ≡ parties_of s
+  unfolding parties_of spelled_parties maybe
   parties_found x y z =
-      λ k. record { outcome = sym (ap outcome a) k; sender = x k; recipient = y k; reference = z k }
+      (λ k. Ok (record { sender = x k; recipient = y k; reference = z k })) ∙ sym (ap (maybe (Ok (spelled_parties s)) Err) a)
 
--- Judge's refusal answers, and there is no part
-pub parties_refused : (s : List ℕ) {r : Refusal} {x y z : Span} → refusal_of s ≡ some r → x ≡ record { offset = 0; length = 0 }
-    → y ≡ record { offset = 0; length = 0 } → z ≡ record { offset = 0; length = 0 }
-    → record { outcome = Failed r; sender = x; recipient = y; reference = z } ≡ parties_of s
-unfolding parties_of outcome
-parties_refused s {r} e p q w =
-    λ k.
-    record {
-      outcome = sym (ap outcome e) k;
-      sender = (p ∙ none_in 2) k;
-      recipient = (q ∙ none_in 3) k;
-      reference = (w ∙ none_in 5) k;
-    }
-  where
-    none_in : (element : ℕ) → record { offset = 0; length = 0 } ≡ part_of s 0 element 0 0
-    none_in element = part_refused s 0 element 0 0 (locate_refused s 0 element 0 0 e) refl
+-- Judge's refusal answers
+pub parties_refused : (s : List ℕ) {r : Refusal} → refusal_of s ≡ some r → Err r ≡ parties_of s
+unfolding parties_of maybe
+parties_refused s {r} e = sym (ap (maybe (Ok (spelled_parties s)) Err) e)

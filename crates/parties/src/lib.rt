@@ -10,17 +10,14 @@ ghost use Rattle.elements.specs.Elements.{ElementAt, holds_byte};
 ghost use Rattle.plain_runs.specs.Runs.{PlainRun};
 ghost use Rattle.parties.specs.Parties.{parties_of, first_value};
 
-use answers::Judged;
 use characters::Characters;
 use elements::{holds_byte, piece_at, value_end};
-use locate::Span;
-use refusals::Outcome;
+use refusals::Refusal;
+use values::Span;
 
-// Where each is spelled in the input, or zero bytes at its start; and what refused the input, and then each
-// is zero bytes.
+// Where each is spelled in the input, or zero bytes at its start.
 #[derive(Clone, Copy)]
 pub struct Parties {
-    pub outcome: Outcome,
     pub sender: Span,
     pub recipient: Span,
     pub reference: Span,
@@ -41,8 +38,7 @@ fn nothing() -> Span
 fn next_element(s: &[u8], c: Characters, from: usize) -> usize
     ensures { ElementAt c s.now from 1 result }
 {
-    let mut at = from;
-    while at < s.len() {
+    for at in from..s.len() {
         let b = s[at];
         if (b == c.terminator) | (b == c.release) {
             return piece_at(s, c, at, 1, 1);
@@ -50,9 +46,8 @@ fn next_element(s: &[u8], c: Characters, from: usize) -> usize
         if b == c.element {
             return at + 1;
         }
-        at += 1;
     }
-    piece_at(s, c, at, 1, 1)
+    piece_at(s, c, from.max(s.len()), 1, 1)
 }
 
 // Where the element after the next begins.
@@ -78,14 +73,12 @@ fn may_serve(c: Characters, b: u8) -> bool
 fn run_end(s: &[u8], c: Characters, from: usize) -> usize
     ensures { PlainRun c s.now from result }
 {
-    let mut at = from;
-    while at < s.len() {
+    for at in from..s.len() {
         if may_serve(c, s[at]) {
             return at;
         }
-        at += 1;
     }
-    at
+    from.max(s.len())
 }
 
 // Trimming keeps the element that begins at `from`, which is not the tag, with plain bytes up to `at`.
@@ -116,31 +109,21 @@ fn first_value(s: &[u8], c: Characters, from: usize, at: usize) -> Span
     }
 }
 
-// The parties of an input.
-pub fn parties_of(s: &[u8]) -> Parties
+// The parties of an input that Judge accepts.
+pub fn parties_of(s: &[u8]) -> Result<Parties, Refusal>
     ensures { result ≡ parties_of s.now }
 {
-    match judge::judge(s) {
-        Judged::Refused(refusal) => Parties {
-            outcome: Outcome::Failed(refusal),
-            sender: nothing(),
-            recipient: nothing(),
-            reference: nothing(),
-        },
-        Judged::Accepted(i) => {
-            let c = i.characters;
-            let second = element_after(s, c, stage_opening::body_start(s));
-            let sender = run_end(s, c, second);
-            let third = next_element(s, c, sender);
-            let recipient = run_end(s, c, third);
-            let fifth = element_after(s, c, recipient);
-            let reference = run_end(s, c, fifth);
-            Parties {
-                outcome: Outcome::Passed,
-                sender: first_value(s, c, second, sender),
-                recipient: first_value(s, c, third, recipient),
-                reference: first_value(s, c, fifth, reference),
-            }
-        }
-    }
+    let figures = judge::judge(s)?;
+    let c = figures.characters;
+    let second = element_after(s, c, stage_opening::body_start(s));
+    let sender = run_end(s, c, second);
+    let third = next_element(s, c, sender);
+    let recipient = run_end(s, c, third);
+    let fifth = element_after(s, c, recipient);
+    let reference = run_end(s, c, fifth);
+    Ok(Parties {
+        sender: first_value(s, c, second, sender),
+        recipient: first_value(s, c, third, recipient),
+        reference: first_value(s, c, fifth, reference),
+    })
 }

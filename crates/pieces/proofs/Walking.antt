@@ -1,5 +1,5 @@
 -- How a piece ends: the walk to its end, by what the scanner says of the segment that begins at a place. Assumes nothing.
-use Rattle.std.specs.Prelude.{if◌then◌else◌}
+use Rattle.std.specs.Prelude.{if◌then◌else◌, Ok, Err}
 use Prim.Native.Nat.{ℕ, ◌+◌, ◌≤◌, ◌<◌}
 use mathlib.Core.Path.{◌≡◌, refl, sym, ap, ap₂, ◌∙◌, subst}
 use mathlib.Core.Bool.{Bool, true, false, not, ◌&&◌, ◌||◌, and-false}
@@ -39,9 +39,7 @@ use Rattle.stage_walks.specs.Walks.{worded}
 use Rattle.stage_walks.proofs.Worded.{worded_answers}
 use Rattle.stage_segments.proofs.Stage.{worded_end, worded_stray, worded_unended, worded_broken, worded_next}
 use Rattle.stage_opening.specs.declared.Found.{Found}
-use Rattle.stage_opening.specs.declared.Progress.{Progress}
-use Rattle.stage_opening.specs.declared.Progress.TheVariants.{Passed, Refused}
-use Rattle.stage_opening.specs.Runs.{found_by, progress}
+use Rattle.stage_opening.specs.Runs.{found_by, progress, Progress}
 use Rattle.stage_opening.proofs.Openings.{opening_unusable, opening_missing, opening_passed}
 use Rattle.stage_opening.proofs.Runs.{refused_is, passed_is}
 use Rattle.tags.proofs.Reading.{through_hit, through_miss}
@@ -206,7 +204,7 @@ module _ (s : List ℕ) (some_byte : length s ≡ 0 → ⊥) {answer : Progress}
       not_empty (b ∷ bs) n = refl
 
   -- 2 or 3 is met
-  pub ending_unopened : {r : Refusal} → answer ≡ Refused r → Stopped r ≡ ending_of s
+  pub ending_unopened : {r : Refusal} → answer ≡ Err r → Stopped r ≡ ending_of s
   unfolding ending_of ending or_else maybe unz_of is_unopened
   ending_unopened {r} d =
       let none_there = step (bad_advice s) (opens s) refl refl in
@@ -220,7 +218,7 @@ module _ (s : List ℕ) (some_byte : length s ≡ 0 → ⊥) {answer : Progress}
           absurd (omega arith)
 
   -- neither is: the walk begins with the body
-  pub ending_opened : {found : Found} → answer ≡ Passed found → ending_from found.characters s found.start ≡ ending_of s
+  pub ending_opened : {found : Found} → answer ≡ Ok found → ending_from found.characters s found.start ≡ ending_of s
   unfolding ending_of ending_from segments_of body_tokens tokens_at body found_by unz_of is_unopened ending maybe or_else
   ending_opened {found} d =
       let p = passed_is s 2 3 e d in
@@ -255,7 +253,7 @@ end_walked c s at = end_by s (first_unz (segments (tokens_at c s at))) (worded (
 
 module _ (s : List ℕ) {answer : Progress} (e : answer ≡ progress 2 3 s) where
   -- 2 or 3 is met: the rest is one piece
-  pub end_unopened : {r : Refusal} → answer ≡ Refused r → length s ≡ piece_end s
+  pub end_unopened : {r : Refusal} → answer ≡ Err r → length s ≡ piece_end s
   unfolding piece_end unz_of is_unopened maybe
   end_unopened {r} d = step (bad_advice s) (opens s) refl refl
     where
@@ -268,7 +266,7 @@ module _ (s : List ℕ) {answer : Progress} (e : answer ≡ progress 2 3 s) wher
           absurd (omega arith)
 
   -- neither is: the walk begins with the body
-  pub end_opened : {found : Found} → answer ≡ Passed found → end_from found.characters s found.start ≡ piece_end s
+  pub end_opened : {found : Found} → answer ≡ Ok found → end_from found.characters s found.start ≡ piece_end s
   unfolding piece_end unz_of is_unopened end_from segments_of body_tokens tokens_at body found_by
   end_opened {found} d = step (bad_advice s) (opens s) refl refl
     where

@@ -11,7 +11,6 @@ use characters::Characters;
 use refusals::{Fault, Refusal};
 use scanner::{Scanned, scan};
 use segments::Kind;
-use stage_opening::Progress;
 use tags::{kind_at, tag_holds};
 
 // How a piece ends: after its UNZ and the breaks behind that, at this place; or with the rest of the file, where
@@ -32,16 +31,7 @@ fn stopped(fault: Fault, place: usize) -> Ending
 fn is_unz(kind: Kind) -> bool
     ensures { result ≡ is_unz kind }
 {
-    match kind {
-        Kind::Unb => false,
-        Kind::Ung => false,
-        Kind::Unh => false,
-        Kind::Uns => false,
-        Kind::Unt => false,
-        Kind::Une => false,
-        Kind::Unz => true,
-        Kind::User => false,
-    }
+    matches!(kind, Kind::Unz)
 }
 
 // How the piece ends of which a segment begins at `start`.
@@ -79,8 +69,8 @@ pub fn first_piece(rest: &[u8]) -> Ending
         return Ending::FileEnd;
     }
     match stage_opening::opening_of(rest) {
-        Progress::Refused(refusal) => Ending::Stopped(refusal),
-        Progress::Passed(found) => {
+        Err(refusal) => Ending::Stopped(refusal),
+        Ok(found) => {
             let c = found.characters;
             unz_ending(rest, c, found.start)
         }
@@ -93,8 +83,7 @@ pub fn end_in(rest: &[u8], ending: Ending) -> usize
 {
     match ending {
         Ending::AfterUnz(end) => end,
-        Ending::Stopped(_) => rest.len(),
-        Ending::FileEnd => rest.len(),
+        Ending::Stopped(_) | Ending::FileEnd => rest.len(),
     }
 }
 
@@ -111,8 +100,8 @@ pub fn piece_end(rest: &[u8]) -> usize
     ensures { result ≡ piece_end rest.now }
 {
     match stage_opening::opening_of(rest) {
-        Progress::Refused(_) => rest.len(),
-        Progress::Passed(found) => {
+        Err(_) => rest.len(),
+        Ok(found) => {
             let c = found.characters;
             unz_end(rest, c, found.start)
         }

@@ -2,11 +2,12 @@
 use Prim.Native.Nat.{ℕ, zero, suc, ◌+◌, ◌-◌, ◌≤◌, ◌<◌}
 use mathlib.Core.Path.{◌≡◌, refl, sym, ap, subst, ◌∙◌}
 use mathlib.Core.Bool.{false, false≢true}
-use mathlib.Core.List.{List, ◌∷◌}
+use mathlib.Core.List.{List, [], ◌∷◌, ◌++◌}
 use native.Mathlib.Omega.{arith}
 use native.Mathlib.Decide.{dec_le}
 use native.Mathlib.Nat.{lt_of_not-le}
-use lib.ListN.{length, get_or}
+use lib.ListN.{length, get_or, take, drop, length-drop}
+use lib.Seq.{take-suc, get_or-drop, length-take-le}
 use Rattle.characters.specs.declared.Characters.{Characters}
 use Rattle.characters.specs.declared.Role.{Role}
 use Rattle.characters.specs.declared.Role.TheVariants.{Separator, Release, Plain}
@@ -14,6 +15,8 @@ use Rattle.characters.specs.Characters.{role, is_service}
 use Rattle.values.specs.Tokens.{byte, tokens_at}
 use Rattle.values.proofs.Steps.{at_plain}
 use Rattle.spelling_laws.proofs.Service.{serves, service_serves}
+use Rattle.storing.specs.Sinks.{SinkLaws}
+use Rattle.storing.proofs.Putting.{put_after}
 use Rattle.plain_runs.specs.Runs.{PlainRun}
 
 module _ (c : Characters) where
@@ -72,3 +75,25 @@ module _ (c : Characters) where
           where
             next : from + n + 1 ≡ from + suc n
             next = omega arith
+
+-- ---- a run that a sink takes
+
+module _ {holds : List ℕ → ℕ → List ℕ → List ℕ} {room : List ℕ → ℕ} (laws : SinkLaws holds room) (s : List ℕ) where
+  -- nothing of it changes nothing
+  pub none_put : (from into : ℕ) (buffer : List ℕ) → buffer ≡ holds buffer into (take (from - from) (drop from s))
+  none_put from into buffer =
+      let none : 0 ≡ from - from = omega arith in
+      sym (laws.none buffer into) ∙ ap (λ (k : ℕ). holds buffer into (take k (drop from s))) none
+
+  -- a byte more is put after it
+  pub run_put : {from at : ℕ} → from ≤ at → at < length s → (buffer : List ℕ) (into : ℕ) {to : ℕ} → to ≡ into + (at - from)
+      → holds buffer into (take (at + 1 - from) (drop from s)) ≡ holds (holds buffer into (take (at - from) (drop from s))) to (get_or s at 0 ∷ [])
+  run_put {from} {at} l h buffer into d =
+      let front = take (at - from) (drop from s) in
+      let next : at + 1 - from ≡ suc (at - from) = omega arith in
+      let there : from + (at - from) ≡ at = omega arith in
+      let long = length-take-le (at - from) (drop from s) (omega (arith, length-drop from s)) in
+      ap (λ (k : ℕ). holds buffer into (take k (drop from s))) next
+      ∙ ap (holds buffer into) (take-suc (drop from s) (at - from) 0 (omega (arith, length-drop from s)))
+      ∙ ap (λ (b : ℕ). holds buffer into (front ++ (b ∷ []))) (get_or-drop from s (at - from) 0 ∙ ap (λ (k : ℕ). get_or s k 0) there)
+      ∙ sym (put_after laws buffer into front (get_or s at 0 ∷ []) refl (d ∙ ap (λ (k : ℕ). into + k) (sym long)) refl)

@@ -1,33 +1,40 @@
 // Runs of plain bytes: bytes of which none is a service character, so that each is a byte of a value and
-// stands for itself. It promises that each byte of a run is there and is plain, and every byte of a buffer
-// that a run is stored in.
+// stands for itself. It promises that each byte of a run is there and is plain, and what a sink holds
+// that a run is put into.
 #![tactic(auto)]
 
 ghost use Rattle.std.specs.Prelude.{◌≡◌, ◌+◌, ◌-◌, ◌≤◌, length, take, drop};
-ghost use Rattle.std.proofs.lemmas.List.Edits.{sets};
 ghost use Rattle.plain_runs.specs.Runs.{PlainRun};
 
 use characters::Characters;
-use storing::{copy, is_service};
+use storing::{Measured, Sink, Stored, is_service, put_short};
 
 // The place after a run of plain bytes.
 pub fn past_plain(s: &[u8], c: Characters, from: usize) -> usize
     ensures { PlainRun c s.now from result }
 {
-    let mut at = from;
-    while at < s.len() {
+    for at in from..s.len() {
         if is_service(c, s[at]) {
             return at;
         }
-        at += 1;
     }
-    at
+    from.max(s.len())
 }
 
-// Stores the bytes from a place up to another, from a place of the buffer on.
-pub fn put_plain(buffer: &mut [u8], into: usize, s: &[u8], from: usize, to: usize)
-    requires { (from ≤ to) × (to ≤ length s.now) × (into + (to - from) ≤ length buffer.old) }
-    ensures { buffer.new ≡ sets buffer.old into (take (to - from) (drop from s.now)) }
-{
-    copy(buffer, into, &s[from..to], 0);
+// A sink that takes a run whole: where it is measured alone, nothing goes over its bytes.
+pub trait RunSink: Sink {
+    // Puts the bytes from a place up to another, which are few most often, from a place of the buffer on.
+    fn put_plain(buffer: &mut [u8], into: usize, s: &[u8], from: usize, to: usize)
+        requires { (from ≤ to) × (to ≤ length s.now) × (into + (to - from) ≤ Self.room buffer.old) }
+        ensures { buffer.new ≡ Self.holds buffer.old into (take (to - from) (drop from s.now)) };
+}
+
+impl RunSink for Stored {
+    fn put_plain(buffer: &mut [u8], into: usize, s: &[u8], from: usize, to: usize) {
+        put_short(buffer, into, &s[from..to]);
+    }
+}
+
+impl RunSink for Measured {
+    fn put_plain(_buffer: &mut [u8], _into: usize, _s: &[u8], _from: usize, _to: usize) {}
 }

@@ -3,7 +3,7 @@
 // written, which no contract can say.
 #![tactic(auto)]
 
-use answers::Compared;
+use answers::Unaccepted;
 use refusals::Refusal;
 use std::io;
 use std::io::{Cursor, Print, Write};
@@ -20,20 +20,19 @@ pub fn print_value(rt: &impl Print, value: u64) -> io::Result<()> {
 
 // The line of a refusal, after the words that it begins with.
 pub fn print_refused(rt: &impl Print, words: &[u8], refusal: Refusal) -> io::Result<()> {
-    let fault = refusal.fault;
     rt.write_all(words)?;
-    print_value(rt, refusing::number_of(fault) as u64)?;
+    print_value(rt, u64::from(refusing::number_of(refusal.fault)))?;
     print_value(rt, refusal.place as u64)?;
     rt.write_all(b"\n")
 }
 
 // "same, different, or refusal with 1st or 2nd input"
-pub fn print_compared(rt: &impl Print, compared: Compared) -> io::Result<()> {
+pub fn print_compared(rt: &impl Print, compared: Result<bool, Unaccepted>) -> io::Result<()> {
     match compared {
-        Compared::Same => print_line(rt, b"same"),
-        Compared::Different => print_line(rt, b"different"),
-        Compared::FirstRefused(refusal) => print_refused(rt, b"refused 1", refusal),
-        Compared::SecondRefused(refusal) => print_refused(rt, b"refused 2", refusal),
+        Ok(true) => print_line(rt, b"same"),
+        Ok(false) => print_line(rt, b"different"),
+        Err(Unaccepted::First(refusal)) => print_refused(rt, b"refused 1", refusal),
+        Err(Unaccepted::Second(refusal)) => print_refused(rt, b"refused 2", refusal),
     }
 }
 

@@ -1,4 +1,5 @@
 -- What is stored is the value list, with the rest of both buffers as it was; and what is answered. Assumes nothing.
+use Rattle.std.specs.Prelude.{Ok, Err}
 use Prim.Native.Nat.{ℕ, ◌≤◌, ◌<◌}
 use mathlib.Core.Path.{◌≡◌, sym, ap, ap₂, ◌∙◌}
 use mathlib.Core.Bool.{false}
@@ -21,7 +22,6 @@ use Rattle.normal_form_laws.proofs.Normal.{contents_shaped}
 use Rattle.judge.proofs.Bodies.{accepted_ended}
 use Rattle.read_counts.specs.Tally.{table_of}
 use Rattle.read_counts.proofs.Contents.{contents_bytes, contents_table}
-use Rattle.answers.specs.declared.Listed.TheVariants.{Values, Refused}
 use Rattle.answers.specs.Answers.{given, told_listed}
 use Rattle.operations.specs.Judge.{stored_in}
 use Rattle.contracts.specs.Promises.{Reads}
@@ -60,28 +60,28 @@ module _ (s : List ℕ) (a : refusal_of s ≡ none) {c : Characters} {start : �
 
 module _ (buffer table s : List ℕ) where
   -- a refusal answers, and both buffers are unchanged
-  refuses : {r : Refusal} → read_refusal buffer table s ≡ some r → Reads buffer table s (Refused r) buffer table
+  refuses : {r : Refusal} → read_refusal buffer table s ≡ some r → Reads buffer table s (Err r) buffer table
   unfolding told_listed
   refuses e = let (told, bytes, numbers) = read_refused buffer table s e in (sym told, sym bytes, sym numbers)
 
-  pub judge_refuses : {r : Refusal} → refusal_of s ≡ some r → Reads buffer table s (Refused r) buffer table
+  pub judge_refuses : {r : Refusal} → refusal_of s ≡ some r → Reads buffer table s (Err r) buffer table
   judge_refuses e = refuses (read_judged buffer table s e)
 
   module _ (a : refusal_of s ≡ none) where
     pub bytes_refused : {n : ℕ} → n ≡ length (value_bytes s) → length buffer < n
-        → Reads buffer table s (Refused (record { fault = BufferShort; place = n })) buffer table
+        → Reads buffer table s (Err (record { fault = BufferShort; place = n })) buffer table
     bytes_refused {n} e h = refuses (bytes_short buffer table s a (omega (arith, e, h)) ∙ ap (refuse BufferShort) (sym e))
 
     module _ {n : ℕ} (e : n ≡ length (value_bytes s)) (h : n ≤ length buffer) where
       pub table_refused : {m : ℕ} → m ≡ length (value_table s) → length table < m
-          → Reads buffer table s (Refused (record { fault = BufferShort; place = m })) buffer table
+          → Reads buffer table s (Err (record { fault = BufferShort; place = m })) buffer table
       table_refused {m} f k =
           refuses (table_short buffer table s a (omega (arith, e, h)) (omega (arith, f, k)) ∙ ap (refuse BufferShort) (sym f))
 
       -- both are stored
       pub list_stored : {m : ℕ} {bytes numbers bytesAfter tableAfter : List ℕ} → m ≡ length (value_table s) → m ≤ length table
           → value_bytes s ≡ bytes → value_table s ≡ numbers → bytesAfter ≡ sets buffer 0 bytes → tableAfter ≡ sets table 0 numbers
-          → Reads buffer table s (Values n m) bytesAfter tableAfter
+          → Reads buffer table s (Ok (record { bytes = n; numbers = m })) bytesAfter tableAfter
       unfolding told_listed stored_in
       list_stored {m} f k v w p q =
           let fits : length (value_bytes s) ≤ length buffer = omega (arith, e, h) in

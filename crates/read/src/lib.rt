@@ -10,45 +10,36 @@ ghost use Rattle.stages.specs.Stages.{refusal_of};
 ghost use Rattle.operations.specs.Judge.{figures_of};
 ghost use Rattle.contracts.specs.Promises.{Reads};
 
-use answers::{Figures, Judged, Listed};
+use answers::{Figures, Listed};
 use refusals::{Fault, Refusal};
+use refusing::failed;
+use storing::Stored;
 
-// "Lent buffer too short": the number of bytes, or of table numbers, that are needed.
-fn too_short(needed: usize) -> Listed
-    ensures { result ≡ Listed.Refused (record { fault = Fault.BufferShort; place = needed }) }
-{
-    Listed::Refused(Refusal {
-        fault: Fault::BufferShort,
-        place: needed,
-    })
-}
-
-// Stores the value list of an interchange that was accepted.
-fn store_list(buffer: &mut [u8], table: &mut [u32], s: &[u8], i: Figures) -> Listed
+// Stores the value list of an interchange that was accepted. "Lent buffer too short": the place is the number
+// of bytes, or of table numbers, that are needed.
+fn store_list(buffer: &mut [u8], table: &mut [u32], s: &[u8], i: Figures) -> Result<Listed, Refusal>
     requires { (refusal_of s.now ≡ none) × (i ≡ figures_of s.now) }
     ensures { Reads buffer.old table.old s.now result buffer.new table.new }
 {
     let c = i.characters;
     let start = stage_opening::body_start(s);
-    let tally = read_counts::tally_of(s, c, start);
+    let tally = read_stores::tally_of(s, c, start);
     if buffer.len() < tally.bytes {
-        return too_short(tally.bytes);
+        return failed(Fault::BufferShort, tally.bytes);
     }
     if table.len() < tally.numbers {
-        return too_short(tally.numbers);
+        return failed(Fault::BufferShort, tally.numbers);
     }
-    read_stores::put_values(buffer, table, s, c, start);
-    Listed::Values {
+    read_stores::put_values::<Stored>(buffer, table, s, c, start);
+    Ok(Listed {
         bytes: tally.bytes,
         numbers: tally.numbers,
-    }
+    })
 }
 
-pub fn read(buffer: &mut [u8], table: &mut [u32], s: &[u8]) -> Listed
+pub fn read(buffer: &mut [u8], table: &mut [u32], s: &[u8]) -> Result<Listed, Refusal>
     ensures { Reads buffer.old table.old s.now result buffer.new table.new }
 {
-    match judge::judge(s) {
-        Judged::Refused(r) => Listed::Refused(r),
-        Judged::Accepted(i) => store_list(buffer, table, s, i),
-    }
+    let figures = judge::judge(s)?;
+    store_list(buffer, table, s, figures)
 }

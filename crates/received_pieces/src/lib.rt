@@ -1,12 +1,11 @@
 // A value or an element of a received input, where it is spelled, written again under other service characters (request
-// 2026-11): the tokens of the piece without what ends it go through the steps of `held_separators`, which trim it. How long
-// the piece is then, its bytes in a lent buffer, and how many values trimming leaves in an element. It promises what
+// 2026-11): the tokens of the piece without what ends it go through the steps of `held_separators`, which trim it. Its bytes, which a
+// sink stores in a lent buffer or measures alone, and how many values trimming leaves in an element. It promises what
 // `emission_laws` gives for these tokens; that they are the tokens of the trimmed piece is proved in proofs/.
 #![tactic(auto)]
 
 ghost use Rattle.std.specs.Prelude.{◌≡◌, ◌+◌, ◌*◌, ◌≤◌, length};
 ghost use Rattle.values.specs.Tokens.{tokens_at};
-ghost use Rattle.emission_laws.specs.Emission.{after};
 ghost use Rattle.held_separators.specs.Putting.{Countable, Fits, Puts};
 ghost use Rattle.read_counts.specs.Tally.{table_of};
 ghost use Rattle.refusals.specs.Limits.{most_bytes};
@@ -14,9 +13,10 @@ ghost use Rattle.received_pieces.specs.Pieces.{piece_of, NextIn, ended};
 
 use characters::Characters;
 use emission_laws::Measure;
-use held_separators::{put_separator, put_value_byte, with_byte, with_separator};
+use held_separators::{put_separator, put_value_byte};
 use read_counts::start_of_list;
 use scanner::{Lexed, lex};
+use storing::Sink;
 
 // What is next in a piece: a byte of a value, a separator inside it, or its end.
 #[derive(Clone, Copy)]
@@ -33,11 +33,7 @@ fn next_in(s: &[u8], d: Characters, rank: u8, from: usize) -> Within
     let mut at = from;
     loop {
         match lex(s, d, at) {
-            Lexed::Byte {
-                byte,
-                place: _,
-                next,
-            } => {
+            Lexed::Byte { byte, next, .. } => {
                 return Within::Byte { byte, next };
             }
             Lexed::Separator { rank: found, next } => {
@@ -56,40 +52,10 @@ fn next_in(s: &[u8], d: Characters, rank: u8, from: usize) -> Within
     }
 }
 
-// ---- measuring and storing
+// ---- its bytes
 
 // Past the piece that begins at a place.
-pub fn with_piece(
-    m: Measure,
-    c: Characters,
-    s: &[u8],
-    d: Characters,
-    rank: u8,
-    from: usize,
-) -> Measure
-    requires { Countable m (length s.now) }
-    ensures { result ≡ after c m (piece_of rank (tokens_at d s.now from)) }
-{
-    let mut n = m;
-    let mut at = from;
-    loop {
-        match next_in(s, d, rank, at) {
-            Within::Byte { byte, next } => {
-                n = with_byte(n, c, byte);
-                at = next;
-            }
-            Within::Separator { rank: found, next } => {
-                n = with_separator(n, found);
-                at = next;
-            }
-            Within::Ended => {
-                return n;
-            }
-        }
-    }
-}
-
-pub fn put_piece(
+pub fn put_piece<S: Sink>(
     buffer: &mut [u8],
     m: Measure,
     c: Characters,
@@ -98,19 +64,19 @@ pub fn put_piece(
     rank: u8,
     from: usize,
 ) -> Measure
-    requires { (Fits c buffer.old m (piece_of rank (tokens_at d s.now from))) × (Countable m (length s.now)) }
-    ensures { Puts c buffer.old m (piece_of rank (tokens_at d s.now from)) buffer.new result }
+    requires { (Fits S.room c buffer.old m (piece_of rank (tokens_at d s.now from))) × (Countable m (length s.now)) }
+    ensures { Puts S.holds c buffer.old m (piece_of rank (tokens_at d s.now from)) buffer.new result }
 {
     let mut n = m;
     let mut at = from;
     loop {
         match next_in(s, d, rank, at) {
             Within::Byte { byte, next } => {
-                n = put_value_byte(buffer, n, c, byte);
+                n = put_value_byte::<S>(buffer, n, c, byte);
                 at = next;
             }
             Within::Separator { rank: found, next } => {
-                n = put_separator(buffer, n, c, found);
+                n = put_separator::<S>(buffer, n, c, found);
                 at = next;
             }
             Within::Ended => {
@@ -131,7 +97,7 @@ pub fn values_in(s: &[u8], d: Characters, from: usize) -> usize
     let mut at = from;
     loop {
         match next_in(s, d, 1, at) {
-            Within::Byte { byte: _, next } => {
+            Within::Byte { next, .. } => {
                 l = read_counts::with_byte(l);
                 at = next;
             }

@@ -1,5 +1,5 @@
 -- What is met at places, and which stage answers: the first in which anything is met. Assumes nothing.
-use Rattle.std.specs.Prelude.{if◌then◌else◌}
+use Rattle.std.specs.Prelude.{if◌then◌else◌, Ok, Err}
 use Prim.Native.Nat.{ℕ, ◌≤◌}
 use mathlib.Core.Path.{◌≡◌, refl, sym, ap, ap₂, subst, ◌∙◌}
 use mathlib.Core.Bool.{Bool, true, false, not, true≢false, false≢true}
@@ -11,7 +11,6 @@ use native.Mathlib.Omega.{arith}
 use Rattle.lists.proofs.Texts.{if_false}
 use Rattle.refusals.specs.declared.Fault.{Fault}
 use Rattle.refusals.specs.declared.Refusal.{Refusal}
-use Rattle.refusals.specs.declared.Outcome.TheVariants.{Passed, Failed}
 use Rattle.refusals.specs.Refusals.{Stage, met, place_if, is_lower, lower_of, lowest, or_else, answering, outcome}
 use Rattle.refusals.proofs.Order.{key, not_lower}
 use Rattle.refusals.proofs.Lowest.{lowest_none}
@@ -108,12 +107,12 @@ or_else_neither none p h = (refl, h)
 or_else_neither (some r) p h = absurd (some-ne-none r h)
 
 -- a stage's outcome gives its answer
-pub failed_is : (o : Option Refusal) (r : Refusal) → outcome o ≡ Failed r → o ≡ some r
+pub failed_is : (o : Option Refusal) (r : Refusal) → outcome o ≡ Err r → o ≡ some r
 unfolding outcome
 failed_is none r e = cc
 failed_is (some q) r e = cc
 
-pub passed_is : (o : Option Refusal) → outcome o ≡ Passed → o ≡ none
+pub passed_is : (o : Option Refusal) → outcome o ≡ Ok tt → o ≡ none
 unfolding outcome
 passed_is none e = refl
 passed_is (some q) e = cc

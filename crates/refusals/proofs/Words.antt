@@ -1,4 +1,5 @@
 -- What the definitions say in numbers: the number of each refusal, and which of two is lower. Assumes nothing.
+use Rattle.std.specs.Prelude.{Ok, Err}
 use Prim.Native.Nat.{ℕ, ◌+◌, ◌*◌, ◌≤◌, ◌<◌}
 use mathlib.Core.Path.{◌≡◌, refl, ap}
 use mathlib.Core.Bool.{Bool, true, false, ◌&&◌, false≢true}
@@ -11,7 +12,6 @@ use Rattle.lists.proofs.Tests.{Says, says_eq, says_lt, says_both, says_either, f
 use Rattle.refusals.specs.declared.Fault.{Fault}
 use Rattle.refusals.specs.declared.Fault.TheVariants.{TooLong, UnusableAdvice, NoOpening, StrayRelease, UnendedSegment, BrokenTag, ForeignLevel, OutsideLevel, MisplacedSegment, BadControl, ReferenceDiffers, CountWrong, NormalTooLong, BufferShort, BadList, NeedsRelease, NoFreeSlot, NoRoom, UnsoundShelf, FreeSlot, UnsoundTable, UnmatchedBody, NoAcknowledgement, NoColumns}
 use Rattle.refusals.specs.declared.Refusal.{Refusal}
-use Rattle.refusals.specs.declared.Outcome.TheVariants.{Passed, Failed}
 use Rattle.refusals.specs.Limits.{most_bytes, most_numbers, most_spelled}
 use Rattle.refusals.specs.Refusals.{number, Stage, met, is_lower, lowest, or_else, answering, outcome, failed_at, place_if}
 use Rattle.refusals.proofs.Lowest.{lowest_answers}
@@ -45,9 +45,9 @@ place_says false p q s = (λ m. absurd (mathlib.Core.List.Memᴰ.not-nil m), λ 
 
 -- what a stage answers, as an outcome
 pub outcome_is : (f : Fault) (p : ℕ)
-    → (outcome none ≡ Passed)
-    × (outcome (some (record { fault = f; place = p })) ≡ Failed (record { fault = f; place = p }))
-    × (failed_at f p ≡ Failed (record { fault = f; place = p }))
+    → (outcome none ≡ Ok tt)
+    × (outcome (some (record { fault = f; place = p })) ≡ Err (record { fault = f; place = p }))
+    × (failed_at f p ≡ Err (record { fault = f; place = p }))
 unfolding outcome
 outcome_is f p = (refl, refl, refl)
 

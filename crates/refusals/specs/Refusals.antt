@@ -1,11 +1,9 @@
 -- Paper 01, "Refusals by number": the numbers, and which refusal answers. Assumes nothing.
-use Rattle.std.specs.Prelude.{ℕ, Bool, ◌&&◌, ◌||◌, List, [], ◌∷◌, eqb, ltb, if◌then◌else◌}
+use Rattle.std.specs.Prelude.{ℕ, Bool, ◌&&◌, ◌||◌, List, [], ◌∷◌, eqb, ltb, if◌then◌else◌, Ok, Err, Result}
 use Rattle.std.proofs.Math.Option.{Option, none, some}
 use Rattle.refusals.specs.declared.Fault.{Fault}
 use Rattle.refusals.specs.declared.Fault.TheVariants.{TooLong, UnusableAdvice, NoOpening, StrayRelease, UnendedSegment, BrokenTag, ForeignLevel, OutsideLevel, MisplacedSegment, BadControl, ReferenceDiffers, CountWrong, NormalTooLong, BufferShort, BadList, NeedsRelease, NoFreeSlot, NoRoom, UnsoundShelf, FreeSlot, UnsoundTable, UnmatchedBody, NoAcknowledgement, NoColumns}
 use Rattle.refusals.specs.declared.Refusal.{Refusal}
-use Rattle.refusals.specs.declared.Outcome.{Outcome}
-use Rattle.refusals.specs.declared.Outcome.TheVariants.{Passed, Failed}
 
 -- the paper's number of each
 abbrev pub number : Fault → ℕ
@@ -64,14 +62,18 @@ unfoldable pub answering : List Stage → Option Refusal
 answering [] = none
 answering (stage ∷ stages) = or_else (lowest stage) (answering stages)
 
+-- what a stage answers: nothing, where it passes, or the refusal
+abbrev pub Outcome : Type 0
+Outcome = Result (Unit {0}) Refusal
+
 -- the outcome of a stage, from the refusal that it answers
 unfoldable pub outcome : Option Refusal → Outcome
-outcome none = Passed
-outcome (some r) = Failed r
+outcome none = Ok tt
+outcome (some r) = Err r
 
 -- the outcome of a stage that answers this refusal
 abbrev pub failed_at : Fault → ℕ → Outcome
-failed_at fault place = Failed (record { fault = fault; place = place })
+failed_at fault place = Err (record { fault = fault; place = place })
 
 -- the place, where the refusal is met
 unfoldable pub place_if : Bool → ℕ → List ℕ

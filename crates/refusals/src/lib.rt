@@ -43,10 +43,3 @@ pub struct Refusal {
     pub fault: Fault,
     pub place: usize,
 }
-
-// The outcome of a stage.
-#[derive(Clone, Copy)]
-pub enum Outcome {
-    Passed,
-    Failed(Refusal),
-}

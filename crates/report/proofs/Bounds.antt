@@ -1,9 +1,9 @@
 -- How large the figures are: each piece is counted once, and what Judge says of an accepted one is at most 32,000. Assumes nothing.
 use Rattle.std.specs.Prelude.{if◌then◌else◌}
-use Prim.Native.Nat.{ℕ, zero, suc, ◌+◌, ◌*◌, ◌≤◌, ◌<◌}
-use mathlib.Core.Path.{◌≡◌, refl, sym, ap, ◌∙◌, subst}
+use Prim.Native.Nat.{ℕ, zero, suc, ◌+◌, ◌*◌, ◌≤◌}
+use mathlib.Core.Path.{◌≡◌, refl, ap}
 use mathlib.Core.Bool.{Bool, true, false}
-use mathlib.Core.List.{List, [], ◌∷◌, map, reverse, reverse_aux}
+use mathlib.Core.List.{List, [], ◌∷◌, map, reverse_aux}
 use mathlib.Core.Option.{Option, none, some}
 use native.Mathlib.Omega.{arith}
 use lib.ListN.{length, get_or}
@@ -13,7 +13,6 @@ use Rattle.refusals.specs.declared.Fault.TheVariants.{TooLong, NormalTooLong}
 use Rattle.refusals.specs.declared.Refusal.{Refusal}
 use Rattle.refusals.specs.Limits.{most_bytes}
 use Rattle.values.specs.Tokens.{Segment}
-use Rattle.segments.specs.declared.Kind.{Kind}
 use Rattle.segments.specs.declared.Kind.TheVariants.{Unh}
 use Rattle.segments.specs.Kinds.{is}
 use Rattle.segments.specs.Tags.{kind_of}

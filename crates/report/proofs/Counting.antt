@@ -1,7 +1,8 @@
 -- The figures over pieces with one piece more are the figures over the pieces, with that piece counted. Assumes nothing.
+use Rattle.answers.specs.Answers.{Judged}
 use Rattle.std.specs.Prelude.{if◌then◌else◌}
-use Prim.Native.Nat.{ℕ, zero, suc, ◌+◌, ◌≤◌, max}
-use mathlib.Core.Path.{◌≡◌, refl, sym, ap, ◌∙◌, fun_ext}
+use Prim.Native.Nat.{ℕ, suc, ◌+◌, ◌≤◌, max}
+use mathlib.Core.Path.{◌≡◌, refl, ap, ◌∙◌, fun_ext}
 use mathlib.Core.Bool.{Bool, true, false}
 use mathlib.Core.List.{List, [], ◌∷◌, ◌++◌, map, map-append, append-nil}
 use mathlib.Core.Option.{none, some}
@@ -18,14 +19,11 @@ use Rattle.refusals.specs.Refusals.{number}
 use Rattle.stages.specs.Contents.{normal_form}
 use Rattle.stages.specs.Stages.{refusal_of}
 use Rattle.answers.specs.declared.Figures.{Figures}
-use Rattle.answers.specs.declared.Judged.{Judged}
-use Rattle.answers.specs.declared.Judged.TheVariants.{Accepted, Refused}
 use Rattle.operations.specs.Judge.{figures_of, judge}
 use Rattle.operations.specs.Compare.{is_accepted}
-use Rattle.mailbox_files.specs.declared.Report.{Report}
 use Rattle.mailbox_files.specs.Report.{sum, greatest, numbers, refused_under, segments_of_each, messages_of_each, normal_lengths, report_over, no_figures}
 use Rattle.mailbox_files.proofs.Numbers.{refused_number, number_accepted, number_refused, is_accepted_lem, not_accepted}
-use Rattle.report.specs.Counting.{with_accepted, with_refused, counted}
+use Rattle.report.specs.Counting.{with_accepted, with_refused}
 
 abbrev Piece : Type 0
 Piece = List ℕ

@@ -1,24 +1,22 @@
 -- Going through a file piece by piece: what is known at each place, and why it still holds after the next piece. Assumes nothing.
+use Rattle.refusals.specs.declared.Refusal.{Refusal}
+use Rattle.answers.specs.Answers.{Judged}
+use Rattle.std.specs.Prelude.{Ok, Err, Result}
 use Prim.Native.Nat.{ℕ, ◌+◌, ◌-◌, ◌≤◌, ◌<◌}
 use mathlib.Core.Path.{◌≡◌, refl, sym, ap, ap₂, ◌∙◌, subst}
 use mathlib.Core.List.{List, [], ◌∷◌, ◌++◌, append_assoc, append-nil}
 use native.Mathlib.Omega.{arith}
 use lib.ListN.{length, take, drop, length-append, length-drop, drop_of_length-le}
 use lib.Seq.{drop-drop, take_all}
-use Rattle.refusals.specs.declared.Refusal.{Refusal}
 use Rattle.refusals.specs.declared.Fault.TheVariants.{TooLong}
-use Rattle.refusals.specs.declared.Outcome.{Outcome}
-use Rattle.refusals.specs.declared.Outcome.TheVariants.{Passed}
 use Rattle.refusals.specs.Refusals.{failed_at}
 use Rattle.answers.specs.declared.Figures.{Figures}
-use Rattle.answers.specs.declared.Judged.{Judged}
-use Rattle.answers.specs.declared.Judged.TheVariants.{Accepted, Refused}
 use Rattle.operations.specs.Judge.{figures_of}
 use Rattle.contracts.specs.Promises.{Judges}
 use Rattle.judge.proofs.Told.{told_accepted, told_refused}
 use Rattle.mailbox_files.specs.declared.Report.{Report}
 use Rattle.mailbox_files.specs.Pieces.{piece_end, pieces}
-use Rattle.mailbox_files.specs.Report.{most_file, report_over, no_figures, told_outcome, told_reported}
+use Rattle.mailbox_files.specs.Report.{most_file, report_over, no_figures, told_reported}
 use Rattle.mailbox_files.specs.Promises.{Reports}
 use Rattle.mailbox_files.proofs.Pieces.{end_within, no_pieces, pieces_first}
 use Rattle.mailbox_files.proofs.Numbers.{refused_number}
@@ -32,16 +30,16 @@ use Rattle.report.proofs.Bounds.{small, report_within}
 module _ (p : List ℕ) where
   -- what Judge says of it can be counted
   pub countable : (j : Judged) → Judges p j → Countable j
-  countable (Accepted i) h = let told = told_accepted p h refl in subst Small (sym told.1) (small p told.0)
-  countable (Refused r) h = refused_number p r (told_refused p h refl)
+  countable (Ok i) h = let told = told_accepted p h refl in subst Small (sym told.1) (small p told.0)
+  countable (Err r) h = refused_number p r (told_refused p h refl)
 
   -- and the figures with it are those of one piece more
   one_more : (ps : List (List ℕ)) (j : Judged) → Judges p j → report_over (ps ++ p ∷ []) ≡ counted (report_over ps) j
   unfolding counted
-  one_more ps (Accepted i) h =
+  one_more ps (Ok i) h =
       let told = told_accepted p h refl in
-      count_accepted ps p told.0 ∙ ap (λ (f : Figures). counted (report_over ps) (Accepted f)) (sym told.1)
-  one_more ps (Refused r) h = count_refused ps p r (told_refused p h refl)
+      count_accepted ps p told.0 ∙ ap (λ (f : Figures). counted (report_over ps) (Ok f)) (sym told.1)
+  one_more ps (Err r) h = count_refused ps p r (told_refused p h refl)
 
 -- ---- the file up to a place
 
@@ -109,12 +107,10 @@ module _ (file : List ℕ) {report : Report} {at : ℕ} (h : UpTo file report at
 -- ---- what is answered
 
 module _ (file : List ℕ) where
-  pub reports_long : {outcome : Outcome} {figures : Report} → most_file < length file → outcome ≡ failed_at TooLong 0
-      → figures ≡ no_figures → Reports file (record { outcome = outcome; report = figures })
-  unfolding told_reported told_outcome
-  reports_long h o f = ap₂ (λ (x : Outcome) (y : Report). told_reported (record { outcome = x; report = y })) o f ∙ sym (report-long file h)
+  pub reports_long : {r : Result Report Refusal} → most_file < length file → r ≡ Err (record { fault = TooLong; place = 0 }) → Reports file r
+  unfolding told_reported
+  reports_long h e = ap told_reported e ∙ sym (report-long file h)
 
-  pub reports_short : {figures : Report} → length file ≤ most_file → figures ≡ report_over (pieces file)
-      → Reports file (record { outcome = Passed; report = figures })
-  unfolding told_reported told_outcome
-  reports_short h f = ap (λ (y : Report). told_reported (record { outcome = Passed; report = y })) f ∙ sym (report-given file h)
+  pub reports_short : {figures : Report} → length file ≤ most_file → figures ≡ report_over (pieces file) → Reports file (Ok figures)
+  unfolding told_reported
+  reports_short h f = ap (λ (y : Report). told_reported (Ok y)) f ∙ sym (report-given file h)

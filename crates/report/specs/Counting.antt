@@ -1,11 +1,10 @@
 -- A report with one piece more, by what Judge says of it; and how large its figures are. Assumes nothing.
-use Rattle.std.specs.Prelude.{ℕ, ◌+◌, ◌*◌, ◌≤◌, max, ◌≡◌, length, get_or, set}
+use Rattle.answers.specs.Answers.{Judged}
+use Rattle.std.specs.Prelude.{ℕ, ◌+◌, ◌*◌, ◌≤◌, max, ◌≡◌, length, get_or, set, Ok, Err}
 use Rattle.refusals.specs.declared.Refusal.{Refusal}
 use Rattle.refusals.specs.Refusals.{number}
 use Rattle.refusals.specs.Limits.{most_bytes}
 use Rattle.answers.specs.declared.Figures.{Figures}
-use Rattle.answers.specs.declared.Judged.{Judged}
-use Rattle.answers.specs.declared.Judged.TheVariants.{Accepted, Refused}
 use Rattle.mailbox_files.specs.declared.Report.{Report}
 
 -- an accepted piece more
@@ -33,8 +32,8 @@ with_refused r q =
     }
 
 unfoldable pub counted : Report → Judged → Report
-counted r (Accepted i) = with_accepted r i
-counted r (Refused q) = with_refused r q
+counted r (Ok i) = with_accepted r i
+counted r (Err q) = with_refused r q
 
 -- the report is of so many pieces at most: each is counted once, and an accepted one has at most 32,000 bytes, segments and messages
 pub record Within (pieces : ℕ) (r : Report) : Type 0 where
@@ -52,5 +51,5 @@ pub record Small (i : Figures) : Type 0 where
   pub normal : i.length ≤ most_bytes
 
 abbrev pub Countable : Judged → Type 0
-Countable (Accepted i) = Small i
-Countable (Refused q) = number q.fault ≤ 13
+Countable (Ok i) = Small i
+Countable (Err q) = number q.fault ≤ 13

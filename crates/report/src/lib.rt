@@ -3,21 +3,21 @@
 // `mailbox_files` defines over the list of pieces. Where a piece ends is left to `pieces`.
 #![tactic(auto)]
 
-ghost use Rattle.std.specs.Prelude.{◌≡◌, ◌≤◌, max, length};
+ghost use Rattle.std.specs.Prelude.{◌≡◌, ◌≤◌, length};
 ghost use Rattle.refusals.specs.Refusals.{number};
 ghost use Rattle.mailbox_files.specs.Pieces.{pieces};
 ghost use Rattle.mailbox_files.specs.Report.{most_file, report_over, no_figures};
 ghost use Rattle.mailbox_files.specs.Promises.{Reports};
 ghost use Rattle.report.specs.Counting.{with_accepted, with_refused, counted, Within, Small, Countable};
 
-use answers::{Figures, Judged};
-use mailbox_files::{MOST_FILE, Report, Reported};
-use refusals::{Fault, Outcome, Refusal};
+use answers::Figures;
+use mailbox_files::{MOST_FILE, Report};
+use refusals::{Fault, Refusal};
 use refusing::{failed, number_of};
 use segments::{Messages, Segments};
 
 // Every figure is 0.
-fn no_figures() -> Report
+pub fn no_figures() -> Report
     ensures { result ≡ no_figures }
 {
     Report {
@@ -30,32 +30,18 @@ fn no_figures() -> Report
     }
 }
 
-fn larger(a: usize, b: usize) -> usize
-    ensures { result ≡ max a b }
-{
-    if a < b {
-        return b;
-    }
-    a
-}
-
 // One accepted piece more.
 fn with_accepted(report: Report, figures: Figures) -> Report
     requires { Within 65535 report × Small figures }
     ensures { result ≡ with_accepted report figures }
 {
-    let refused = report.refused;
-    let segments = report.segments;
-    let messages = report.messages;
-    let more_segments = figures.segments;
-    let more_messages = figures.messages;
     Report {
         accepted: report.accepted + 1,
-        refused,
-        segments: Segments(segments.0 + more_segments.0),
-        messages: Messages(messages.0 + more_messages.0),
+        segments: Segments(report.segments.0 + figures.segments.0),
+        messages: Messages(report.messages.0 + figures.messages.0),
         total: report.total + figures.length,
-        longest: larger(report.longest, figures.length),
+        longest: report.longest.max(figures.length),
+        ..report
     }
 }
 
@@ -65,20 +51,19 @@ fn with_refused(report: Report, refusal: Refusal) -> Report
     ensures { result ≡ with_refused report refusal }
 {
     let mut counted = report;
-    let fault = refusal.fault;
-    let number = number_of(fault) as usize;
+    let number = usize::from(number_of(refusal.fault));
     counted.refused[number] += 1;
     counted
 }
 
 // One piece more, by what Judge says of it.
-fn counted(report: Report, judged: Judged) -> Report
+fn counted(report: Report, judged: Result<Figures, Refusal>) -> Report
     requires { Within 65535 report × Countable judged }
     ensures { result ≡ counted report judged }
 {
     match judged {
-        Judged::Accepted(figures) => with_accepted(report, figures),
-        Judged::Refused(refusal) => with_refused(report, refusal),
+        Ok(figures) => with_accepted(report, figures),
+        Err(refusal) => with_refused(report, refusal),
     }
 }
 
@@ -98,18 +83,11 @@ fn figures_of(file: &[u8]) -> Report
 }
 
 // The report of a file: any bytes, any length.
-pub fn report(file: &[u8]) -> Reported
+pub fn report(file: &[u8]) -> Result<Report, Refusal>
     ensures { Reports file.now result }
 {
     if MOST_FILE < file.len() {
-        return Reported {
-            outcome: failed(Fault::TooLong, 0),
-            report: no_figures(),
-        };
+        return failed(Fault::TooLong, 0);
     }
-    let report = figures_of(file);
-    Reported {
-        outcome: Outcome::Passed,
-        report,
-    }
+    Ok(figures_of(file))
 }

@@ -1,5 +1,6 @@
 -- What the stages after 9 answer, as they are asked with what was found. Assumes nothing.
-use Rattle.std.specs.Prelude.{if◌then◌else◌}
+use Rattle.answers.specs.Answers.{Judged}
+use Rattle.std.specs.Prelude.{if◌then◌else◌, Ok, Err}
 use Prim.Native.Nat.{ℕ}
 use mathlib.Core.Path.{◌≡◌, refl, sym, ap, ◌∙◌}
 use mathlib.Core.Bool.{Bool, true, false}
@@ -10,13 +11,10 @@ use Rattle.lists.specs.Lists.{maybe}
 use Rattle.characters.specs.declared.Characters.{Characters}
 use Rattle.characters.specs.Characters.{characters_of, body_start}
 use Rattle.refusals.specs.declared.Refusal.{Refusal}
-use Rattle.refusals.specs.declared.Outcome.{Outcome}
-use Rattle.refusals.specs.Refusals.{answering, outcome}
+use Rattle.refusals.specs.Refusals.{answering, outcome, Outcome}
 use Rattle.values.specs.Tokens.{Token, tokens_at}
 use Rattle.stages.specs.Stages.{stages_in, refusal_of}
 use Rattle.answers.specs.declared.Figures.{Figures}
-use Rattle.answers.specs.declared.Judged.{Judged}
-use Rattle.answers.specs.declared.Judged.TheVariants.{Accepted, Refused}
 use Rattle.operations.specs.Judge.{figures_of}
 use Rattle.stage_opening.specs.declared.Found.{Found}
 use Rattle.stage_opening.specs.Runs.{found_by}
@@ -40,19 +38,19 @@ module _ (s : List ℕ) {found : Found} (e : found ≡ found_by 9 s) where
   reported_found action = ap (λ (f : Found). Reported f.characters f.start action) e
 
 module _ (s : List ℕ) {o : Option Refusal} {answer : Judged} (e : answer ≡ judged s o) where
-  pub form_judged : {r : Refusal} → answer ≡ Refused r → o ≡ some r
+  pub form_judged : {r : Refusal} → answer ≡ Err r → o ≡ some r
   unfolding judged maybe
   form_judged {r} d = step o (sym e ∙ d)
     where
-      step : (o : Option Refusal) → maybe (Accepted (figures_of s)) Refused o ≡ Refused r → o ≡ some r
+      step : (o : Option Refusal) → maybe (Ok (figures_of s)) Err o ≡ Err r → o ≡ some r
       step none h = cc
       step (some q) h = cc
 
-  pub form_accepted : {i : Figures} → answer ≡ Accepted i → o ≡ none
+  pub form_accepted : {i : Figures} → answer ≡ Ok i → o ≡ none
   unfolding judged maybe
   form_accepted {i} d = step o (sym e ∙ d)
     where
-      step : (o : Option Refusal) → maybe (Accepted (figures_of s)) Refused o ≡ Accepted i → o ≡ none
+      step : (o : Option Refusal) → maybe (Ok (figures_of s)) Err o ≡ Ok i → o ≡ none
       step none h = cc
       step (some q) h = cc
 

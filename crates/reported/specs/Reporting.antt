@@ -1,5 +1,5 @@
 -- What Judge's stages say of a received interchange, and where the pieces that are taken over from it begin. Assumes nothing.
-use Rattle.std.specs.Prelude.{ℕ, ◌≡◌, true, false, List, if◌then◌else◌}
+use Rattle.std.specs.Prelude.{ℕ, ◌≡◌, true, false, List, if◌then◌else◌, Option as Perhaps, Some, None}
 use Rattle.std.proofs.Math.Option.{Option, none, some}
 use Rattle.characters.specs.Characters.{characters_of, body_start}
 use Rattle.refusals.specs.declared.Refusal.{Refusal}
@@ -11,8 +11,6 @@ use Rattle.acknowledgements.specs.Received.{has_action_code, cannot_be_acknowled
 use Rattle.acknowledgement_parts.specs.declared.Received.{Received}
 use Rattle.reported.specs.declared.Standing.{Standing}
 use Rattle.reported.specs.declared.Standing.TheVariants.{Reported, Unreported}
-use Rattle.reported.specs.declared.Report.{Report}
-use Rattle.reported.specs.declared.Report.TheVariants.{Made, Nothing}
 
 -- "7 when accepted, 4 when refused": where the code stands among the words of an acknowledgement
 abbrev pub action_place : Option Refusal → ℕ
@@ -34,6 +32,6 @@ pub record Takes (s : List ℕ) (r : Received) : Type 0 where
   pub reference : tokens_at (characters_of s) s r.reference ≡ element_from 5 (body_tokens s)
   pub action : r.action ≡ action_place (refusal_of s)
 
-abbrev pub Reports : List ℕ → Report → Type 0
-Reports s (Made r) = (cannot_be_acknowledged s ≡ false) × Takes s r
-Reports s Nothing = cannot_be_acknowledged s ≡ true
+abbrev pub Reports : List ℕ → Perhaps Received → Type 0
+Reports s (Some r) = (cannot_be_acknowledged s ≡ false) × Takes s r
+Reports s None = cannot_be_acknowledged s ≡ true

@@ -13,13 +13,10 @@ ghost use Rattle.acknowledgements.specs.Received.{has_action_code};
 ghost use Rattle.reported.specs.Reporting.{action_place, standing_of, Reports};
 
 use acknowledgement_parts::Received;
-use answers::Judged;
 use characters::Characters;
 use control_fields::{field_at, is_reference};
 use elements::{component_at, element_at, holds_byte};
-use judge::Quick;
-use refusals::Outcome;
-use stage_opening::{Found, Progress};
+use stage_opening::Found;
 
 // Where the action codes stand among the words of an acknowledgement.
 const ACCEPTED: u32 = 18;
@@ -38,22 +35,19 @@ pub enum Standing {
     Unreported,
 }
 
-#[derive(Clone, Copy)]
-pub enum Report {
-    Made(Received),
-    Nothing,
-}
-
 // Of an input that 1 to 12 passed.
 fn standing_passed(s: &[u8], found: Found) -> Standing
     requires { (answering (stages_in s.now 1 12) ≡ none) × (found ≡ found_by 12 s.now) }
     ensures { result ≡ standing_of s.now }
 {
-    let characters = found.characters;
-    let start = found.start;
+    let Found {
+        characters,
+        start,
+        ..
+    } = found;
     match judge::judge_length(s, found) {
-        Judged::Refused(_) => Standing::Unreported,
-        Judged::Accepted(_) => Standing::Reported {
+        Err(_) => Standing::Unreported,
+        Ok(_) => Standing::Reported {
             characters,
             start,
             action: ACCEPTED,
@@ -66,15 +60,18 @@ fn standing_after(s: &[u8], found: Found) -> Standing
     requires { (answering (stages_in s.now 1 9) ≡ none) × (found ≡ found_by 9 s.now) }
     ensures { result ≡ standing_of s.now }
 {
-    let characters = found.characters;
-    let start = found.start;
+    let Found {
+        characters,
+        start,
+        ..
+    } = found;
     match stage_control::check(s, characters, start) {
-        Outcome::Failed(_) => Standing::Reported {
+        Err(_) => Standing::Reported {
             characters,
             start,
             action: REFUSED,
         },
-        Outcome::Passed => standing_passed(s, found),
+        Ok(()) => standing_passed(s, found),
     }
 }
 
@@ -83,8 +80,8 @@ fn standing_in_turn(s: &[u8]) -> Standing
     ensures { result ≡ standing_of s.now }
 {
     match judge::stages_to_9(s) {
-        Progress::Refused(_) => Standing::Unreported,
-        Progress::Passed(found) => standing_after(s, found),
+        Err(_) => Standing::Unreported,
+        Ok(found) => standing_after(s, found),
     }
 }
 
@@ -93,32 +90,31 @@ fn standing_of(s: &[u8]) -> Standing
     ensures { result ≡ standing_of s.now }
 {
     match judge::quickly(s) {
-        Quick::Passed(found) => standing_passed(s, found),
-        Quick::Refused(_) => standing_in_turn(s),
-        Quick::Other => standing_in_turn(s),
+        Some(Ok(found)) => standing_passed(s, found),
+        Some(Err(_)) | None => standing_in_turn(s),
     }
 }
 
 // What is taken over from the UNB that begins at `start`, unless its reference is not as paper 01 asks, or its sender or
 // recipient is one empty value.
-fn taken_from(s: &[u8], c: Characters, start: usize, action: u32) -> Report
+fn taken_from(s: &[u8], c: Characters, start: usize, action: u32) -> Option<Received>
     requires { (has_action_code (refusal_of s.now) ≡ true) × (c ≡ characters_of s.now) × (start ≡ body_start s.now) × (action ≡ action_place (refusal_of s.now)) }
     ensures { Reports s.now result }
 {
     let reference = element_at(s, c, start, 5);
     if !is_reference(field_at(s, c, reference)) {
-        return Report::Nothing;
+        return None;
     }
     let sender = element_at(s, c, start, 2);
     if !holds_byte(s, c, sender, 1) {
-        return Report::Nothing;
+        return None;
     }
     let recipient = element_at(s, c, start, 3);
     if !holds_byte(s, c, recipient, 1) {
-        return Report::Nothing;
+        return None;
     }
     let level = element_at(s, c, start, 1);
-    Report::Made(Received {
+    Some(Received {
         characters: c,
         level,
         version: component_at(s, c, level, 1),
@@ -129,12 +125,12 @@ fn taken_from(s: &[u8], c: Characters, start: usize, action: u32) -> Report
     })
 }
 
-// Any bytes.
-pub fn report_of(s: &[u8]) -> Report
+// What the report on any bytes is made of, where one is made.
+pub fn report_of(s: &[u8]) -> Option<Received>
     ensures { Reports s.now result }
 {
     match standing_of(s) {
-        Standing::Unreported => Report::Nothing,
+        Standing::Unreported => None,
         Standing::Reported {
             characters,
             start,

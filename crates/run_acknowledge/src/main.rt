@@ -7,14 +7,14 @@
 
 ghost use Rattle.run_acknowledge.specs.Told.{Fitting};
 
-use answers::Stored;
 use inputs::{ROOM, Source};
 use printing::{print_line, print_refused};
+use refusals::Refusal;
 use std::io;
 use std::io::Print;
 
 // The acknowledgement with the lent values of this program.
-fn acknowledge_into(input: &[u8], output: &mut [u8]) -> Stored
+fn acknowledge_into(input: &[u8], output: &mut [u8]) -> Result<usize, Refusal>
     ensures { Fitting result output.new }
 {
     acknowledge::acknowledge(
@@ -33,27 +33,23 @@ fn acknowledge_into(input: &[u8], output: &mut [u8]) -> Stored
 fn acknowledge_bytes(rt: &impl Print, input: &[u8]) -> io::Result<()> {
     let mut output = [0u8; refusals::MOST_BYTES];
     match acknowledge_into(input, &mut output) {
-        Stored::Length(n) => print_line(rt, &output[..n]),
-        Stored::Refused(refusal) => print_refused(rt, b"refused", refusal),
+        Ok(n) => print_line(rt, &output[..n]),
+        Err(refusal) => print_refused(rt, b"refused", refusal),
     }
 }
 
 fn acknowledge_input(rt: &HostRuntime, source: Source) {
     let mut buf = [0u8; ROOM];
-    let input = inputs::read(rt, source, &mut buf);
-    if !input.is_read {
+    let Some(n) = inputs::read(rt, source, &mut buf) else {
         printing::report(&rt.stderr(), print_line(rt, b"unreadable"));
         return;
-    }
-    let n = input.count;
+    };
     printing::report(&rt.stderr(), acknowledge_bytes(rt, &buf[..n]));
 }
 
 fn acknowledge_arguments(rt: &HostRuntime, count: usize) {
-    let mut i = 1;
-    while i < count {
+    for i in 1..count {
         acknowledge_input(rt, Source::Argument(i));
-        i += 1;
     }
 }
 

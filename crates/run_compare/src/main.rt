@@ -7,7 +7,6 @@
 
 ghost use Rattle.std.specs.Prelude.{◌*◌, ◌<◌, ◌^◌};
 
-use answers::Compared;
 use inputs::{ROOM, Source};
 use printing::{print_compared, print_line};
 use std::io;
@@ -25,38 +24,30 @@ fn print_kept<'a>(rt: &impl Print, first: &'a [u8], second: &'a [u8]) -> io::Res
 fn print_pair<'a>(rt: &impl Print, first: &'a [u8], second: &'a [u8]) -> io::Result<()> {
     let compared = compare::compare(first, second);
     match compared {
-        Compared::Same => print_kept(rt, first, second),
-        Compared::Different => print_compared(rt, compared),
-        Compared::FirstRefused(_) => print_compared(rt, compared),
-        Compared::SecondRefused(_) => print_compared(rt, compared),
+        Ok(true) => print_kept(rt, first, second),
+        _ => print_compared(rt, compared),
     }
 }
 
 fn compare_arguments(rt: &HostRuntime, first: usize, second: usize) {
     let mut a = [0u8; ROOM];
     let mut b = [0u8; ROOM];
-    let one = inputs::read(rt, Source::Argument(first), &mut a);
-    if !one.is_read {
+    let Some(n) = inputs::read(rt, Source::Argument(first), &mut a) else {
         printing::report(&rt.stderr(), print_line(rt, b"unreadable 1"));
         return;
-    }
-    let two = inputs::read(rt, Source::Argument(second), &mut b);
-    if !two.is_read {
+    };
+    let Some(m) = inputs::read(rt, Source::Argument(second), &mut b) else {
         printing::report(&rt.stderr(), print_line(rt, b"unreadable 2"));
         return;
-    }
-    let n = one.count;
-    let m = two.count;
+    };
     printing::report(&rt.stderr(), print_pair(rt, &a[..n], &b[..m]));
 }
 
 fn compare_pairs(rt: &HostRuntime, count: usize)
     requires { 2 * count < 2 ^ 64 }
 {
-    let mut pair = 0;
-    while pair < count {
+    for pair in 0..count {
         compare_arguments(rt, 2 * pair + 1, 2 * pair + 2);
-        pair += 1;
     }
 }
 

@@ -4,47 +4,41 @@
 // `unreadable`, and standard error says why. It ends with status 0 whatever it says.
 #![tactic(auto)]
 
-use answers::{Figures, Judged};
+use answers::Figures;
 use inputs::{ROOM, Source};
 use printing::{print_line, print_refused, print_value};
+use refusals::Refusal;
 use std::io;
 use std::io::Print;
 
 fn print_accepted(rt: &impl Print, figures: Figures) -> io::Result<()> {
-    let segments = figures.segments;
-    let messages = figures.messages;
-    let groups = figures.groups;
     rt.write_all(b"accepted")?;
-    print_value(rt, segments.0 as u64)?;
-    print_value(rt, messages.0 as u64)?;
-    print_value(rt, groups.0 as u64)?;
+    print_value(rt, figures.segments.0 as u64)?;
+    print_value(rt, figures.messages.0 as u64)?;
+    print_value(rt, figures.groups.0 as u64)?;
     print_value(rt, figures.length as u64)?;
     rt.write_all(b"\n")
 }
 
-fn print_judged(rt: &impl Print, judged: Judged) -> io::Result<()> {
+fn print_judged(rt: &impl Print, judged: Result<Figures, Refusal>) -> io::Result<()> {
     match judged {
-        Judged::Accepted(interchange) => print_accepted(rt, interchange),
-        Judged::Refused(refusal) => print_refused(rt, b"refused", refusal),
+        Ok(interchange) => print_accepted(rt, interchange),
+        Err(refusal) => print_refused(rt, b"refused", refusal),
     }
 }
 
 fn judge_input(rt: &HostRuntime, source: Source) {
     let mut buf = [0u8; ROOM];
-    let input = inputs::read(rt, source, &mut buf);
-    if !input.is_read {
+    let Some(n) = inputs::read(rt, source, &mut buf) else {
         printing::report(&rt.stderr(), print_line(rt, b"unreadable"));
         return;
-    }
-    let n = input.count;
+    };
     printing::report(&rt.stderr(), print_judged(rt, judge::judge(&buf[..n])));
 }
 
 fn judge_arguments(rt: &HostRuntime, count: usize) {
-    let mut i = 1;
-    while i < count {
+    for i in 1..count {
         judge_input(rt, Source::Argument(i));
-        i += 1;
     }
 }
 

@@ -6,8 +6,7 @@
 // to nine digits. It ends with status 0 whatever it says.
 #![tactic(auto)]
 
-use answers::Located;
-use inputs::{Number, ROOM, Source};
+use inputs::{ROOM, Source};
 use printing::{print_line, print_refused, print_value};
 use std::io;
 use std::io::Print;
@@ -31,39 +30,35 @@ fn print_at(rt: &impl Print, offset: usize, value: &[u8]) -> io::Result<()> {
 
 fn print_located(rt: &impl Print, input: &[u8], v: Numbers) -> io::Result<()> {
     match locate::locate(input, v.segment, v.element, v.repeat, v.component) {
-        Located::At { offset, length: _ } => {
+        Ok(Some(found)) => {
             print_at(
                 rt,
-                offset,
+                found.offset,
                 locate::part(input, v.segment, v.element, v.repeat, v.component),
             )
         }
-        Located::Absent => print_line(rt, b"absent"),
-        Located::Refused(refusal) => print_refused(rt, b"refused", refusal),
+        Ok(None) => print_line(rt, b"absent"),
+        Err(refusal) => print_refused(rt, b"refused", refusal),
     }
 }
 
 fn locate_input(rt: &HostRuntime, v: Numbers, source: Source) {
     let mut buf = [0u8; ROOM];
-    let input = inputs::read(rt, source, &mut buf);
-    if !input.is_read {
+    let Some(n) = inputs::read(rt, source, &mut buf) else {
         printing::report(&rt.stderr(), print_line(rt, b"unreadable"));
         return;
-    }
-    let n = input.count;
+    };
     printing::report(&rt.stderr(), print_located(rt, &buf[..n], v));
 }
 
 fn locate_arguments(rt: &HostRuntime, v: Numbers, count: usize) {
-    let mut i = 5;
-    while i < count {
+    for i in 5..count {
         locate_input(rt, v, Source::Argument(i));
-        i += 1;
     }
 }
 
 // An argument that is missing, or longer than this buffer, is cut to no byte, and is no number either.
-fn argument(rt: &HostRuntime, i: usize) -> Number {
+fn argument(rt: &HostRuntime, i: usize) -> Option<usize> {
     let mut text = [0u8; 32];
     let n = inputs::argument(rt, i, &mut text);
     inputs::number_of(&text[..n])
@@ -75,28 +70,20 @@ fn say_usage(rt: &HostRuntime) {
     );
 }
 
+// The numbers that the first four arguments spell.
+fn spelled_numbers(rt: &HostRuntime) -> Option<Numbers> {
+    Some(Numbers {
+        segment: argument(rt, 1)?,
+        element: argument(rt, 2)?,
+        repeat: argument(rt, 3)?,
+        component: argument(rt, 4)?,
+    })
+}
+
 fn main(rt: HostRuntime) {
-    let Number::Is(segment) = argument(&rt, 1) else {
+    let Some(v) = spelled_numbers(&rt) else {
         say_usage(&rt);
         return;
-    };
-    let Number::Is(element) = argument(&rt, 2) else {
-        say_usage(&rt);
-        return;
-    };
-    let Number::Is(repeat) = argument(&rt, 3) else {
-        say_usage(&rt);
-        return;
-    };
-    let Number::Is(component) = argument(&rt, 4) else {
-        say_usage(&rt);
-        return;
-    };
-    let v = Numbers {
-        segment,
-        element,
-        repeat,
-        component,
     };
     let count = inputs::argument_count(&rt);
     if count < 6 {

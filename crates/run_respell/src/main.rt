@@ -9,46 +9,43 @@
 
 ghost use Rattle.run_respell.specs.Respelled.{Fitting};
 
-use answers::{Compared, Listed, Stored};
+use answers::Unaccepted;
 use inputs::{ROOM, Source};
 use printing::{print_compared, print_line, print_refused};
 use refusals::Refusal;
 use std::io;
 use std::io::Print;
 
-// How long the text is that was written, or what refused the input or the text.
+// What refused: Read the input, or Write the text.
 #[derive(Clone, Copy)]
-pub enum Respelled {
-    Text(usize),
-    InputRefused(Refusal),
-    TextRefused(Refusal),
+pub enum Unwritten {
+    Input(Refusal),
+    Text(Refusal),
 }
 
 // What Compare says of an input and a text: whether they have the same normal form. The input is the
 // first `count` bytes of `buf`; the two normal forms take the place of what is in `spare` and `buf`, so
 // that no room of Compare's own is needed beside the four buffers below.
-fn compare_in_place(buf: &mut [u8], count: usize, spare: &mut [u8], text: &[u8]) -> Compared {
+fn compare_in_place(
+    buf: &mut [u8],
+    count: usize,
+    spare: &mut [u8],
+    text: &[u8],
+) -> Result<bool, Unaccepted> {
     if buf.len() < count {
-        return Compared::Different;
+        return Ok(false);
     }
     match normalise::normalise(spare, &buf[..count]) {
-        Stored::Length(n) => compare_text(&spare[..n], buf, text),
-        Stored::Refused(refusal) => Compared::FirstRefused(refusal),
+        Ok(n) => compare_text(&spare[..n], buf, text),
+        Err(refusal) => Err(Unaccepted::First(refusal)),
     }
 }
 
-fn compare_text(first: &[u8], buf: &mut [u8], text: &[u8]) -> Compared {
+fn compare_text(first: &[u8], buf: &mut [u8], text: &[u8]) -> Result<bool, Unaccepted> {
     match normalise::normalise(buf, text) {
-        Stored::Length(n) => same_forms(first, &buf[..n]),
-        Stored::Refused(refusal) => Compared::SecondRefused(refusal),
+        Ok(n) => Ok(texts::equal(first, &buf[..n])),
+        Err(refusal) => Err(Unaccepted::Second(refusal)),
     }
-}
-
-fn same_forms(first: &[u8], second: &[u8]) -> Compared {
-    if texts::equal(first, second) {
-        return Compared::Same;
-    }
-    Compared::Different
 }
 
 fn print_text(
@@ -62,27 +59,39 @@ fn print_text(
     print_compared(rt, compare_in_place(buf, count, spare, text))
 }
 
-fn write_values(service: &[u8], bytes: &[u8], table: &[u32], output: &mut [u8]) -> Respelled
+fn write_values(
+    service: &[u8],
+    bytes: &[u8],
+    table: &[u32],
+    output: &mut [u8],
+) -> Result<usize, Unwritten>
     ensures { Fitting result output.new }
 {
     match write::write(service, bytes, table, output) {
-        Stored::Length(n) => Respelled::Text(n),
-        Stored::Refused(refusal) => Respelled::TextRefused(refusal),
+        Ok(n) => Ok(n),
+        Err(refusal) => Err(Unwritten::Text(refusal)),
     }
 }
 
 // An interchange of 32,000 bytes has at most as many bytes in values, and as many values, each of which
 // some byte ends: Read finds neither this table nor 32,000 bytes of room too short.
-fn respell_into(service: &[u8], input: &[u8], bytes: &mut [u8], output: &mut [u8]) -> Respelled
+fn respell_into(
+    service: &[u8],
+    input: &[u8],
+    bytes: &mut [u8],
+    output: &mut [u8],
+) -> Result<usize, Unwritten>
     ensures { Fitting result output.new }
 {
     let mut table = [0u32; refusals::MOST_NUMBERS];
     match read::read(bytes, &mut table, input) {
-        Listed::Values {
-            bytes: n,
-            numbers: m,
-        } => write_values(service, &bytes[..n], &table[..m], output),
-        Listed::Refused(refusal) => Respelled::InputRefused(refusal),
+        Ok(listed) => write_values(
+            service,
+            &bytes[..listed.bytes],
+            &table[..listed.numbers],
+            output,
+        ),
+        Err(refusal) => Err(Unwritten::Input(refusal)),
     }
 }
 
@@ -97,28 +106,24 @@ fn respell(rt: &impl Print, service: &[u8], buf: &mut [u8], count: usize) -> io:
         return Err(io::Error::from(io::ErrorKind::InvalidInput));
     }
     match respell_into(service, &buf[..count], &mut spare, &mut output) {
-        Respelled::Text(n) => print_text(rt, &output[..n], buf, count, &mut spare),
-        Respelled::InputRefused(refusal) => print_refused(rt, b"refused input", refusal),
-        Respelled::TextRefused(refusal) => print_refused(rt, b"refused text", refusal),
+        Ok(n) => print_text(rt, &output[..n], buf, count, &mut spare),
+        Err(Unwritten::Input(refusal)) => print_refused(rt, b"refused input", refusal),
+        Err(Unwritten::Text(refusal)) => print_refused(rt, b"refused text", refusal),
     }
 }
 
 fn respell_input(rt: &HostRuntime, service: &[u8], source: Source) {
     let mut buf = [0u8; ROOM];
-    let input = inputs::read(rt, source, &mut buf);
-    if !input.is_read {
+    let Some(n) = inputs::read(rt, source, &mut buf) else {
         printing::report(&rt.stderr(), print_line(rt, b"unreadable"));
         return;
-    }
-    let n = input.count;
+    };
     printing::report(&rt.stderr(), respell(rt, service, &mut buf, n));
 }
 
 fn respell_arguments(rt: &HostRuntime, service: &[u8], count: usize) {
-    let mut i = 2;
-    while i < count {
+    for i in 2..count {
         respell_input(rt, service, Source::Argument(i));
-        i += 1;
     }
 }
 
@@ -126,8 +131,8 @@ fn respell_arguments(rt: &HostRuntime, service: &[u8], count: usize) {
 fn are_usable(service: &[u8]) -> bool {
     let mut output = [0u8; 9];
     match write::write(service, b"", &[], &mut output) {
-        Stored::Length(_) => true,
-        Stored::Refused(refusal) => {
+        Ok(_) => true,
+        Err(refusal) => {
             let fault = refusal.fault;
             refusing::number_of(fault) != 2
         }

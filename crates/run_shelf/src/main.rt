@@ -5,10 +5,9 @@
 // is `unreadable`, and standard error says why. A program in Rattle ends with status 0 whatever it says.
 #![tactic(auto)]
 
-use answers::Stored;
-use inputs::{Number, ROOM, Source};
+use inputs::{ROOM, Source};
 use printing::{print_line, print_refused, print_value};
-use refusals::Outcome;
+use refusals::Refusal;
 use shelves::{Shelved, Slots, TwoSums};
 use std::io;
 use std::io::Print;
@@ -20,62 +19,57 @@ fn print_number(rt: &impl Print, word: &[u8], value: usize) -> io::Result<()> {
     print_line(rt, b"")
 }
 
-fn print_shelved(rt: &impl Print, shelved: Shelved) -> io::Result<()> {
+fn print_shelved(rt: &impl Print, shelved: Result<Shelved, Refusal>) -> io::Result<()> {
     match shelved {
-        Shelved::New(slot) => print_number(rt, b"new", slot),
-        Shelved::Copy(slot) => print_number(rt, b"copy", slot),
-        Shelved::Refused(refusal) => print_refused(rt, b"refused", refusal),
+        Ok(Shelved::New(slot)) => print_number(rt, b"new", slot),
+        Ok(Shelved::Copy(slot)) => print_number(rt, b"copy", slot),
+        Err(refusal) => print_refused(rt, b"refused", refusal),
     }
 }
 
-fn print_slots(rt: &impl Print, slots: Slots) -> io::Result<()> {
+fn print_slots(rt: &impl Print, slots: Result<Slots, Refusal>) -> io::Result<()> {
     match slots {
-        Slots::Numbers {
-            occupied,
-            lowest_free,
-        } => {
+        Ok(slots) => {
             rt.write_all(b"slots")?;
-            print_value(rt, occupied as u64)?;
-            print_value(rt, lowest_free as u64)?;
+            print_value(rt, slots.occupied as u64)?;
+            print_value(rt, slots.lowest_free as u64)?;
             print_line(rt, b"")
         }
-        Slots::Refused(refusal) => print_refused(rt, b"refused", refusal),
+        Err(refusal) => print_refused(rt, b"refused", refusal),
     }
 }
 
-fn print_sums(rt: &impl Print, sums: TwoSums) -> io::Result<()> {
+fn print_sums(rt: &impl Print, sums: Result<TwoSums, Refusal>) -> io::Result<()> {
     match sums {
-        TwoSums::Numbers { held, duplicates } => {
+        Ok(sums) => {
             rt.write_all(b"sums")?;
-            print_value(rt, held as u64)?;
-            print_value(rt, duplicates as u64)?;
+            print_value(rt, u64::from(sums.held))?;
+            print_value(rt, u64::from(sums.duplicates))?;
             print_line(rt, b"")
         }
-        TwoSums::Refused(refusal) => print_refused(rt, b"refused", refusal),
+        Err(refusal) => print_refused(rt, b"refused", refusal),
     }
 }
 
-fn print_removed(rt: &impl Print, stored: Stored) -> io::Result<()> {
+fn print_removed(rt: &impl Print, stored: Result<usize, Refusal>) -> io::Result<()> {
     match stored {
-        Stored::Length(n) => print_number(rt, b"removed", n),
-        Stored::Refused(refusal) => print_refused(rt, b"refused", refusal),
+        Ok(n) => print_number(rt, b"removed", n),
+        Err(refusal) => print_refused(rt, b"refused", refusal),
     }
 }
 
 fn print_got(rt: &impl Print, s: &[u8], slot: usize) -> io::Result<()> {
     match shelf::measure(s, slot) {
-        Stored::Length(_) => print_line(rt, shelf::get(s, slot)),
-        Stored::Refused(refusal) => print_refused(rt, b"refused", refusal),
+        Ok(_) => print_line(rt, shelf::get(s, slot)),
+        Err(refusal) => print_refused(rt, b"refused", refusal),
     }
 }
 
 fn put_file(rt: &HostRuntime, s: &mut [u8], argument: usize) -> io::Result<()> {
     let mut buf = [0u8; ROOM];
-    let input = inputs::read(rt, Source::Argument(argument), &mut buf);
-    if !input.is_read {
+    let Some(n) = inputs::read(rt, Source::Argument(argument), &mut buf) else {
         return print_line(rt, b"unreadable");
-    }
-    let n = input.count;
+    };
     print_shelved(rt, shelf::put(s, &buf[..n]))
 }
 
@@ -83,16 +77,13 @@ fn put_file(rt: &HostRuntime, s: &mut [u8], argument: usize) -> io::Result<()> {
 fn number_at(rt: &HostRuntime, argument: usize) -> usize {
     let mut word = [0u8; 16];
     let n = inputs::argument(rt, argument, &mut word);
-    match inputs::number_of(&word[..n]) {
-        Number::Is(number) => number,
-        Number::NotOne => 1000000000,
-    }
+    inputs::number_of(&word[..n]).unwrap_or(1000000000)
 }
 
-fn print_done(rt: &impl Print, outcome: Outcome, done: &[u8]) -> io::Result<()> {
+fn print_done(rt: &impl Print, outcome: Result<(), Refusal>, done: &[u8]) -> io::Result<()> {
     match outcome {
-        Outcome::Passed => print_line(rt, done),
-        Outcome::Failed(refusal) => print_refused(rt, b"refused", refusal),
+        Ok(()) => print_line(rt, done),
+        Err(refusal) => print_refused(rt, b"refused", refusal),
     }
 }
 
@@ -100,37 +91,21 @@ fn print_done(rt: &impl Print, outcome: Outcome, done: &[u8]) -> io::Result<()> 
 fn do_operation(rt: &HostRuntime, s: &mut [u8], word: usize, argument: usize) -> io::Result<()> {
     let mut letters = [0u8; 16];
     inputs::argument(rt, word, &mut letters);
-    let letter = letters[0];
-    if letter == b'p' {
-        return put_file(rt, s, argument);
+    match letters[0] {
+        b'p' => put_file(rt, s, argument),
+        b'g' => print_got(rt, s, number_at(rt, argument)),
+        b'r' => print_removed(rt, shelf::remove(s, number_at(rt, argument))),
+        b'c' => print_done(rt, shelf_carrying::carry(s), b"carried"),
+        b'b' => print_done(rt, shelf_carrying::carry_back(s), b"carried back"),
+        _ if letters[1] == b'u' => print_sums(rt, shelf::sums(s)),
+        _ => print_slots(rt, shelf::slots(s)),
     }
-    if letter == b'g' {
-        return print_got(rt, s, number_at(rt, argument));
-    }
-    if letter == b'r' {
-        return print_removed(rt, shelf::remove(s, number_at(rt, argument)));
-    }
-    if letter == b'c' {
-        return print_done(rt, shelf_carrying::carry(s), b"carried");
-    }
-    if letter == b'b' {
-        return print_done(rt, shelf_carrying::carry_back(s), b"carried back");
-    }
-    if letters[1] == b'u' {
-        return print_sums(rt, shelf::sums(s));
-    }
-    print_slots(rt, shelf::slots(s))
 }
 
 fn do_arguments(rt: &HostRuntime, s: &mut [u8], count: usize) {
-    let mut i = 2;
-    while i < count {
-        let next = i + 1;
-        if count <= next {
-            return;
-        }
-        printing::report(&rt.stderr(), do_operation(rt, s, i, next));
-        i = next + 1;
+    // Two arguments an operation, behind the program's name and the size.
+    for pair in 1..count / 2 {
+        printing::report(&rt.stderr(), do_operation(rt, s, 2 * pair, 2 * pair + 1));
     }
 }
 

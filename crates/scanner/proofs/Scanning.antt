@@ -106,6 +106,11 @@ module _ (c : Characters) (s : List ℕ) (at : ℕ) where
     unfolding scanned
     release_release k d = inr (omega arith, omega arith, ap scanned (at_released_release c s at k e d))
 
+    pub release_taken : at + 1 < length s → (r : Role) → role_in c (get_or s (at + 1) 0) ≡ r → (r ≡ role.Plain → ⊥) → Passes c s at (at + 1 + 1)
+    release_taken k (role.Separator rank) d other = release_separator k d
+    release_taken k role.Release d other = release_release k d
+    release_taken k role.Plain d other = absurd (other refl)
+
   -- the two answers of the step past a release character
   pub passed_none : {next : ℕ} → Passes c s at next → next ≡ at → scanned (tokens_at c s at) ≡ stray at
   passed_none (inl p) e = p.1

@@ -39,7 +39,8 @@ pub fn role_of(c: Characters, b: u8) -> Role
     Role::Plain
 }
 
-// What stands at a place. `next` is the place at which reading goes on.
+// What stands at a place. `next` is the place at which reading goes on. (A rank stays a number, here and wherever one goes on
+// from here: the definitions count with it, as `leb rank 2` and `3 - end`, and the theorems speak of any rank.)
 #[derive(Clone, Copy)]
 pub enum Lexed {
     Byte { byte: u8, place: usize, next: usize },
@@ -66,12 +67,13 @@ fn taken(role: Role, byte: u8, place: usize, next: usize) -> Lexed
     ensures { result ≡ lex_taken role byte place next }
 {
     match role {
-        Role::Separator(_) => Lexed::Byte { byte, place, next },
-        Role::Release => Lexed::Byte { byte, place, next },
         Role::Plain => Lexed::Stray { next },
+        _ => Lexed::Byte { byte, place, next },
     }
 }
 
+// (The input and its characters stay two parameters, here and in what reads on. One struct of both was tried: what a contract
+// calls `lex_at c s.now at` is then `lex_at text.entry.characters text.entry.bytes.now at`, in a hundred contracts.)
 pub fn lex(s: &[u8], c: Characters, at: usize) -> Lexed
     ensures { result ≡ lex_at c s.now at }
 {
@@ -112,9 +114,8 @@ pub fn releasing(c: Characters) -> u8
     ensures { result ≡ releasing c (role c c.release) }
 {
     match role_of(c, c.release) {
-        Role::Separator(_) => c.terminator,
         Role::Release => c.release,
-        Role::Plain => c.terminator,
+        _ => c.terminator,
     }
 }
 
@@ -124,18 +125,15 @@ fn holds_either(s: &[u8], a: u8, b: u8, from: usize) -> bool
     requires { from + 16 ≤ length s.now }
     ensures { result ≡ false → Others a b s.now from (from + 16) }
 {
-    let end = from + 16;
     let mut found = false;
-    let mut at = from;
-    while at < end {
-        found = found | ((s[at] == a) | (s[at] == b));
-        at += 1;
+    for at in from..from + 16 {
+        found |= (s[at] == a) | (s[at] == b);
     }
     found
 }
 
 // A place up to which no byte is `a` or `b`: where sixteen bytes that hold one of them begin, or the last
-// few.
+// few. (A `for` by sixteen would not tell the place of the last few.)
 fn past_others(s: &[u8], a: u8, b: u8, from: usize) -> usize
     ensures { (from ≤ result) × Others a b s.now from result }
 {
@@ -162,14 +160,13 @@ fn past_release(s: &[u8], c: Characters, at: usize) -> usize
         return at;
     }
     match role_of(c, s[next]) {
-        Role::Separator(_) => next + 1,
-        Role::Release => next + 1,
         Role::Plain => at,
+        _ => next + 1,
     }
 }
 
 // A byte that is neither the terminator nor a release character ends no segment and takes no other
-// byte with it: nothing more is asked of it.
+// byte with it: nothing more is asked of it. (How far a release character goes no `for` would know.)
 pub fn scan(s: &[u8], c: Characters, from: usize) -> Scanned
     ensures { Scans c s.now from result }
 {
@@ -212,11 +209,7 @@ fn segment_end_past(s: &[u8], c: Characters, from: usize) -> usize
     let mut at = from;
     loop {
         match lex(s, c, at) {
-            Lexed::Byte {
-                byte: _,
-                place: _,
-                next,
-            } => {
+            Lexed::Byte { next, .. } => {
                 at = next;
             }
             Lexed::Separator { rank, next } => {

@@ -4,12 +4,10 @@ use mathlib.Core.Path.{◌≡◌, refl, sym, ap, ◌∙◌, subst}
 use mathlib.Core.Bool.{Bool, true, false, not, ◌&&◌, false≢true}
 use mathlib.Core.List.{List}
 use native.Mathlib.Omega.{arith}
-use native.Mathlib.Decide.{dec_le}
-use native.Mathlib.Nat.{lt_of_not-le}
 use lib.ListN.{length, get_or}
 use lib.Dec.{eqb}
 use borrow.Author.Tests.{eqb-true, eqb-false}
-use Rattle.lists.proofs.Texts.{and_left, and_right, or_none_left, or_none_right}
+use Rattle.lists.proofs.Texts.{or_none_left, or_none_right}
 use Rattle.characters.specs.declared.Characters.{Characters}
 use Rattle.characters.specs.declared.Role.{Role}
 use Rattle.characters.specs.declared.Role.TheVariants as role
@@ -135,18 +133,3 @@ module _ (c : Characters) (s : List ℕ) where
   -- one part after another
   pub told_more : {from mid to : ℕ} → Told c s from mid → Told c s mid to → Told c s from to
   told_more g h = (omega (arith, g.0, h.0), g.1 ∙ h.1)
-
--- ---- bytes that are all the same
-
-pub only_none : (b : ℕ) (s : List ℕ) (from : ℕ) → Only b s from from
-only_none b s from k l m = absurd (omega arith)
-
-pub only_next : (b : ℕ) (s : List ℕ) (from : ℕ) {so_far : Bool} {at : ℕ} → (so_far ≡ true → Only b s from at)
-    → (so_far && eqb (get_or s at 0) b) ≡ true → Only b s from (at + 1)
-only_next b s from {so_far} {at} g e k l m =
-    elim (dec_le (k + 1) at) [
-      | yes q ↦ g (and_left so_far (eqb (get_or s at 0) b) e) k l (omega arith)
-      | no q ↦
-          let there : at ≡ k = omega (arith, lt_of_not-le q) in
-          subst (λ (p : ℕ). get_or s p 0 ≡ b) there (eqb-true (get_or s at 0) b (and_right so_far (eqb (get_or s at 0) b) e))
-    ]

@@ -1,4 +1,6 @@
 -- How a segment ends, told past release characters that stand close together. Assumes nothing.
+use Rattle.segment_ends.specs.declared.Block.{Block}
+use Rattle.segment_ends.specs.declared.Block.TheVariants.{On, Stop}
 use Rattle.std.specs.Prelude.{ℕ, ◌+◌, ◌≤◌, ◌<◌, ◌≡◌, Bool, not, ◌&&◌, ◌||◌, List, eqb, get_or}
 use Rattle.characters.specs.declared.Characters.{Characters}
 use Rattle.values.specs.Tokens.{tokens_at}
@@ -22,3 +24,8 @@ module _ (c : Characters) where
 -- so many of the thirty-two bytes that begin four places on are reached
 abbrev pub Stopped : Characters → List ℕ → ℕ → ℕ → Type 0
 Stopped c s from k = (k ≤ 32) × Reached (Told c s (from + 4)) c s (marked_at c s (from + k)) (from + k + 1 + 1 + 1 + 1)
+
+-- past a block: more bytes may be passed at a later place, or the way on stops at one
+abbrev pub PastBlock : Characters → List ℕ → ℕ → Block → Type 0
+PastBlock c s from (On to) = Told c s from to × (from < to)
+PastBlock c s from (Stop to) = Told c s from to

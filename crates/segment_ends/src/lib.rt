@@ -9,7 +9,7 @@ ghost use Rattle.characters.specs.Characters.{role, is_service};
 ghost use Rattle.release_marks.specs.Marks.{marked_at};
 ghost use Rattle.scanner.specs.Scan.{releasing, Others, Scans};
 ghost use Rattle.segment_ends.specs.Moving.{Moves};
-ghost use Rattle.segment_ends.specs.Releases.{Told, Only, stops, Stopped};
+ghost use Rattle.segment_ends.specs.Releases.{Told, Only, stops, Stopped, PastBlock};
 
 use characters::Characters;
 use first_found::{least, place_found};
@@ -25,28 +25,23 @@ fn before_either(s: &[u8], a: u8, b: u8, from: usize) -> usize
     ensures { (result ≤ 64) × Others a b s.now from (from + result) }
 {
     let mut first: u8 = 64;
-    let mut k: u8 = 0;
-    let mut at = from;
-    while k < 64 {
+    for k in 0..64 {
+        let at = from + usize::from(k);
         first = least(first, place_found((s[at] == a) | (s[at] == b), k));
-        at += 1;
-        k += 1;
     }
-    first as usize
+    usize::from(first)
 }
 
 // The place of the next byte that is `a` or `b`, byte by byte, or the end.
 fn up_to_either(s: &[u8], a: u8, b: u8, from: usize) -> usize
     ensures { (from ≤ result) × Others a b s.now from result }
 {
-    let mut at = from;
-    while at < s.len() {
+    for at in from..s.len() {
         if (s[at] == a) | (s[at] == b) {
             return at;
         }
-        at += 1;
     }
-    at
+    from.max(s.len())
 }
 
 // The segment ends, and the next one begins at this place; or how it ends is told from this place on; or
@@ -92,30 +87,19 @@ fn stops(c: Characters, this: bool, next: bool, a: u8) -> bool
 
 // The first of thirty-two bytes at which the way on stops, or 32. They begin four places on, and the first is
 // not released. Which of the others are is only guessed: where a guess is wrong the way on stops. The loop
-// never ends early, and each of five bytes has a place of its own, so that thirty-two are asked at once.
+// never ends early, so that thirty-two are asked at once.
 fn first_stop(s: &[u8], c: Characters, from: usize) -> usize
     requires { (from + 36 ≤ length s.now) × (role c c.release ≡ Release) × (marked_at c s.now from ≡ false) }
     ensures { Stopped c s.now from result }
 {
     let mut first: u8 = 32;
-    let mut k: u8 = 0;
-    let mut w = from;
-    let mut x = w + 1;
-    let mut y = x + 1;
-    let mut z = y + 1;
-    let mut a = z + 1;
-    while k < 32 {
-        let this = is_marked(c, s[z], s[y], s[x], s[w]);
-        let next = is_marked(c, s[a], s[z], s[y], s[x]);
-        first = least(first, place_found(stops(c, this, next, s[a]), k));
-        w += 1;
-        x += 1;
-        y += 1;
-        z += 1;
-        a += 1;
-        k += 1;
+    for k in 0..32 {
+        let at = from + usize::from(k);
+        let this = is_marked(c, s[at + 3], s[at + 2], s[at + 1], s[at]);
+        let next = is_marked(c, s[at + 4], s[at + 3], s[at + 2], s[at + 1]);
+        first = least(first, place_found(stops(c, this, next, s[at + 4]), k));
     }
-    first as usize
+    usize::from(first)
 }
 
 // So many of thirty-two bytes tell nothing of how the segment ends. The last two calls are the same: where all
@@ -140,17 +124,15 @@ fn holds_only(s: &[u8], b: u8, from: usize) -> bool
     requires { from + 16 ≤ length s.now }
     ensures { result ≡ true → Only b s.now from (from + 16) }
 {
-    let end = from + 16;
     let mut only = true;
-    let mut at = from;
-    while at < end {
-        only = only & (s[at] == b);
-        at += 1;
+    for at in from..from + 16 {
+        only &= s[at] == b;
     }
     only
 }
 
-// The place after release characters that stand side by side, sixteen at once: each takes the next one.
+// The place after release characters that stand side by side, sixteen at once: each takes the next one. (A `for`
+// by sixteen would not tell the place of the last few.)
 fn past_releases(s: &[u8], c: Characters, from: usize) -> usize
     requires { role c c.release ≡ Release }
     ensures { Told c s.now from result }
@@ -202,32 +184,32 @@ fn past_taken(s: &[u8], c: Characters, from: usize) -> usize
     at
 }
 
-// A place from which on it is told how the segment ends, and whether more bytes are passed there.
+// A place from which on it is told how the segment ends: more bytes may be passed there, or the way on stops.
 #[derive(Clone, Copy)]
-struct Reached {
-    to: usize,
-    on: bool,
+enum Block {
+    On(usize),
+    Stop(usize),
 }
 
 // Past thirty-two bytes, or thirty-one where the last takes the next one with it, or up to where the way on
 // stops; more than four release characters that stand side by side are passed two by two.
-fn past_block(s: &[u8], c: Characters, from: usize) -> Reached
+fn past_block(s: &[u8], c: Characters, from: usize) -> Block
     requires { (4 ≤ from) × (from + 32 ≤ length s.now) × (role c c.release ≡ Release) }
-    ensures { Told c s.now from result.to × (result.on ≡ true → from < result.to) }
+    ensures { PastBlock c s.now from result }
 {
     let count = before_stop(s, c, from);
     let to = from + count;
     if 31 <= count {
-        return Reached { to, on: true };
+        return Block::On(to);
     }
     if s[to] != c.release {
-        return Reached { to, on: false };
+        return Block::Stop(to);
     }
     let next = past_taken(s, c, to);
-    Reached {
-        to: next,
-        on: to < next,
+    if to < next {
+        return Block::On(next);
     }
+    Block::Stop(next)
 }
 
 // Between release characters that stand close together, block by block; and one byte, with the byte that it
@@ -246,10 +228,13 @@ fn pass_marked(s: &[u8], c: Characters, from: usize) -> Passed
                 up_to_either(s, c.terminator, c.release, at),
             );
         }
-        let r = past_block(s, c, at);
-        at = r.to;
-        if !r.on {
-            return pass_token(s, c, c.release, at);
+        match past_block(s, c, at) {
+            Block::On(to) => {
+                at = to;
+            }
+            Block::Stop(to) => {
+                return pass_token(s, c, c.release, to);
+            }
         }
     }
     Passed::Other

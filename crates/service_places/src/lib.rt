@@ -19,10 +19,8 @@ fn holds_service(c: Characters, s: &[u8]) -> bool
     ensures { result ≡ any (is_service c) s.now }
 {
     let mut found = false;
-    let mut i = 0;
-    while i < s.len() {
-        found = found | is_service(c, s[i]);
-        i += 1;
+    for b in s {
+        found |= is_service(c, *b);
     }
     found
 }
@@ -32,14 +30,12 @@ fn holds_service(c: Characters, s: &[u8]) -> bool
 fn next_place(c: Characters, s: &[u8], from: usize) -> usize
     ensures { result ≡ next_place (is_service c) s.now from }
 {
-    let mut at = from;
-    while at < s.len() {
+    for at in from..s.len() {
         if is_service(c, s[at]) {
             return at;
         }
-        at += 1;
     }
-    at
+    from.max(s.len())
 }
 
 // The same, where a place that is known from before is right unless it is passed.
@@ -61,15 +57,13 @@ pub fn store_places(c: Characters, s: &[u8], places: &mut [usize; BLOCKS]) -> us
     let size = s.len() / BLOCKS + 1;
     let mut place = next_place(c, s, 0);
     let mut start = 0;
-    let mut k = 0;
-    while k < BLOCKS {
+    for k in 0..BLOCKS {
         place = place_from(c, s, place, start);
         places[k] = place;
         if s.len() - start < size {
             return size;
         }
         start += size;
-        k += 1;
     }
     size
 }

@@ -1,17 +1,14 @@
 -- The slot of a copy: the first that keeps the text. Assumes nothing.
-use Rattle.std.specs.Prelude.{if◌then◌else◌}
+use Rattle.std.specs.Prelude.{if◌then◌else◌, Option, None, Some, MatchOption}
 use Prim.Native.Nat.{ℕ, ◌+◌, ◌≤◌, ◌<◌}
-use mathlib.Core.Path.{◌≡◌, refl, sym, ap, ap₂, subst, ◌∙◌}
+use mathlib.Core.Path.{◌≡◌, refl, sym, ap, ◌∙◌}
 use mathlib.Core.Bool.{Bool, true, false}
 use mathlib.Core.List.{List, [], ◌∷◌}
-use mathlib.Core.Logic.{◌⊎◌, inl, inr, ⊎_elim}
-use mathlib.Core.Option.{Option, none, some}
+use mathlib.Core.Option.{some}
 use native.Mathlib.Omega.{arith}
-use lib.Dec.{eqb}
 use lib.ListN.{length}
 use Rattle.lists.specs.Lists.{same, those, first, at}
 use Rattle.lists.proofs.Texts.{if_true, if_false, same_length}
-use Rattle.lists.proofs.Tests.{says_eq, decides}
 use Rattle.shelves.specs.Layout.{Layout, slot_count, below, is_occupied, occupied, start_of, length_of, text_of}
 use Rattle.shelves.specs.Operations.{copy_of}
 use Rattle.shelves.specs.Soundness.{sound}
@@ -38,28 +35,15 @@ module _ (l : Layout) (s form : List ℕ) where
   unfolding copy_of occupied keeps_text
   copy_is = first_those (is_occupied s) (λ k. same (text_of l s k) form) (below slot_count)
 
-  -- no slot before it keeps the text
-  abbrev pub NotBefore : ℕ → Type 0
-  NotBefore n = (k : ℕ) → k < n → keeps_text l s form k ≡ false
-
-  pub not_before_more : (n : ℕ) {r : Bool} → NotBefore n → r ≡ keeps_text l s form n → r ≡ false → NotBefore (n + 1)
-  not_before_more n h e f k i =
-      ⊎_elim (λ (q : k ≡ n). ap (keeps_text l s form) q ∙ sym e ∙ f) (λ (d : k ≡ n → ⊥). h k (omega arith)) (decides (eqb k n) (says_eq k n))
-
-  pub copy_there : (n : ℕ) {r : Bool} → n < slot_count → NotBefore n → r ≡ keeps_text l s form n → r ≡ true → CopyAt l s form n
-  copy_there n i h e f =
-      record {
-        there = λ j. copy_is ∙ first_passes (keeps_text l s form) slot_count n i (sym e ∙ f) h;
-        nowhere = λ j. absurd (omega arith);
-      }
-
-  pub copy_nowhere : (n : ℕ) → slot_count ≤ n → NotBefore n → CopyAt l s form slot_count
+  -- what `find` says over the slots
+  pub copy_found : (r : Option ℕ)
+      → MatchOption r ((k : ℕ) → 0 ≤ k → k < 64 → keeps_text l s form k ≡ false) (λ i. (0 ≤ i) × (i < 64) × (keeps_text l s form i ≡ true) × ((k : ℕ) → 0 ≤ k → k < i → keeps_text l s form k ≡ false))
+      → CopyAt l s form r
   unfolding at
-  copy_nowhere n i h =
-      record {
-        there = λ j. absurd (omega arith);
-        nowhere = λ j. copy_is ∙ ap (λ (ks : List ℕ). at ks 0) (none_pass (keeps_text l s form) slot_count (λ k m. h k (omega arith)));
-      }
+  copy_found None h =
+      copy_is ∙ ap (λ (ks : List ℕ). at ks 0) (none_pass (keeps_text l s form) slot_count (λ k m. h k (omega arith) m))
+  copy_found (Some i) h =
+      copy_is ∙ first_passes (keeps_text l s form) slot_count i h.1 h.2 (λ k m. h.3 k (omega arith) m)
 
   -- ---- whether a slot keeps it
 

@@ -1,12 +1,12 @@
 -- An empty shelf, as Start leaves it. Assumes nothing.
-use Prim.Native.Nat.{ℕ, zero, suc, ◌+◌, ◌-◌, ◌≤◌}
-use mathlib.Core.Path.{◌≡◌, refl, sym, ap, ap₂, ◌∙◌}
-use mathlib.Core.Bool.{Bool, true, false, not}
-use mathlib.Core.List.{List, [], ◌∷◌, ◌++◌, append-nil}
+use Rattle.std.specs.Prelude.{Ok, Err}
+use Prim.Native.Nat.{ℕ, zero, suc, ◌-◌, ◌≤◌}
+use mathlib.Core.Path.{◌≡◌, sym, ap, ◌∙◌}
+use mathlib.Core.Bool.{Bool, true, false}
+use mathlib.Core.List.{List, ◌++◌, append-nil}
 use native.Mathlib.Omega.{arith}
 use lib.ListN.{length, drop, replicate, length-replicate, drop_of_length-le}
 use lib.Seq.{sets}
-use Rattle.refusals.specs.declared.Outcome.TheVariants.{Passed, Failed}
 use Rattle.operations.specs.Judge.{stored_in}
 use Rattle.operations.proofs.Answered.{front_stored}
 use Rattle.shelves.specs.Layout.{Layout, heading}
@@ -41,12 +41,12 @@ zeroed s =
     ∙ append-nil (replicate (length s) 0)
 
 module _ (l : Layout) (s : List ℕ) where
-  pub starts_refused : {r : Bool} → r ≡ is_sized l s → r ≡ false → Starts l s (Failed nineteen) s
+  pub starts_refused : {r : Bool} → r ≡ is_sized l s → r ≡ false → Starts l s (Err nineteen) s
   unfolding told_outcome
   starts_refused e f = let d = start_refused l s (sym e ∙ f) in (sym d.0, sym d.1)
 
   pub starts_empty : {r : Bool} {zeros after : List ℕ} → r ≡ is_sized l s → r ≡ true → 5 ≤ length s → zeros ≡ sets s 0 (replicate (length s) 0)
-      → after ≡ sets zeros 0 (heading l) → Starts l s Passed after
+      → after ≡ sets zeros 0 (heading l) → Starts l s (Ok tt) after
   unfolding told_outcome empty_shelf stored_in
   starts_empty {zeros = zeros} e f h z p =
       let d = start_done l s (sym e ∙ f) in

@@ -1,6 +1,7 @@
 -- The summary that an operation is lent, and the shelf that it leaves, all but its head: with the summary stored back, Put and Remove.
 -- Assumes nothing.
-use Prim.Native.Nat.{ℕ, ◌+◌, ◌*◌, ◌-◌, ◌≤◌, ◌<◌}
+use Rattle.std.specs.Prelude.{Ok, Err, Result}
+use Prim.Native.Nat.{ℕ, ◌+◌, ◌≤◌, ◌<◌}
 use mathlib.Core.Path.{◌≡◌, refl, sym, ap, ap₂, subst, ◌∙◌}
 use mathlib.Core.Bool.{Bool, true, false}
 use mathlib.Core.List.{List, [], ◌∷◌}
@@ -11,12 +12,9 @@ use lib.Seq.{sets, length-sets}
 use Rattle.lists.specs.Lists.{gather}
 use Rattle.numbers.proofs.Stores.{part_before}
 use Rattle.refusals.specs.declared.Refusal.{Refusal}
-use Rattle.answers.specs.declared.Stored.{Stored}
-use Rattle.answers.specs.declared.Stored.TheVariants as stored
-use Rattle.answers.specs.Answers.{given}
+use Rattle.answers.specs.Answers.{given, Stored}
 use Rattle.shelves.specs.declared.Summary.{Summary}
-use Rattle.shelves.specs.declared.TwoSums.TheVariants as sums
-use Rattle.shelves.specs.Layout.{Layout, version_two, slot_count, below, map_of, held_figure, duplicates_of, bit, is_occupied, base, pair_place, start_of, length_of, held, end_of}
+use Rattle.shelves.specs.Layout.{Layout, version_two, slot_count, below, map_of, held_figure, duplicates_of, is_occupied, base, pair_place, start_of, length_of, end_of}
 use Rattle.shelves.specs.Soundness.{sound}
 use Rattle.shelves.specs.Summary.{summary_of, put_new, put_copy, removed, map_and_held}
 use Rattle.shelves.specs.Answers.{told_shelved, told_sums}
@@ -69,11 +67,11 @@ module _ (l : Layout) (s : List ℕ) (u : Summary) (h : Heads s u) (sane : sound
   stays : stored_back s (summary_of s) ≡ s
   stays = ap (stored_back s) (sym h.0) ∙ back_same s u h long
 
-  pub refused_text : (input : List ℕ) {r : Refusal} → put_refusal l s input ≡ some r → PutsText l s input (placed.Refused r) s
+  pub refused_text : (input : List ℕ) {r : Refusal} → put_refusal l s input ≡ some r → PutsText l s input (Err r) s
   unfolding told_shelved shelved_of after_put PutFits
   refused_text input e = let d = put_refused l s input e in ((sym d.0, stays ∙ sym d.1), tt)
 
-  pub refused_slot : (slot : ℕ) {r : Refusal} → slot_refusal l s slot ≡ some r → TakesText l s slot (stored.Refused r) s
+  pub refused_slot : (slot : ℕ) {r : Refusal} → slot_refusal l s slot ≡ some r → TakesText l s slot (Err r) s
   unfolding after_remove RemoveFits
   refused_slot slot e = let d = removes_refused l s slot e in ((d.0, stays ∙ d.1), tt)
 
@@ -104,13 +102,13 @@ module _ (l : Layout) (s : List ℕ) (u : Summary) (h : Heads s u) (sane : sound
         (omega arith) (omega arith) refl
 
     pub new_fits : (form : List ℕ) {slot : ℕ} → end_of l s + length form ≤ length s → (slot < slot_count) × (is_occupied s slot ≡ false)
-        → PutFits (summary_of s) (placed.New slot (length form))
+        → PutFits (summary_of s) (Ok (placed.New slot (length form)))
     unfolding PutFits summary_of is_occupied end_of
     new_fits form room free = ((free.0, free.1), omega (arith, was.summed sums, was.most, room))
 
     -- a text taken out
     pub taken : (slot : ℕ) → slot < slot_count → is_occupied s slot ≡ true → slot_refusal l s slot ≡ none → {n : ℕ} → n ≡ length_of l s slot
-        → {after : List ℕ} → after ≡ cleared l s slot → TakesText l s slot (stored.Length n) after
+        → {after : List ℕ} → after ≡ cleared l s slot → TakesText l s slot (Ok n) after
     unfolding cleared without removed summary_of after_remove RemoveFits is_occupied
     taken slot i o e {n} q g =
         let lies = (was.lie slot (i, o)).0 in
@@ -123,11 +121,11 @@ module _ (l : Layout) (s : List ℕ) (u : Summary) (h : Heads s u) (sane : sound
 -- ---- the two sums
 
 module _ (l : Layout) (s : List ℕ) where
-  pub sums_unsound : sound l s ≡ false → Sums l s (sums.Refused nineteen)
+  pub sums_unsound : sound l s ≡ false → Sums l s (Err nineteen)
   unfolding told_sums
   sums_unsound e = sym (sums_refused l s e)
 
-  pub sums_sound : (u : Summary) → Heads s u → 21 ≤ l.pairs → sound l s ≡ true → Sums l s (sums.Numbers u.held u.duplicates)
+  pub sums_sound : (u : Summary) → Heads s u → 21 ≤ l.pairs → sound l s ≡ true → Sums l s (Ok (record { held = u.held; duplicates = u.duplicates }))
   unfolding told_sums
   sums_sound u h room sane =
       ap₂ (λ (n d : ℕ). given (n ∷ d ∷ [])) (heads_held s u h ∙ ((says_sound l s).0 sane).summed room) (heads_duplicates s u h) ∙ sym (sums_given l s sane)
@@ -136,14 +134,14 @@ module _ (l : Layout) (s : List ℕ) where
 
 module _ (s : List ℕ) (u : Summary) (h : Heads s u) where
   -- what is done to the summary can be done to the one that is lent
-  pub lent_fits : (r : Placed) → PutFits (summary_of s) r → PutFits u r
+  pub lent_fits : (r : Result Placed Refusal) → PutFits (summary_of s) r → PutFits u r
   lent_fits r f = subst (λ (w : Summary). PutFits w r) (sym h.0) f
 
   pub lent_takes : (slot : ℕ) (r : Stored) → RemoveFits (summary_of s) slot r → RemoveFits u slot r
   lent_takes slot r f = subst (λ (w : Summary). RemoveFits w slot r) (sym h.0) f
 
   -- and with it stored back they are Put and Remove
-  pub lent_puts : (input : List ℕ) (r : Placed) (after : List ℕ) (v : Summary)
+  pub lent_puts : (input : List ℕ) (r : Result Placed Refusal) (after : List ℕ) (v : Summary)
       → Puts version_two s input (shelved_of r) (stored_back after (after_put (summary_of s) r)) → v ≡ after_put u r → PutsLent s input r after v
   lent_puts input r after v p e =
       subst (λ (w : Summary). Puts version_two s input (shelved_of r) (stored_back after w)) (sym (e ∙ ap (λ (w : Summary). after_put w r) h.0)) p

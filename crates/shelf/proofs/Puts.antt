@@ -1,4 +1,5 @@
 -- What Put answers and leaves, all but the shelf's head, from what was found. Assumes nothing.
+use Rattle.std.specs.Prelude.{Ok, Err}
 use Prim.Native.Nat.{ℕ, ◌+◌, ◌≤◌, ◌<◌}
 use mathlib.Core.Path.{◌≡◌, sym, ap, ap₂, ◌∙◌}
 use mathlib.Core.Bool.{Bool, true, false}
@@ -10,17 +11,15 @@ use lib.Seq.{sets}
 use Rattle.lists.specs.Lists.{is_empty}
 use Rattle.refusals.specs.declared.Fault.TheVariants.{NoFreeSlot, NoRoom}
 use Rattle.refusals.specs.declared.Refusal.{Refusal}
-use Rattle.stages.specs.Contents.{normal_form}
 use Rattle.stages.specs.Stages.{refusal_of}
 use Rattle.shelves.specs.declared.Summary.{Summary}
-use Rattle.shelves.specs.declared.Shelved.TheVariants as shelved
 use Rattle.shelves.specs.Layout.{Layout, slot_count, is_occupied, free, pair_place, end_of}
 use Rattle.shelves.specs.Soundness.{sound}
 use Rattle.shelves.specs.Answers.{new_at, told_shelved}
 use Rattle.shelves.specs.Operations.{pair_of, lowest_free, copy_of, with_text}
 use Rattle.shelves.proofs.Answered.{nineteen, put_refused, put_unsound, put_judged, put_copy, put_full, put_roomless, put_new_lem}
 use Rattle.shelf_contracts.specs.Promises.{Puts}
-use Rattle.shelf_summary.specs.declared.Placed.TheVariants.{New, Copy, Refused}
+use Rattle.shelf_summary.specs.declared.Placed.TheVariants.{New, Copy}
 use Rattle.shelf_summary.specs.Steps.{Heads, shelved_of, after_put, PutFits}
 use Rattle.shelf.specs.Parts.{stowed, PutsText, PutsForm}
 use Rattle.shelf.proofs.Lent.{refused_text, copied, added, new_fits}
@@ -38,23 +37,23 @@ module _ (l : Layout) (s form : List ℕ) where
       ∙ ap₂ (λ (k n : ℕ). sets (sets s n form) (pair_place l k) (pair_of n (length form))) e f
 
   module _ (u : Summary) (h : Heads s u) (sums : 21 ≤ l.pairs) (sane : sound l s ≡ true) where
-    pub puts_copy : {k : ℕ} → copy_of l s form ≡ some k → PutsForm l s form (Copy k) s
+    pub puts_copy : {k : ℕ} → copy_of l s form ≡ some k → PutsForm l s form (Ok (Copy k)) s
     unfolding told_shelved shelved_of after_put PutFits
     puts_copy c input a e =
         let d = put_copy l s input sane a (ap (copy_of l s) e ∙ c) in ((sym d.0, copied l s u h sane sums ∙ sym d.1), tt)
 
     module _ (fresh : copy_of l s form ≡ none) where
-      pub puts_full : is_empty (free s) ≡ true → PutsForm l s form (Refused (record { fault = NoFreeSlot; place = 64 })) s
+      pub puts_full : is_empty (free s) ≡ true → PutsForm l s form (Err (record { fault = NoFreeSlot; place = 64 })) s
       puts_full q input a e = refused_text l s u h sane input (put_full l s input sane a (ap (copy_of l s) e ∙ fresh) q)
 
       pub puts_long : is_empty (free s) ≡ false → length s < end_of l s + length form
-          → PutsForm l s form (Refused (record { fault = NoRoom; place = length form })) s
+          → PutsForm l s form (Err (record { fault = NoRoom; place = length form })) s
       puts_long q i input a e =
           let r = put_roomless l s input sane a (ap (copy_of l s) e ∙ fresh) q (omega (arith, ap length e)) in
           refused_text l s u h sane input (r ∙ ap (λ (n : ℕ). some (record { fault = NoRoom; place = n })) (ap length e))
 
       pub puts_new : is_empty (free s) ≡ false → end_of l s + length form ≤ length s → {slot : ℕ} {after : List ℕ} → slot ≡ lowest_free l s
-          → (slot < slot_count) × (is_occupied s slot ≡ false) → after ≡ stowed l s form → PutsForm l s form (New slot (length form)) after
+          → (slot < slot_count) × (is_occupied s slot ≡ false) → after ≡ stowed l s form → PutsForm l s form (Ok (New slot (length form))) after
       unfolding told_shelved shelved_of after_put PutFits
       puts_new q i p f g input a e =
           let d = put_new_lem l s input sane a (ap (copy_of l s) e ∙ fresh) q (omega (arith, ap length e)) in (
@@ -65,10 +64,10 @@ module _ (l : Layout) (s form : List ℕ) where
 -- ---- an interchange that is put
 
 -- what is refused first
-pub puts_unsound : (l : Layout) (s input : List ℕ) {r : Bool} → r ≡ sound l s → r ≡ false → Puts l s input (shelved.Refused nineteen) s
+pub puts_unsound : (l : Layout) (s input : List ℕ) {r : Bool} → r ≡ sound l s → r ≡ false → Puts l s input (Err nineteen) s
 unfolding told_shelved
 puts_unsound l s input e f = let d = put_refused l s input (put_unsound l s input (sym e ∙ f)) in (sym d.0, sym d.1)
 
 pub puts_judged : (l : Layout) (s input : List ℕ) (u : Summary) → Heads s u → sound l s ≡ true → {q : Refusal} → refusal_of input ≡ some q
-    → PutsText l s input (Refused q) s
+    → PutsText l s input (Err q) s
 puts_judged l s input u h sane a = refused_text l s u h sane input (put_judged l s input sane a)

@@ -1,4 +1,5 @@
 -- What a slot that is asked for is refused by, and an outcome with the refusal that it has. Assumes nothing.
+use Rattle.std.specs.Prelude.{Ok, Err}
 use Prim.Native.Nat.{ℕ, ◌≤◌, ◌<◌}
 use mathlib.Core.Path.{◌≡◌, refl, sym, ap, ◌∙◌}
 use mathlib.Core.Bool.{Bool, true, false, ◌&&◌}
@@ -12,7 +13,6 @@ use borrow.Author.Tests.{lt-ltb, le-ltb, ltb-true}
 use Rattle.lists.proofs.Texts.{decided, and_left, and_right}
 use Rattle.refusals.specs.declared.Fault.TheVariants.{FreeSlot}
 use Rattle.refusals.specs.declared.Refusal.{Refusal}
-use Rattle.refusals.specs.declared.Outcome.TheVariants.{Passed, Failed}
 use Rattle.refusals.specs.Refusals.{outcome}
 use Rattle.shelves.specs.Layout.{Layout, slot_count, base, is_occupied}
 use Rattle.shelves.specs.Soundness.{sound}
@@ -22,7 +22,7 @@ use Rattle.shelves.proofs.Sound.{says_sound}
 
 module _ (l : Layout) (s : List ℕ) (slot : ℕ) where
   -- which outcome it is
-  pub outcome_unsound : {r : Bool} → r ≡ sound l s → r ≡ false → Failed nineteen ≡ outcome (slot_refusal l s slot)
+  pub outcome_unsound : {r : Bool} → r ≡ sound l s → r ≡ false → Err nineteen ≡ outcome (slot_refusal l s slot)
   unfolding outcome
   outcome_unsound e f = ap outcome (sym (slot_unsound l s slot (sym e ∙ f)))
 
@@ -37,15 +37,15 @@ module _ (l : Layout) (s : List ℕ) (slot : ℕ) where
     pub refusal_kept : slot < slot_count → is_occupied s slot ≡ true → slot_refusal l s slot ≡ none
     refusal_kept h o = slot_there l s slot q (ap (λ (b : Bool). b && is_occupied s slot) (lt-ltb slot slot_count h) ∙ o)
 
-    pub outcome_above : slot_count ≤ slot → Failed (record { fault = FreeSlot; place = slot }) ≡ outcome (slot_refusal l s slot)
+    pub outcome_above : slot_count ≤ slot → Err (record { fault = FreeSlot; place = slot }) ≡ outcome (slot_refusal l s slot)
     unfolding outcome
     outcome_above h = ap outcome (sym (refusal_above h))
 
-    pub outcome_empty : slot < slot_count → is_occupied s slot ≡ false → Failed (record { fault = FreeSlot; place = slot }) ≡ outcome (slot_refusal l s slot)
+    pub outcome_empty : slot < slot_count → is_occupied s slot ≡ false → Err (record { fault = FreeSlot; place = slot }) ≡ outcome (slot_refusal l s slot)
     unfolding outcome
     outcome_empty h o = ap outcome (sym (refusal_empty h o))
 
-    pub outcome_kept : slot < slot_count → is_occupied s slot ≡ true → Passed ≡ outcome (slot_refusal l s slot)
+    pub outcome_kept : slot < slot_count → is_occupied s slot ≡ true → Ok tt ≡ outcome (slot_refusal l s slot)
     unfolding outcome
     outcome_kept h o = ap outcome (sym (refusal_kept h o))
 
@@ -71,12 +71,12 @@ module _ (l : Layout) (s : List ℕ) (slot : ℕ) where
   passed_range e = let h = passed_kept e in (((says_sound l s).0 h.0).least, h.1.0)
 
 -- no refusal, where the outcome passed; this one, where it failed
-pub outcome_passed : (o : Option Refusal) → outcome o ≡ Passed → o ≡ none
+pub outcome_passed : (o : Option Refusal) → outcome o ≡ Ok tt → o ≡ none
 unfolding outcome
 outcome_passed none e = refl
 outcome_passed (some r) e = let z : ◌≡◌ {A = ℕ} 0 1 = cc in absurd (omega arith)
 
-pub outcome_failed : (o : Option Refusal) {r : Refusal} → outcome o ≡ Failed r → o ≡ some r
+pub outcome_failed : (o : Option Refusal) {r : Refusal} → outcome o ≡ Err r → o ≡ some r
 unfolding outcome
 outcome_failed none e = let z : ◌≡◌ {A = ℕ} 0 1 = cc in absurd (omega arith)
 outcome_failed (some r) e = cc

@@ -1,17 +1,16 @@
 -- The part of the shelf that Get hands back, and what Get and Remove answer. Assumes nothing.
+use Rattle.std.specs.Prelude.{Ok, Err}
 use Prim.Native.Nat.{ℕ, ◌+◌, ◌-◌, ◌≤◌}
-use mathlib.Core.Path.{◌≡◌, refl, sym, ap, ap₂, ◌∙◌}
+use mathlib.Core.Path.{◌≡◌, sym, ap, ap₂, ◌∙◌}
 use mathlib.Core.Bool.{Bool, true, false}
 use mathlib.Core.List.{List, [], ◌∷◌}
-use mathlib.Core.Option.{Option, none, some}
+use mathlib.Core.Option.{none, some}
 use native.Mathlib.Nat.{add-sub_cancel_left, min-eq_left}
 use native.Mathlib.Omega.{arith}
 use lib.ListN.{length, take, drop, length-take, length-drop}
 use denote.Ref.{Bor}
 use Rattle.refusals.specs.declared.Refusal.{Refusal}
-use Rattle.answers.specs.declared.Stored.TheVariants.{Length, Refused}
 use Rattle.answers.specs.Answers.{given, told_stored}
-use Rattle.shelves.specs.declared.Slots.TheVariants as slots
 use Rattle.shelves.specs.Layout.{Layout, map_of, is_occupied, occupied, start_of, length_of}
 use Rattle.shelves.specs.Soundness.{sound}
 use Rattle.shelves.specs.Answers.{told_slots}
@@ -19,7 +18,7 @@ use Rattle.shelves.specs.Operations.{slot_refusal, remove, without}
 use Rattle.shelves.proofs.Answered.{nineteen, slots_refused, slots_given, slot_refused, slot_given}
 use Rattle.slot_map.specs.Slots.{occupied_count, lowest_free_in}
 use Rattle.shelf_contracts.specs.Promises.{Gets, Measures, Removes, Counts}
-use Rattle.shelf.specs.declared.Span.{Span}
+use Rattle.values.specs.declared.Span.{Span}
 use Rattle.shelf.specs.Parts.{got_span}
 use Rattle.shelf.proofs.Lowest.{lowest_by}
 
@@ -30,11 +29,11 @@ module _ (l : Layout) (s : List ℕ) (slot : ℕ) where
     got_refused =
         let d = slot_refused l s slot e in sym (ap₂ (λ (a n : ℕ). record { offset = a; length = n }) d.1 d.2)
 
-    pub measures_refused : Measures l s slot (Refused r)
+    pub measures_refused : Measures l s slot (Err r)
     unfolding told_stored
     measures_refused = sym (slot_refused l s slot e).0
 
-    pub removes_refused : Removes l s slot (Refused r) s
+    pub removes_refused : Removes l s slot (Err r) s
     unfolding told_stored remove
     removes_refused = let d = slot_refused l s slot e in (sym d.0, sym d.3)
 
@@ -44,11 +43,11 @@ module _ (l : Layout) (s : List ℕ) (slot : ℕ) where
     got_kept p =
         let d = slot_given l s slot e in ap₂ (λ (a n : ℕ). record { offset = a; length = n }) (p ∙ sym d.1) (q ∙ sym d.2)
 
-    pub measures_kept : Measures l s slot (Length n)
+    pub measures_kept : Measures l s slot (Ok n)
     unfolding told_stored
     measures_kept = ap (λ (k : ℕ). given (k ∷ [])) q ∙ sym (slot_given l s slot e).0
 
-    pub removes_kept : {after : List ℕ} → after ≡ without l s slot → Removes l s slot (Length n) after
+    pub removes_kept : {after : List ℕ} → after ≡ without l s slot → Removes l s slot (Ok n) after
     unfolding told_stored remove
     removes_kept g = let d = slot_given l s slot e in (ap (λ (k : ℕ). given (k ∷ [])) q ∙ sym d.0, g ∙ sym d.3)
 
@@ -75,12 +74,12 @@ handed l whole slot {part} p e h b q =
 -- ---- the two numbers
 
 module _ (l : Layout) (s : List ℕ) where
-  pub counts_unsound : {r : Bool} → r ≡ sound l s → r ≡ false → Counts l s (slots.Refused nineteen)
+  pub counts_unsound : {r : Bool} → r ≡ sound l s → r ≡ false → Counts l s (Err nineteen)
   unfolding told_slots
   counts_unsound e f = sym (slots_refused l s (sym e ∙ f))
 
   pub counts_sound : {r : Bool} → r ≡ sound l s → r ≡ true → {m n k : ℕ} → m ≡ map_of s → n ≡ occupied_count m → k ≡ lowest_free_in m
-      → Counts l s (slots.Numbers n k)
+      → Counts l s (Ok (record { occupied = n; lowest_free = k }))
   unfolding told_slots occupied is_occupied occupied_count
   counts_sound e f d p q =
       ap₂ (λ (n k : ℕ). given (n ∷ k ∷ [])) (p ∙ ap occupied_count d) (lowest_by l s d q) ∙ sym (slots_given l s (sym e ∙ f))

@@ -25,17 +25,10 @@ fn keeps(s: &[u8], l: Layout, map: u64, slot: usize, form: &[u8]) -> bool
     texts::equal(&s[start..end], form)
 }
 
-// The lowest occupied slot that keeps this text; 64 where none does.
-pub fn copy_of(s: &[u8], l: Layout, map: u64, form: &[u8]) -> usize
+// The lowest occupied slot that keeps this text, if one does.
+pub fn copy_of(s: &[u8], l: Layout, map: u64, form: &[u8]) -> Option<usize>
     requires { (sound (laid l) s.now ≡ true) × (map ≡ map_of s.now) }
     ensures { CopyAt (laid l) s.now form.now result }
 {
-    let mut slot = 0;
-    while slot < SLOTS {
-        if keeps(s, l, map, slot, form) {
-            return slot;
-        }
-        slot += 1;
-    }
-    SLOTS
+    (0..SLOTS).find(|&slot| keeps(s, l, map, slot, form))
 }

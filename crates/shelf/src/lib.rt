@@ -14,30 +14,23 @@ ghost use Rattle.shelf_layout.specs.Laid.{laid};
 ghost use Rattle.shelf_summary.specs.Steps.{Heads, shelved_of, PutStays};
 ghost use Rattle.shelf.specs.Parts.{got_span, PutsLent, RemovesLent};
 
-use answers::Stored;
-use refusals::{Fault, Outcome, Refusal};
+use refusals::{Fault, Refusal};
 use refusing::failed;
 use shelf_layout::{Layout, length_of, map_of, start_of, version_two};
 use shelf_soundness::is_sound;
 use shelf_summary::{Placed, head_of, put_step, remove_step, shelved_of, store_head};
 use shelves::{Shelved, Slots, Summary, TwoSums};
 use slot_map::{SLOTS, is_occupied};
+use values::Span;
 
 mod finding;
 mod putting;
 mod removing;
 
-// A part of the shelf: where it begins, and how long it is.
-#[derive(Clone, Copy)]
-pub struct Span {
-    pub offset: usize,
-    pub length: usize,
-}
-
 // ---- Start
 
 // An empty shelf over a lent buffer.
-pub fn start_as(s: &mut [u8], l: Layout) -> Outcome
+pub fn start_as(s: &mut [u8], l: Layout) -> Result<(), Refusal>
     requires { l.pairs ≤ 65536 }
     ensures { Starts (laid l) s.old result s.new }
 {
@@ -47,10 +40,10 @@ pub fn start_as(s: &mut [u8], l: Layout) -> Outcome
     let size = s.len();
     storing::fill(s, 0, size, 0);
     shelf_layout::put_heading(s, l);
-    Outcome::Passed
+    Ok(())
 }
 
-pub fn start(s: &mut [u8]) -> Outcome
+pub fn start(s: &mut [u8]) -> Result<(), Refusal>
     ensures { Starts version_two s.old result s.new }
 {
     start_as(s, version_two())
@@ -58,24 +51,21 @@ pub fn start(s: &mut [u8]) -> Outcome
 
 // ---- the two numbers read off the map
 
-pub fn slots_of(s: &[u8], l: Layout) -> Slots
+pub fn slots_of(s: &[u8], l: Layout) -> Result<Slots, Refusal>
     requires { l.pairs ≤ 65536 }
     ensures { Counts (laid l) s.now result }
 {
     if !is_sound(s, l) {
-        return Slots::Refused(Refusal {
-            fault: Fault::UnsoundShelf,
-            place: 0,
-        });
+        return failed(Fault::UnsoundShelf, 0);
     }
     let map = map_of(s);
-    Slots::Numbers {
+    Ok(Slots {
         occupied: slot_map::count(map),
         lowest_free: slot_map::lowest_free(map),
-    }
+    })
 }
 
-pub fn slots(s: &[u8]) -> Slots
+pub fn slots(s: &[u8]) -> Result<Slots, Refusal>
     ensures { Counts version_two s.now result }
 {
     slots_of(s, version_two())
@@ -83,26 +73,23 @@ pub fn slots(s: &[u8]) -> Slots
 
 // ---- the two sums
 
-pub fn sums(s: &[u8]) -> TwoSums
+pub fn sums(s: &[u8]) -> Result<TwoSums, Refusal>
     ensures { Sums version_two s.now result }
 {
     if !is_sound(s, version_two()) {
-        return TwoSums::Refused(Refusal {
-            fault: Fault::UnsoundShelf,
-            place: 0,
-        });
+        return failed(Fault::UnsoundShelf, 0);
     }
     let u = head_of(s);
-    TwoSums::Numbers {
+    Ok(TwoSums {
         held: u.held,
         duplicates: u.duplicates,
-    }
+    })
 }
 
 // ---- Put
 
 // The operation: it is lent the shelf and its summary. What it leaves in the shelf's head is stored over by its caller.
-fn put_lent(s: &mut [u8], u: &mut Summary, input: &[u8]) -> Placed
+fn put_lent(s: &mut [u8], u: &mut Summary, input: &[u8]) -> Result<Placed, Refusal>
     requires { (sound version_two s.old ≡ true) × Heads s.old u.old }
     ensures { PutsLent s.old input.now result s.new u.new × PutStays result u.old u.new }
 {
@@ -112,7 +99,7 @@ fn put_lent(s: &mut [u8], u: &mut Summary, input: &[u8]) -> Placed
 }
 
 // The summary that was read from the head is lent, and stored back there.
-fn put_on(s: &mut [u8], head: Summary, input: &[u8]) -> Placed
+fn put_on(s: &mut [u8], head: Summary, input: &[u8]) -> Result<Placed, Refusal>
     requires { (sound version_two s.old ≡ true) × Heads s.old head }
     ensures { Puts version_two s.old input.now (shelved_of result) s.new }
 {
@@ -122,14 +109,11 @@ fn put_on(s: &mut [u8], head: Summary, input: &[u8]) -> Placed
     placed
 }
 
-pub fn put(s: &mut [u8], input: &[u8]) -> Shelved
+pub fn put(s: &mut [u8], input: &[u8]) -> Result<Shelved, Refusal>
     ensures { Puts version_two s.old input.now result s.new }
 {
     if !is_sound(s, version_two()) {
-        return Shelved::Refused(Refusal {
-            fault: Fault::UnsoundShelf,
-            place: 0,
-        });
+        return failed(Fault::UnsoundShelf, 0);
     }
     let head = head_of(s);
     shelved_of(put_on(s, head, input))
@@ -138,7 +122,7 @@ pub fn put(s: &mut [u8], input: &[u8]) -> Shelved
 // ---- Get
 
 // What get or remove of a slot is refused by.
-pub fn slot_refusal(s: &[u8], l: Layout, slot: usize) -> Outcome
+pub fn slot_refusal(s: &[u8], l: Layout, slot: usize) -> Result<(), Refusal>
     requires { l.pairs ≤ 65536 }
     ensures { result ≡ outcome (slot_refusal (laid l) s.now slot) }
 {
@@ -149,7 +133,7 @@ pub fn slot_refusal(s: &[u8], l: Layout, slot: usize) -> Outcome
         return failed(Fault::FreeSlot, slot);
     }
     if is_occupied(map_of(s), slot) {
-        return Outcome::Passed;
+        return Ok(());
     }
     failed(Fault::FreeSlot, slot)
 }
@@ -161,11 +145,11 @@ pub fn got_from(s: &[u8], l: Layout, slot: usize) -> Span
     ensures inside { result.offset + result.length ≤ length s.now }
 {
     match slot_refusal(s, l, slot) {
-        Outcome::Passed => Span {
+        Ok(()) => Span {
             offset: start_of(s, l, slot),
             length: length_of(s, l, slot),
         },
-        Outcome::Failed(_) => Span {
+        Err(_) => Span {
             offset: 0,
             length: 0,
         },
@@ -190,17 +174,15 @@ pub fn get<'a>(s: &'a [u8], slot: usize) -> &'a [u8]
 }
 
 // Get's companion: how long the kept text is, or what Get was refused by.
-pub fn measure_in(s: &[u8], l: Layout, slot: usize) -> Stored
+pub fn measure_in(s: &[u8], l: Layout, slot: usize) -> Result<usize, Refusal>
     requires { l.pairs ≤ 65536 }
     ensures { Measures (laid l) s.now slot result }
 {
-    match slot_refusal(s, l, slot) {
-        Outcome::Passed => Stored::Length(length_of(s, l, slot)),
-        Outcome::Failed(r) => Stored::Refused(r),
-    }
+    slot_refusal(s, l, slot)?;
+    Ok(length_of(s, l, slot))
 }
 
-pub fn measure(s: &[u8], slot: usize) -> Stored
+pub fn measure(s: &[u8], slot: usize) -> Result<usize, Refusal>
     ensures { Measures version_two s.now slot result }
 {
     measure_in(s, version_two(), slot)
@@ -209,7 +191,7 @@ pub fn measure(s: &[u8], slot: usize) -> Stored
 // ---- Remove
 
 // The operation: it is lent the shelf and its summary. What it leaves in the shelf's head is stored over by its caller.
-fn remove_lent(s: &mut [u8], u: &mut Summary, slot: usize) -> Stored
+fn remove_lent(s: &mut [u8], u: &mut Summary, slot: usize) -> Result<usize, Refusal>
     requires { (sound version_two s.old ≡ true) × Heads s.old u.old }
     ensures { RemovesLent s.old slot result s.new u.new × (u.new.duplicates ≡ u.old.duplicates) }
 {
@@ -219,7 +201,7 @@ fn remove_lent(s: &mut [u8], u: &mut Summary, slot: usize) -> Stored
 }
 
 // The summary that was read from the head is lent, and stored back there.
-fn remove_on(s: &mut [u8], head: Summary, slot: usize) -> Stored
+fn remove_on(s: &mut [u8], head: Summary, slot: usize) -> Result<usize, Refusal>
     requires { (sound version_two s.old ≡ true) × Heads s.old head }
     ensures { Removes version_two s.old slot result s.new }
 {
@@ -229,14 +211,11 @@ fn remove_on(s: &mut [u8], head: Summary, slot: usize) -> Stored
     taken
 }
 
-pub fn remove(s: &mut [u8], slot: usize) -> Stored
+pub fn remove(s: &mut [u8], slot: usize) -> Result<usize, Refusal>
     ensures { Removes version_two s.old slot result s.new }
 {
     if !is_sound(s, version_two()) {
-        return Stored::Refused(Refusal {
-            fault: Fault::UnsoundShelf,
-            place: 0,
-        });
+        return failed(Fault::UnsoundShelf, 0);
     }
     let head = head_of(s);
     remove_on(s, head, slot)

@@ -12,8 +12,9 @@ ghost use Rattle.shelf_summary.specs.Steps.{Heads};
 ghost use Rattle.shelf.specs.Parts.{stowed, PutsText, PutsForm};
 
 use crate::finding;
-use answers::{Figures, Judged};
+use answers::Figures;
 use refusals::{Fault, Refusal};
+use refusing::failed;
 use shelf_layout::Layout;
 use shelf_summary::Placed;
 use shelves::Summary;
@@ -29,59 +30,56 @@ fn store_text(s: &mut [u8], l: Layout, slot: usize, end: usize, form: &[u8])
 }
 
 // A text that is not kept yet.
-fn put_new(s: &mut [u8], l: Layout, u: Summary, form: &[u8]) -> Placed
+fn put_new(s: &mut [u8], l: Layout, u: Summary, form: &[u8]) -> Result<Placed, Refusal>
     requires { (sound (laid l) s.old ≡ true) × ((21 ≤ l.pairs) × (l.pairs ≤ 65536)) × Heads s.old u × (copy_of (laid l) s.old form.now ≡ none) }
     ensures { PutsForm (laid l) s.old form.now result s.new }
 {
     let slot = slot_map::lowest_free(u.map);
     if slot == SLOTS {
-        return Placed::Refused(Refusal {
-            fault: Fault::NoFreeSlot,
-            place: SLOTS,
-        });
+        return failed(Fault::NoFreeSlot, SLOTS);
     }
     let end = shelf_layout::base(l) + u.held as usize;
     if s.len() - end < form.len() {
-        return Placed::Refused(Refusal {
-            fault: Fault::NoRoom,
-            place: form.len(),
-        });
+        return failed(Fault::NoRoom, form.len());
     }
     store_text(s, l, slot, end, form);
-    Placed::New {
+    Ok(Placed::New {
         slot,
         size: form.len() as u32,
-    }
+    })
 }
 
-fn put_form(s: &mut [u8], l: Layout, u: Summary, form: &[u8]) -> Placed
+fn put_form(s: &mut [u8], l: Layout, u: Summary, form: &[u8]) -> Result<Placed, Refusal>
     requires { (sound (laid l) s.old ≡ true) × ((21 ≤ l.pairs) × (l.pairs ≤ 65536)) × Heads s.old u }
     ensures { PutsForm (laid l) s.old form.now result s.new }
 {
-    let copy = finding::copy_of(s, l, u.map, form);
-    if copy < SLOTS {
-        return Placed::Copy(copy);
+    match finding::copy_of(s, l, u.map, form) {
+        Some(slot) => Ok(Placed::Copy(slot)),
+        None => put_new(s, l, u, form),
     }
-    put_new(s, l, u, form)
 }
 
 // An interchange that Judge accepted, of which it said this.
-fn put_accepted(s: &mut [u8], l: Layout, u: Summary, input: &[u8], i: Figures) -> Placed
+fn put_accepted(
+    s: &mut [u8],
+    l: Layout,
+    u: Summary,
+    input: &[u8],
+    i: Figures,
+) -> Result<Placed, Refusal>
     requires { ((sound (laid l) s.old ≡ true) × ((21 ≤ l.pairs) × (l.pairs ≤ 65536)) × Heads s.old u) × ((refusal_of input.now ≡ none) × (i ≡ figures_of input.now)) }
     ensures { PutsText (laid l) s.old input.now result s.new }
 {
     let count = i.length;
     let mut form = [0u8; refusals::MOST_BYTES];
-    normalise::store_form(&mut form, input, i);
+    let _ = normalise::store_form(&mut form, input, i);
     put_form(s, l, u, &form[..count])
 }
 
-pub fn put_text(s: &mut [u8], u: Summary, input: &[u8]) -> Placed
+pub fn put_text(s: &mut [u8], u: Summary, input: &[u8]) -> Result<Placed, Refusal>
     requires { (sound version_two s.old ≡ true) × Heads s.old u }
     ensures { PutsText version_two s.old input.now result s.new }
 {
-    match judge::judge(input) {
-        Judged::Refused(r) => Placed::Refused(r),
-        Judged::Accepted(i) => put_accepted(s, shelf_layout::version_two(), u, input, i),
-    }
+    let figures = judge::judge(input)?;
+    put_accepted(s, shelf_layout::version_two(), u, input, figures)
 }

@@ -10,8 +10,8 @@ ghost use Rattle.shelf_layout.specs.Laid.{laid};
 ghost use Rattle.shelf_summary.specs.Steps.{Heads};
 ghost use Rattle.shelf.specs.Parts.{Lowers, lowered_pair, cleared, TakesText};
 
-use answers::Stored;
 use refusals::{Fault, Refusal};
+use refusing::failed;
 use shelf_layout::{Layout, length_of, put_pair, start_of};
 use shelves::Summary;
 use slot_map::{SLOTS, is_occupied};
@@ -39,10 +39,8 @@ fn lower_starts(s: &mut [u8], l: Layout, removed: usize, start: usize, size: usi
     requires { (base (laid l) ≤ length s.old) × ((start ≡ start_of (laid l) s.old removed) × (size ≡ length_of (laid l) s.old removed)) × Lowers (laid l) s.old removed }
     ensures { s.new ≡ sets s.old l.pairs (gather (pair_without (laid l) s.old removed) (below slot_count)) }
 {
-    let mut slot = 0;
-    while slot < SLOTS {
+    for slot in 0..SLOTS {
         lower_start(s, l, removed, start, size, slot);
-        slot += 1;
     }
 }
 
@@ -57,24 +55,18 @@ fn take_out(s: &mut [u8], l: Layout, u: Summary, slot: usize, size: usize)
     lower_starts(s, l, slot, start, size);
 }
 
-pub fn take_text(s: &mut [u8], u: Summary, slot: usize) -> Stored
+pub fn take_text(s: &mut [u8], u: Summary, slot: usize) -> Result<usize, Refusal>
     requires { (sound version_two s.old ≡ true) × Heads s.old u }
     ensures { TakesText version_two s.old slot result s.new }
 {
     if SLOTS <= slot {
-        return Stored::Refused(Refusal {
-            fault: Fault::FreeSlot,
-            place: slot,
-        });
+        return failed(Fault::FreeSlot, slot);
     }
     if !is_occupied(u.map, slot) {
-        return Stored::Refused(Refusal {
-            fault: Fault::FreeSlot,
-            place: slot,
-        });
+        return failed(Fault::FreeSlot, slot);
     }
     let l = shelf_layout::version_two();
     let size = length_of(s, l, slot);
     take_out(s, l, u, slot, size);
-    Stored::Length(size)
+    Ok(size)
 }

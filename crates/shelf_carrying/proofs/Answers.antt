@@ -1,13 +1,12 @@
 -- What each direction answers, from what was found; and a layout that was made is the one that is meant. Assumes nothing.
+use Rattle.std.specs.Prelude.{Ok}
 use Prim.Native.Nat.{ℕ, ◌+◌, ◌≤◌, ◌<◌}
-use mathlib.Core.Path.{◌≡◌, sym, ap, ap₂, subst, ◌∙◌}
+use mathlib.Core.Path.{◌≡◌, sym, ap, ◌∙◌}
 use mathlib.Core.Bool.{Bool, true, false}
 use mathlib.Core.List.{List}
 use lib.ListN.{length}
-use Rattle.refusals.specs.declared.Outcome.{Outcome}
-use Rattle.refusals.specs.declared.Outcome.TheVariants.{Passed, Failed}
 use Rattle.refusals.specs.declared.Fault.TheVariants.{UnsoundShelf, NoRoom}
-use Rattle.refusals.specs.Refusals.{failed_at}
+use Rattle.refusals.specs.Refusals.{failed_at, Outcome}
 use Rattle.shelves.specs.Layout.{Layout, version_one, version_two, end_of}
 use Rattle.shelves.specs.Soundness.{sound}
 use Rattle.shelves.specs.Answers.{told_outcome}
@@ -33,10 +32,10 @@ module _ (s : List ℕ) {r : Outcome} where
   back-unsounded e h = let d = back_refused s (back_unsound s h) in (ap told_outcome e ∙ sym d.0, sym d.1)
 
 module _ (s : List ℕ) {after : List ℕ} where
-  pub carries-done : sound version_one s ≡ true → end_of version_one s + 8 ≤ length s → after ≡ carried s → Carries s Passed after
+  pub carries-done : sound version_one s ≡ true → end_of version_one s + 8 ≤ length s → after ≡ carried s → Carries s (Ok tt) after
   unfolding told_outcome
   carries-done h k e = let d = carry_done s (refusal_none s h k) in (sym d.0, e ∙ sym d.1)
 
-  pub back-carried : sound version_two s ≡ true → after ≡ carried_back s → CarriesBack s Passed after
+  pub back-carried : sound version_two s ≡ true → after ≡ carried_back s → CarriesBack s (Ok tt) after
   unfolding told_outcome
   back-carried h e = let d = back_done s (back_none s h) in (sym d.0, e ∙ sym d.1)

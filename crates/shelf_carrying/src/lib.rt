@@ -14,7 +14,7 @@ ghost use Rattle.carrying.specs.Carrying.{carried, carried_back};
 ghost use Rattle.carrying.specs.Promises.{Carries, CarriesBack};
 ghost use Rattle.shelf_carrying.specs.Parts.{shifted_pair, shifted_pairs, Shifts};
 
-use refusals::{Fault, Outcome};
+use refusals::{Fault, Refusal};
 use refusing::failed;
 use shelf_layout::{
     DUPLICATES_PLACE, HELD_PLACE, Layout, base, length_of, map_of, put_heading, put_pair, start_of,
@@ -43,10 +43,8 @@ fn shift_starts(s: &mut [u8], from: Layout, to: Layout, map: u64)
     requires { (base_of (laid to) ≤ length s.old) × ((from.pairs ≤ 65536) × (to.pairs ≤ 65536)) × Shifts (laid from) (laid to) map s.old }
     ensures { s.new ≡ sets s.old to.pairs (shifted_pairs (laid from) (laid to) map s.old 64) }
 {
-    let mut slot = 0;
-    while slot < SLOTS {
+    for slot in 0..SLOTS {
         shift_start(s, from, to, map, slot);
-        slot += 1;
     }
 }
 
@@ -68,7 +66,7 @@ fn carry_up(s: &mut [u8])
     big_endian::put(s, DUPLICATES_PLACE, 4, 0);
 }
 
-pub fn carry(s: &mut [u8]) -> Outcome
+pub fn carry(s: &mut [u8]) -> Result<(), Refusal>
     ensures { Carries s.old result s.new }
 {
     if !is_sound(s, version_one()) {
@@ -78,7 +76,7 @@ pub fn carry(s: &mut [u8]) -> Outcome
         return failed(Fault::NoRoom, 8);
     }
     carry_up(s);
-    Outcome::Passed
+    Ok(())
 }
 
 // ---- version 2 into version 1
@@ -95,12 +93,12 @@ fn carry_down(s: &mut [u8])
     put_heading(s, version_one());
 }
 
-pub fn carry_back(s: &mut [u8]) -> Outcome
+pub fn carry_back(s: &mut [u8]) -> Result<(), Refusal>
     ensures { CarriesBack s.old result s.new }
 {
     if !is_sound(s, version_two()) {
         return failed(Fault::UnsoundShelf, 0);
     }
     carry_down(s);
-    Outcome::Passed
+    Ok(())
 }

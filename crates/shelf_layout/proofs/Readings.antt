@@ -1,12 +1,10 @@
 -- What is read of a shelf: whether a slot is occupied, and the sum of what the slots keep. Assumes nothing.
-use Rattle.std.specs.Prelude.{if◌then◌else◌}
-use Prim.Native.Nat.{ℕ, suc, ◌+◌, ◌<◌}
-use mathlib.Core.Path.{◌≡◌, refl, sym, ap, ◌∙◌}
+use Prim.Native.Nat.{ℕ, ◌+◌}
+use mathlib.Core.Path.{◌≡◌, sym, ap, ◌∙◌}
 use mathlib.Core.Bool.{Bool, true, false}
-use mathlib.Core.List.{List, [], ◌∷◌, ◌++◌, map, map-append}
+use mathlib.Core.List.{List, [], ◌∷◌, map, map-append}
 use native.Mathlib.Numerals.{add-one}
 use native.Mathlib.Omega.{arith}
-use Rattle.lists.specs.Lists.{those}
 use Rattle.lists.proofs.Texts.{if_true, if_false}
 use Rattle.shelves.specs.Layout.{Layout, slot_count, below, total, bit, map_of, is_occupied, occupied, length_of, held}
 use Rattle.shelves.proofs.Sums.{total_append, total_those, sum_below}

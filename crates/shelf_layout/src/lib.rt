@@ -13,7 +13,7 @@ ghost use Rattle.shelf_layout.specs.Laid.{laid, kept_in};
 use big_endian::get;
 use slot_map::{SLOTS, is_occupied};
 
-// A layout: its version, and where its 64 pairs begin. All else follows.
+// A layout: its version, which is the number that stands in a shelf's bytes, and where its 64 pairs begin. All else follows.
 #[derive(Clone, Copy)]
 pub struct Layout {
     pub version: usize,
@@ -101,9 +101,10 @@ fn kept_in(s: &[u8], l: Layout, map: u64, slot: usize) -> usize
     ensures { (result ≡ kept_in (laid l) s.now slot) × (result < 4294967296) }
 {
     if is_occupied(map, slot) {
-        return length_of(s, l, slot);
+        length_of(s, l, slot)
+    } else {
+        0
     }
-    0
 }
 
 // How many bytes the texts have together.
@@ -113,10 +114,8 @@ pub fn held(s: &[u8], l: Layout) -> usize
 {
     let map = map_of(s);
     let mut sum: usize = 0;
-    let mut slot = 0;
-    while slot < SLOTS {
-        sum = sum + kept_in(s, l, map, slot);
-        slot += 1;
+    for slot in 0..SLOTS {
+        sum += kept_in(s, l, map, slot);
     }
     sum
 }
@@ -144,8 +143,6 @@ pub fn put_heading(s: &mut [u8], l: Layout)
     requires { 5 ≤ length s.old }
     ensures { s.new ≡ sets s.old 0 (heading (laid l)) }
 {
-    s[0] = b'E';
-    s[1] = b'D';
-    s[2] = b'S';
+    s[..3].copy_from_slice(b"EDS");
     big_endian::put(s, 3, 2, l.version as u64);
 }

@@ -1,7 +1,7 @@
 -- Whether a text is a normal form, from what Judge says and from how it begins. Assumes nothing.
 use Prim.Native.Nat.{ℕ}
 use mathlib.Core.Path.{◌≡◌, sym, ◌∙◌}
-use mathlib.Core.Bool.{true, false}
+use mathlib.Core.Bool.{false}
 use mathlib.Core.List.{List}
 use mathlib.Core.Option.{none, some, none-ne-some}
 use lib.ListN.{length}

@@ -1,21 +1,19 @@
 -- A slot's pair and text, from the numbers that were read. Assumes nothing.
-use Rattle.std.specs.Prelude.{if◌then◌else◌}
 use Prim.Native.Nat.{ℕ, ◌+◌, ◌-◌, ◌≤◌, ◌<◌}
-use mathlib.Core.Path.{◌≡◌, refl, sym, ap, ap₂, subst, ◌∙◌}
+use mathlib.Core.Path.{◌≡◌, sym, ap, ap₂, ◌∙◌}
 use mathlib.Core.Bool.{Bool, true, false, not, ◌&&◌, ◌||◌}
 use mathlib.Core.List.{List}
 use native.Mathlib.Nat.{add-sub_cancel_left}
 use native.Mathlib.Omega.{arith}
 use lib.Dec.{eqb, leb}
-use lib.ListN.{length, take, drop, get_or, length-drop}
+use lib.ListN.{length, take, drop, length-drop}
 use lib.Seq.{length-take-le}
-use borrow.Author.Tests.{ne_eqb}
 use Rattle.lists.specs.Lists.{same}
-use Rattle.lists.proofs.Texts.{if_true, if_false, same_eq, same_length}
+use Rattle.lists.proofs.Texts.{if_true, if_false, same_length}
 use Rattle.lists.proofs.Tests.{fails, says_same}
 use Rattle.shelves.specs.Layout.{Layout, total, base, is_occupied, start_of, length_of, text_of, end_of}
 use Rattle.shelves.specs.Soundness.{is_normal_form, lies, apart, differ, is_blank_pair}
-use Rattle.shelf_soundness.specs.Clauses.{placed, sum_in, Summed, parted, formed, Ranged}
+use Rattle.shelf_soundness.specs.Clauses.{placed, sum_in, parted, formed, Ranged}
 
 module _ (l : Layout) (s : List ℕ) where
   module _ (k : ℕ) where

@@ -1,16 +1,15 @@
 -- The clauses, slot by slot, and soundness as a whole: each from the other. Assumes nothing.
-use Rattle.std.specs.Prelude.{if◌then◌else◌}
 use Prim.Native.Nat.{ℕ, ◌+◌, ◌≤◌, ◌<◌}
-use mathlib.Core.Path.{◌≡◌, refl, sym, ap, ◌∙◌}
+use mathlib.Core.Path.{◌≡◌, refl, sym}
 use mathlib.Core.Bool.{Bool, true, false, not, ◌&&◌, ◌||◌, false≢true}
-use mathlib.Core.List.{List, ◌++◌}
-use mathlib.Core.Logic.{◌⊎◌, inl, inr, ⊎_elim}
+use mathlib.Core.List.{List}
+use mathlib.Core.Logic.{inl, inr, ⊎_elim}
 use native.Mathlib.Omega.{arith}
 use lib.Dec.{eqb, leb, ltb}
-use lib.ListN.{length, drop}
-use borrow.Author.Tests.{ltb-true, ltb-false, le-leb}
-use Rattle.lists.specs.Lists.{same, begins, all}
-use Rattle.lists.proofs.Texts.{and_left, and_right, and_both, decided}
+use lib.ListN.{length}
+use borrow.Author.Tests.{ltb-true, ltb-false}
+use Rattle.lists.specs.Lists.{same, begins}
+use Rattle.lists.proofs.Texts.{decided}
 use Rattle.lists.proofs.Tests.{Says, says_as, says_both, says_either, says_not, says_eq, says_le, says_same, fails}
 use Rattle.shelves.specs.Layout.{Layout, most_shelf, slot_count, held_figure, base, heading, is_occupied, Occupied, start_of, length_of, text_of, end_of}
 use Rattle.shelves.specs.Soundness.{is_normal_form, lies, apart, differ, is_blank_pair, is_summed, sound}

@@ -9,7 +9,7 @@ ghost use Rattle.shelves.specs.Soundness.{is_normal_form};
 ghost use Rattle.shelf_layout.specs.Laid.{laid};
 ghost use Rattle.shelf_soundness.specs.Clauses.{Says, Ranged, formed, Formed};
 
-use answers::{Figures, Judged};
+use answers::Figures;
 use shelf_layout::{Layout, length_of, start_of};
 use slot_map::{SLOTS, is_occupied};
 
@@ -28,13 +28,8 @@ fn is_normal_form(text: &[u8]) -> bool
     ensures { result ≡ is_normal_form text.now }
 {
     match judge::judge(text) {
-        Judged::Refused(_) => false,
-        Judged::Accepted(i) => {
-            if i.length != text.len() {
-                return false;
-            }
-            begins_normal(text, i)
-        }
+        Ok(i) => i.length == text.len() && begins_normal(text, i),
+        Err(_) => false,
     }
 }
 
@@ -54,12 +49,5 @@ pub fn are_formed(s: &[u8], l: Layout, map: u64) -> bool
     requires { Ranged (laid l) s.now × (map ≡ map_of s.now) }
     ensures { Says result (Formed (laid l) s.now) }
 {
-    let mut slot = 0;
-    while slot < SLOTS {
-        if !is_formed(s, l, map, slot) {
-            return false;
-        }
-        slot += 1;
-    }
-    true
+    (0..SLOTS).all(|slot| is_formed(s, l, map, slot))
 }

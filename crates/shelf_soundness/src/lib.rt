@@ -2,7 +2,7 @@
 // kept text is judged once; the rest takes little beside that.
 #![tactic(auto)]
 
-ghost use Rattle.std.specs.Prelude.{◌≡◌, ◌≤◌, eqb, length, drop};
+ghost use Rattle.std.specs.Prelude.{◌≡◌, ◌≤◌, eqb, length};
 ghost use Rattle.lists.specs.Lists.{begins, all};
 ghost use Rattle.shelves.specs.Layout.{base, map_of, end_of, heading};
 ghost use Rattle.shelves.specs.Soundness.{is_sized, is_summed, sound};
@@ -32,15 +32,13 @@ fn has_heading(s: &[u8], l: Layout) -> bool
     texts::begins(s, &front)
 }
 
-// The bytes from a place on are zero: their bits are gathered.
-fn are_zero(s: &[u8], start: usize) -> bool
-    ensures { result ≡ all (eqb 0) (drop start s.now) }
+// All bytes are zero: their bits are gathered.
+fn are_zero(s: &[u8]) -> bool
+    ensures { result ≡ all (eqb 0) s.now }
 {
-    let mut found: u8 = 0;
-    let mut at = start;
-    while at < s.len() {
-        found = found | s[at];
-        at += 1;
+    let mut found = 0u8;
+    for b in s {
+        found |= *b;
     }
     found == 0
 }
@@ -50,26 +48,19 @@ fn is_summed(s: &[u8], l: Layout, end: usize) -> bool
     requires { (base (laid l) ≤ length s.now) × (l.pairs ≤ 65536) × (end ≡ end_of (laid l) s.now) }
     ensures { result ≡ is_summed (laid l) s.now }
 {
-    if l.pairs < 21 {
-        return true;
-    }
-    shelf_layout::base(l) + shelf_layout::held_figure(s) as usize == end
+    l.pairs < 21 || shelf_layout::base(l) + shelf_layout::held_figure(s) as usize == end
 }
 
 // What is left to ask where every kept text lies in the shelf.
 fn is_kept_well(s: &[u8], l: Layout, map: u64, end: usize) -> bool
-    requires { Ranged (laid l) s.now × (map ≡ map_of s.now) × (end ≡ end_of (laid l) s.now) }
+    requires { Ranged (laid l) s.now × (map ≡ map_of s.now) × (end ≡ end_of (laid l) s.now) × (end ≤ length s.now) }
     ensures { Says result (Kept (laid l) s.now) }
 {
-    if !parting::are_alone(s, l, map) {
-        return false;
-    }
-    if !are_zero(s, end) {
-        return false;
-    }
-    forming::are_formed(s, l, map)
+    parting::are_alone(s, l, map) && are_zero(&s[end..]) && forming::are_formed(s, l, map)
 }
 
+// One answer after another, and no `&&`: what an answer says is asked of the shelf by those behind it, and a proof
+// sees that only where each has a line of its own.
 pub fn is_sound(s: &[u8], l: Layout) -> bool
     requires { l.pairs ≤ 65536 }
     ensures { result ≡ sound (laid l) s.now }

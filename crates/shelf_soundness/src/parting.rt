@@ -28,10 +28,8 @@ fn sums_of(s: &[u8], l: Layout, map: u64) -> [u32; 64]
     ensures { Summed (laid l) s.now result }
 {
     let mut sums = [0u32; 64];
-    let mut slot = 0;
-    while slot < SLOTS {
+    for slot in 0..SLOTS {
         sums[slot] = sum_in(s, l, map, slot);
-        slot += 1;
     }
     sums
 }
@@ -70,13 +68,7 @@ fn are_parted(s: &[u8], l: Layout, map: u64, sums: &[u32; 64], one: usize, other
     requires { Ranged (laid l) s.now × (map ≡ map_of s.now) × Summed (laid l) s.now sums.now × ((one < 64) × (is_occupied s.now one ≡ true)) × (other < 64) }
     ensures { result ≡ parted (laid l) s.now one other }
 {
-    if !is_occupied(map, other) {
-        return true;
-    }
-    if !are_apart(s, l, one, other) {
-        return false;
-    }
-    !are_same(s, l, sums, one, other)
+    !is_occupied(map, other) || (are_apart(s, l, one, other) && !are_same(s, l, sums, one, other))
 }
 
 // What a slot keeps is apart from what later slots keep, and differs from it.
@@ -84,17 +76,8 @@ fn is_alone(s: &[u8], l: Layout, map: u64, sums: &[u32; 64], slot: usize) -> boo
     requires { Ranged (laid l) s.now × (map ≡ map_of s.now) × Summed (laid l) s.now sums.now × (slot < 64) }
     ensures { Says result (AloneAt (laid l) s.now slot) }
 {
-    if !is_occupied(map, slot) {
-        return true;
-    }
-    let mut other = slot + 1;
-    while other < SLOTS {
-        if !are_parted(s, l, map, sums, slot, other) {
-            return false;
-        }
-        other += 1;
-    }
-    true
+    !is_occupied(map, slot)
+        || (slot + 1..SLOTS).all(|other| are_parted(s, l, map, sums, slot, other))
 }
 
 pub fn are_alone(s: &[u8], l: Layout, map: u64) -> bool
@@ -102,12 +85,5 @@ pub fn are_alone(s: &[u8], l: Layout, map: u64) -> bool
     ensures { Says result (Alone (laid l) s.now) }
 {
     let sums = sums_of(s, l, map);
-    let mut slot = 0;
-    while slot < SLOTS {
-        if !is_alone(s, l, map, &sums, slot) {
-            return false;
-        }
-        slot += 1;
-    }
-    true
+    (0..SLOTS).all(|slot| is_alone(s, l, map, &sums, slot))
 }

@@ -24,12 +24,5 @@ pub fn are_placed(s: &[u8], l: Layout, map: u64, end: usize) -> bool
     requires { (base (laid l) ≤ length s.now) × (l.pairs ≤ 65536) × (map ≡ map_of s.now) × (end ≡ end_of (laid l) s.now) }
     ensures { Says result (Placed (laid l) s.now) }
 {
-    let mut slot = 0;
-    while slot < SLOTS {
-        if !is_placed(s, l, map, end, slot) {
-            return false;
-        }
-        slot += 1;
-    }
-    true
+    (0..SLOTS).all(|slot| is_placed(s, l, map, end, slot))
 }

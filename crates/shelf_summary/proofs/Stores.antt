@@ -1,11 +1,11 @@
 -- Runs of stores: one behind the other, and a run that stores what is there. Assumes nothing.
 use Prim.Native.Nat.{ℕ, zero, suc, ◌+◌, ◌≤◌}
 use mathlib.Core.Path.{◌≡◌, refl, sym, ap, ◌∙◌}
-use mathlib.Core.List.{List, [], ◌∷◌, ◌++◌, append_assoc}
+use mathlib.Core.List.{List, [], ◌∷◌, ◌++◌}
 use native.Mathlib.Nat.{add-zero}
 use native.Mathlib.Omega.{arith}
 use lib.ListN.{length, take, drop, set, length-drop}
-use lib.Seq.{sets, sets-eq, length-take-le, take-add, drop-drop, take_all}
+use lib.Seq.{sets, sets-eq, length-take-le, take-add}
 
 module _ {A : Type 0} where
   -- two runs, the second behind the first, are one

@@ -9,17 +9,15 @@ ghost use Rattle.shelves.specs.Layout.{bit};
 ghost use Rattle.shelves.specs.Summary.{put_new, put_copy, removed as removed_of};
 ghost use Rattle.shelf_summary.specs.Steps.{Heads, stored_back, shelved_of, after_put, PutFits, PutStays, after_remove, RemoveFits};
 
-use answers::Stored;
 use refusals::Refusal;
 use shelf_layout::{DUPLICATES_PLACE, HELD_PLACE, MAP_PLACE};
 use shelves::{Shelved, Summary};
 
-// What a put did: a new text of so many bytes in a slot, the slot of the copy that it found, or nothing.
+// What a put did: a new text of so many bytes in a slot, or the slot of the copy that it found.
 #[derive(Clone, Copy)]
 pub enum Placed {
     New { slot: usize, size: u32 },
     Copy(usize),
-    Refused(Refusal),
 }
 
 // ---- the head
@@ -42,8 +40,8 @@ pub fn store_head(s: &mut [u8], u: Summary)
     ensures { s.new ≡ stored_back s.old u }
 {
     big_endian::put(s, MAP_PLACE, 8, u.map);
-    big_endian::put(s, HELD_PLACE, 4, u.held as u64);
-    big_endian::put(s, DUPLICATES_PLACE, 4, u.duplicates as u64);
+    big_endian::put(s, HELD_PLACE, 4, u64::from(u.held));
+    big_endian::put(s, DUPLICATES_PLACE, 4, u64::from(u.duplicates));
 }
 
 // ---- the core: what a put or a removal does to the summary
@@ -56,7 +54,7 @@ pub fn put_new(u: Summary, slot: usize, size: u32) -> Summary
     Summary {
         map: slot_map::occupied(u.map, slot),
         held: u.held + size,
-        duplicates: u.duplicates,
+        ..u
     }
 }
 
@@ -64,13 +62,9 @@ pub fn put_new(u: Summary, slot: usize, size: u32) -> Summary
 pub fn put_copy(u: Summary) -> Summary
     ensures { result ≡ put_copy u }
 {
-    if u.duplicates == 4294967295 {
-        return u;
-    }
     Summary {
-        map: u.map,
-        held: u.held,
-        duplicates: u.duplicates + 1,
+        duplicates: u.duplicates.saturating_add(1),
+        ..u
     }
 }
 
@@ -82,34 +76,36 @@ pub fn removed(u: Summary, slot: usize, size: u32) -> Summary
     Summary {
         map: slot_map::freed(u.map, slot),
         held: u.held - size,
-        duplicates: u.duplicates,
+        ..u
     }
 }
 
-pub fn after_put(u: Summary, placed: Placed) -> Summary
+pub fn after_put(u: Summary, placed: Result<Placed, Refusal>) -> Summary
     requires { PutFits u placed }
     ensures { result ≡ after_put u placed }
 {
     match placed {
-        Placed::New { slot, size } => put_new(u, slot, size),
-        Placed::Copy(_) => put_copy(u),
-        Placed::Refused(_) => u,
+        Ok(done) => match done {
+            Placed::New { slot, size } => put_new(u, slot, size),
+            Placed::Copy(_) => put_copy(u),
+        },
+        Err(_) => u,
     }
 }
 
-pub fn after_remove(u: Summary, slot: usize, taken: Stored) -> Summary
+pub fn after_remove(u: Summary, slot: usize, taken: Result<usize, Refusal>) -> Summary
     requires { RemoveFits u slot taken }
     ensures { result ≡ after_remove u slot taken }
 {
     match taken {
-        Stored::Length(size) => removed(u, slot, size as u32),
-        Stored::Refused(_) => u,
+        Ok(size) => removed(u, slot, size as u32),
+        Err(_) => u,
     }
 }
 
 // ---- the thin steps
 
-pub fn put_step(u: &mut Summary, placed: Placed)
+pub fn put_step(u: &mut Summary, placed: Result<Placed, Refusal>)
     requires { PutFits u.old placed }
     ensures { (u.new ≡ after_put u.old placed) × PutStays placed u.old u.new }
 {
@@ -117,7 +113,7 @@ pub fn put_step(u: &mut Summary, placed: Placed)
 }
 
 // The duplicates figure stays.
-pub fn remove_step(u: &mut Summary, slot: usize, taken: Stored)
+pub fn remove_step(u: &mut Summary, slot: usize, taken: Result<usize, Refusal>)
     requires { RemoveFits u.old slot taken }
     ensures { (u.new ≡ after_remove u.old slot taken) × (u.new.duplicates ≡ u.old.duplicates) }
 {
@@ -126,12 +122,12 @@ pub fn remove_step(u: &mut Summary, slot: usize, taken: Stored)
 
 // ---- the answer
 
-pub fn shelved_of(placed: Placed) -> Shelved
+pub fn shelved_of(placed: Result<Placed, Refusal>) -> Result<Shelved, Refusal>
     ensures { result ≡ shelved_of placed }
 {
-    match placed {
-        Placed::New { slot, size } => Shelved::New(slot),
-        Placed::Copy(slot) => Shelved::Copy(slot),
-        Placed::Refused(refusal) => Shelved::Refused(refusal),
+    let done = placed?;
+    match done {
+        Placed::New { slot, .. } => Ok(Shelved::New(slot)),
+        Placed::Copy(slot) => Ok(Shelved::Copy(slot)),
     }
 }

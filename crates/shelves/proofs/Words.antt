@@ -1,6 +1,6 @@
 -- Requests 2026-04 and 2026-06 in their own numbers: what stands where in a shelf of version 1 and of version 2, the sizes, the slots, the
 -- sums, and the places of the refusals. Assumes nothing.
-use Rattle.std.specs.Prelude.{if◌then◌else◌}
+use Rattle.std.specs.Prelude.{if◌then◌else◌, Ok, Err}
 use Prim.Native.Nat.{ℕ, ◌+◌, ◌*◌, ◌/◌, ◌%◌, ◌^◌, ◌≤◌, ◌<◌}
 use mathlib.Core.Path.{◌≡◌, refl, ap, subst}
 use mathlib.Core.Bool.{Bool, true, false, not}
@@ -16,13 +16,10 @@ use Rattle.lists.proofs.Tests.{Says, says_eq, says_le, says_both}
 use Rattle.numbers.specs.Numbers.{number_at, in_bytes, read_on}
 use Rattle.refusals.specs.declared.Fault.TheVariants.{NoFreeSlot, NoRoom, UnsoundShelf}
 use Rattle.refusals.specs.declared.Refusal.{Refusal}
-use Rattle.refusals.specs.declared.Outcome.TheVariants.{Passed, Failed}
 use Rattle.refusals.specs.Refusals.{Stage, met, place_if}
 use Rattle.answers.specs.Answers.{given, refused}
 use Rattle.shelves.specs.declared.Shelved.TheVariants as shelved
-use Rattle.shelves.specs.declared.Slots.TheVariants as slots
 use Rattle.shelves.specs.declared.Summary.{Summary}
-use Rattle.shelves.specs.declared.TwoSums.TheVariants as sums
 use Rattle.shelves.specs.Layout.{version_one, version_two, below, total, map_of, held_figure, duplicates_of, bit, is_occupied, Occupied, occupied, free, has_sums, base, heading, pair_place, start_of, length_of, text_of, kept, held, end_of}
 use Rattle.shelves.specs.Soundness.{is_sized, is_summed, sound}
 use Rattle.shelves.specs.Summary.{put_new, put_copy, removed, map_and_held, duplicates_in}
@@ -163,15 +160,15 @@ kept_are s form = (
 -- ---- the answers, by number and values
 
 pub told_so : (r : Refusal)
-    → (told_shelved (shelved.New 3) ≡ given (3 ∷ 1 ∷ []))
-    × (told_shelved (shelved.Copy 3) ≡ given (3 ∷ 0 ∷ []))
-    × (told_shelved (shelved.Refused r) ≡ refused r)
-    × (told_slots (slots.Numbers 5 2) ≡ given (5 ∷ 2 ∷ []))
-    × (told_slots (slots.Refused r) ≡ refused r)
-    × (told_sums (sums.Numbers 93 7) ≡ given (93 ∷ 7 ∷ []))
-    × (told_sums (sums.Refused r) ≡ refused r)
-    × (told_outcome Passed ≡ given [])
-    × (told_outcome (Failed r) ≡ refused r)
+    → (told_shelved (Ok (shelved.New 3)) ≡ given (3 ∷ 1 ∷ []))
+    × (told_shelved (Ok (shelved.Copy 3)) ≡ given (3 ∷ 0 ∷ []))
+    × (told_shelved (Err r) ≡ refused r)
+    × (told_slots (Ok (record { occupied = 5; lowest_free = 2 })) ≡ given (5 ∷ 2 ∷ []))
+    × (told_slots (Err r) ≡ refused r)
+    × (told_sums (Ok (record { held = 93; duplicates = 7 })) ≡ given (93 ∷ 7 ∷ []))
+    × (told_sums (Err r) ≡ refused r)
+    × (told_outcome (Ok tt) ≡ given [])
+    × (told_outcome (Err r) ≡ refused r)
 unfolding told_shelved told_slots told_sums told_outcome new_at copy_at
 told_so r = (refl, refl, refl, refl, refl, refl, refl, refl, refl)
 

@@ -3,8 +3,6 @@
 // the map and the two sums answer and leave in the buffer, are in specs/. The layout is a parameter.
 #![tactic(auto)]
 
-use refusals::Refusal;
-
 // The summary at a shelf's head: the map of occupied slots, the text bytes held, the duplicates found.
 #[derive(Clone, Copy)]
 pub struct Summary {
@@ -18,19 +16,18 @@ pub struct Summary {
 pub enum Shelved {
     New(usize),
     Copy(usize),
-    Refused(Refusal),
 }
 
 // What is read off the map: how many slots are occupied, and the lowest free one, 64 where none is.
 #[derive(Clone, Copy)]
-pub enum Slots {
-    Numbers { occupied: usize, lowest_free: usize },
-    Refused(Refusal),
+pub struct Slots {
+    pub occupied: usize,
+    pub lowest_free: usize,
 }
 
 // What the two sums are: the text bytes held, and the duplicates found.
 #[derive(Clone, Copy)]
-pub enum TwoSums {
-    Numbers { held: u32, duplicates: u32 },
-    Refused(Refusal),
+pub struct TwoSums {
+    pub held: u32,
+    pub duplicates: u32,
 }

@@ -11,7 +11,8 @@ ghost use Rattle.stage_bytes.specs.Orderly.{releases, may_break, orderly, servic
 use characters::Characters;
 use level_classes::{all_in_level, is_in_level, is_within};
 use line_breaks::is_break;
-use refusals::{Fault, Outcome, Refusal};
+use refusals::{Fault, Refusal};
+use refusing::failed;
 use scanner::{Lexed, lex};
 use storing::is_service;
 
@@ -81,39 +82,34 @@ fn all_orderly(s: &[u8], c: Characters, level: u8, start: usize) -> bool
     let mut found = service_apart(c)
         & opening_is_orderly(c, level, s[start], s[start + 1], s[start + 2], s[start + 3]);
     let last = s.len() - 4;
-    let mut at = start;
-    while at < last {
-        found = found & is_orderly(c, level, s[at], s[at + 1], s[at + 2], s[at + 3], s[at + 4]);
-        at += 1;
+    for at in start..last {
+        found &= is_orderly(c, level, s[at], s[at + 1], s[at + 2], s[at + 3], s[at + 4]);
     }
     found
 }
 
 // The last byte is outside the level: a line break, or a terminator that no level has.
 fn ends_outside(s: &[u8], level: u8) -> bool {
-    if s.len() == 0 {
-        return false;
-    }
-    !is_in_level(level, s[s.len() - 1])
+    s.last().is_some_and(|&b| !is_in_level(level, b))
 }
 
 // Where every byte is in the level, or all are orderly, every byte of a value is in the level: only the
 // others need the walk over the tokens. The first question is idle where the last byte is outside the level.
-pub fn in_level(s: &[u8], c: Characters, level: u8, start: usize) -> Outcome
+pub fn in_level(s: &[u8], c: Characters, level: u8, start: usize) -> Result<(), Refusal>
     ensures { result ≡ outcome (leveled level (tokens_at c s.now start)) }
 {
     if !ends_outside(s, level) {
         if all_in_level(s, start, level) {
-            return Outcome::Passed;
+            return Ok(());
         }
     }
     if all_orderly(s, c, level, start) {
-        return Outcome::Passed;
+        return Ok(());
     }
     first_outside(s, c, level, start)
 }
 
-fn first_outside(s: &[u8], c: Characters, level: u8, start: usize) -> Outcome
+fn first_outside(s: &[u8], c: Characters, level: u8, start: usize) -> Result<(), Refusal>
     ensures { result ≡ outcome (leveled level (tokens_at c s.now start)) }
 {
     let mut at = start;
@@ -121,21 +117,18 @@ fn first_outside(s: &[u8], c: Characters, level: u8, start: usize) -> Outcome
         match lex(s, c, at) {
             Lexed::Byte { byte, place, next } => {
                 if !is_in_level(level, byte) {
-                    return Outcome::Failed(Refusal {
-                        fault: Fault::OutsideLevel,
-                        place,
-                    });
+                    return failed(Fault::OutsideLevel, place);
                 }
                 at = next;
             }
-            Lexed::Separator { rank: _, next } => {
+            Lexed::Separator { next, .. } => {
                 at = next;
             }
             Lexed::Stray { next } => {
                 at = next;
             }
             Lexed::End => {
-                return Outcome::Passed;
+                return Ok(());
             }
         }
     }

@@ -1,5 +1,5 @@
 -- The answer for one segment, computed from what is kept, is the stage's answer after all that passed. Assumes nothing.
-use Rattle.std.specs.Prelude.{if◌then◌else◌}
+use Rattle.std.specs.Prelude.{if◌then◌else◌, Ok}
 use Prim.Native.Nat.{ℕ, ◌<◌}
 use mathlib.Core.Path.{◌≡◌, refl, sym, ap, ap₂, subst, ◌∙◌}
 use mathlib.Core.Bool.{Bool, true, false, not, ◌&&◌, ◌||◌}
@@ -12,9 +12,7 @@ use lib.Dec.{eqb}
 use Rattle.lists.specs.Lists.{same, through, maybe}
 use Rattle.characters.specs.declared.Characters.{Characters}
 use Rattle.refusals.specs.declared.Fault.TheVariants.{BadControl, ReferenceDiffers, CountWrong}
-use Rattle.refusals.specs.declared.Outcome.{Outcome}
-use Rattle.refusals.specs.declared.Outcome.TheVariants.{Passed}
-use Rattle.refusals.specs.Refusals.{outcome, failed_at}
+use Rattle.refusals.specs.Refusals.{outcome, failed_at, Outcome}
 use Rattle.values.specs.Tokens.{Token, Segment, tokens_at}
 use Rattle.scanner.specs.Scan.{segment_at}
 use Rattle.scanner.proofs.Segments.{segment_start_lem}
@@ -41,11 +39,11 @@ use Rattle.stage_control.proofs.Kept.{reference_filled, same_unless, Spelled, Ke
 -- as the code asks: no reference, a reference, no count, a count, the same reference, the right count
 abbrev asked : ℕ → Bool → Bool → Bool → Bool → Bool → Bool → Outcome
 asked at unnamed named uncounted counted alike right =
-    if unnamed then Passed
+    if unnamed then Ok tt
     else (if named
-    then (if uncounted then Passed
+    then (if uncounted then Ok tt
     else (if counted
-    then (if alike then (if right then Passed else failed_at CountWrong at) else failed_at ReferenceDiffers at)
+    then (if alike then (if right then (Ok tt) else failed_at CountWrong at) else failed_at ReferenceDiffers at)
     else failed_at BadControl at))
     else failed_at BadControl at)
 

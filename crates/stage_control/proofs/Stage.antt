@@ -1,5 +1,5 @@
 -- The walk of stage (10 11 12) from a place on, by the answer for the segment that begins there. Assumes nothing.
-use Rattle.std.specs.Prelude.{if◌then◌else◌}
+use Rattle.std.specs.Prelude.{if◌then◌else◌, Ok, Err}
 use Prim.Native.Nat.{ℕ, ◌-◌, ◌≤◌, ◌<◌}
 use mathlib.Core.Path.{◌≡◌, refl, sym, ap, subst, subst⁻¹, subst₂, ◌∙◌}
 use mathlib.Core.Bool.{Bool, true, false}
@@ -10,9 +10,7 @@ use lib.ListN.{length, length-map}
 use Rattle.characters.specs.declared.Characters.{Characters}
 use Rattle.refusals.specs.declared.Fault.TheVariants.{BadControl, ReferenceDiffers, CountWrong}
 use Rattle.refusals.specs.declared.Refusal.{Refusal}
-use Rattle.refusals.specs.declared.Outcome.{Outcome}
-use Rattle.refusals.specs.declared.Outcome.TheVariants.{Passed, Failed}
-use Rattle.refusals.specs.Refusals.{or_else, outcome}
+use Rattle.refusals.specs.Refusals.{or_else, outcome, Outcome}
 use Rattle.values.specs.Tokens.{Segment, ends, segments, start, tokens_at}
 use Rattle.scanner.specs.Scan.{segment_at, Skips}
 use Rattle.scanner.proofs.Segments.{segments_end, segments_next}
@@ -39,8 +37,8 @@ falls size at next h k = omega arith
 
 -- the first that does not pass
 abbrev or_next : Outcome → Outcome → Outcome
-or_next Passed later = later
-or_next (Failed r) later = Failed r
+or_next (Ok _) later = later
+or_next (Err r) later = Err r
 
 outcome_else : (first later : Option Refusal) → outcome (or_else first later) ≡ or_next (outcome first) (outcome later)
 unfolding outcome or_else
@@ -48,18 +46,18 @@ outcome_else none later = refl
 outcome_else (some r) later = refl
 
 abbrev passes : Outcome → Bool
-passes Passed = true
-passes (Failed r) = false
+passes (Ok _) = true
+passes (Err r) = false
 
 -- a segment that passes keeps the rule
-rule_kept : (past : List Segment) (g : Segment) → outcome (controlled_segment past g) ≡ Passed → control_rule g ≡ true
+rule_kept : (past : List Segment) (g : Segment) → outcome (controlled_segment past g) ≡ Ok tt → control_rule g ≡ true
 unfolding controlled_segment outcome
 rule_kept past g h =
     step (control_rule g)
     (if reference_differs past g then refuse ReferenceDiffers (start g) else (if count_wrong past g then refuse CountWrong (start g) else none))
     h
   where
-    step : (rule : Bool) (later : Option Refusal) → outcome (if rule then later else refuse BadControl (start g)) ≡ Passed → rule ≡ true
+    step : (rule : Bool) (later : Option Refusal) → outcome (if rule then later else refuse BadControl (start g)) ≡ Ok tt → rule ≡ true
     step true later k = refl
     step false later k = ap passes k
 
@@ -102,7 +100,7 @@ module _ (c : Characters) (s : List ℕ) where
         counts_within walk (map kind_of i.past) i.kept.counts (omega (arith, length-map i.past kind_of, i.fewer))
 
     -- after the last byte all passed
-    pub passing_end : length s ≤ at → outcome (controlled (tokens_at c s from)) ≡ Passed
+    pub passing_end : length s ≤ at → outcome (controlled (tokens_at c s from)) ≡ Ok tt
     unfolding first_in outcome
     passing_end h =
         i.same_answer ∙ ap (λ (gs : List Segment). outcome (first_in controlled_segment i.past gs)) (segments_end c s at h)
@@ -125,11 +123,11 @@ module _ (c : Characters) (s : List ℕ) where
           ∙ ap (λ (o : Outcome). or_next o (comes_to (g ∷ i.past) next)) (sym answer_is)
 
       -- a refusal is the stage's
-      pub passing_failed : {r : Refusal} → answer ≡ Failed r → outcome (controlled (tokens_at c s from)) ≡ Failed r
+      pub passing_failed : {r : Refusal} → answer ≡ Err r → outcome (controlled (tokens_at c s from)) ≡ Err r
       passing_failed f = goes_on ∙ ap (λ (o : Outcome). or_next o (comes_to (g ∷ i.past) next)) f
 
       -- a segment that passes is one more of those that passed
-      pub passing_next : {after : Walk} {kept : Headers} → answer ≡ Passed → after ≡ stepped_by walk kind
+      pub passing_next : {after : Walk} {kept : Headers} → answer ≡ Ok tt → after ≡ stepped_by walk kind
           → kept ≡ headers_after headers kind reference → Passing from after kept next
       passing_next {after} {kept} f w u =
           record {

@@ -1,12 +1,10 @@
 -- The answer for one segment in stage (10 11 12), from what is kept of those that passed: where the nearest headers' references
 -- are spelled, and the counters. Assumes nothing.
-use Rattle.std.specs.Prelude.{ℕ, ◌+◌, List, eqb, if◌then◌else◌}
+use Rattle.std.specs.Prelude.{ℕ, ◌+◌, List, eqb, if◌then◌else◌, Ok}
 use Rattle.lists.specs.Lists.{same}
 use Rattle.characters.specs.declared.Characters.{Characters}
 use Rattle.refusals.specs.declared.Fault.TheVariants.{BadControl, ReferenceDiffers, CountWrong}
-use Rattle.refusals.specs.declared.Outcome.{Outcome}
-use Rattle.refusals.specs.declared.Outcome.TheVariants.{Passed}
-use Rattle.refusals.specs.Refusals.{failed_at}
+use Rattle.refusals.specs.Refusals.{failed_at, Outcome}
 use Rattle.values.specs.Tokens.{Token, tokens_at}
 use Rattle.segments.specs.declared.Kind.{Kind}
 use Rattle.segments.specs.declared.Kind.TheVariants.{Unb, Ung, Unh, Uns, Unt, Une, Unz, User}
@@ -74,7 +72,7 @@ unfoldable pub trailer_by : ℕ → List Token → List Token → List Token →
 trailer_by at reference counted header count =
     if spells_count (field_of counted)
     then (if same (value_in reference) (value_in header)
-    then (if eqb (field_of counted).number count then Passed else failed_at CountWrong at)
+    then (if eqb (field_of counted).number count then (Ok tt) else failed_at CountWrong at)
     else failed_at ReferenceDiffers at)
     else failed_at BadControl at
 
@@ -86,8 +84,8 @@ trailer_at c s at reference counted header count =
 -- the segment at a place, whose reference is spelled at `reference`
 unfoldable pub controlled_by : Characters → List ℕ → ℕ → Positions → ℕ → ℕ → ℕ → Outcome
 controlled_by c s at p reference header count =
-    if eqb p.reference 0 then Passed
+    if eqb p.reference 0 then Ok tt
     else (if spells_reference (field_of (tokens_at c s reference))
-    then (if eqb p.count 0 then Passed
+    then (if eqb p.count 0 then Ok tt
     else trailer_by at (tokens_at c s reference) (element_from p.count (tokens_at c s at)) (tokens_at c s header) count)
     else failed_at BadControl at)

@@ -8,7 +8,7 @@ ghost use Rattle.refusals.specs.Refusals.{outcome};
 ghost use Rattle.values.specs.Tokens.{tokens_at};
 ghost use Rattle.stage_walks.specs.Walks.{controlled};
 ghost use Rattle.walk_laws.specs.Walking.{Within};
-ghost use Rattle.stage_control.specs.Controlling.{header_kept, kept_after, headers_after, groups_or_messages, count_due, trailer_at, controlled_by};
+ghost use Rattle.stage_control.specs.Controlling.{header_kept, headers_after, groups_or_messages, count_due, trailer_at, controlled_by};
 ghost use Rattle.refusals.specs.Limits.{most_bytes};
 
 use characters::Characters;
@@ -16,7 +16,7 @@ use control_elements::Positions;
 use control_fields::{field_at, is_count, is_reference};
 use control_positions::positions_of;
 use elements::element_at;
-use refusals::{Fault, Outcome};
+use refusals::{Fault, Refusal};
 use refusing::failed;
 use scanner::segment_end;
 use segments::{Kind, Walk};
@@ -40,27 +40,7 @@ pub fn header_of(h: Headers, kind: Kind) -> usize
         Kind::Unt => h.unh,
         Kind::Une => h.ung,
         Kind::Unz => h.unb,
-        Kind::Unb => 0,
-        Kind::Ung => 0,
-        Kind::Unh => 0,
-        Kind::Uns => 0,
-        Kind::User => 0,
-    }
-}
-
-// What is kept after a segment of this kind, of what is kept after UNB, UNG, UNH and any other.
-fn kept_after(kind: Kind, unb: Headers, ung: Headers, unh: Headers, other: Headers) -> Headers
-    ensures { result ≡ kept_after kind unb ung unh other }
-{
-    match kind {
-        Kind::Unb => unb,
-        Kind::Ung => ung,
-        Kind::Unh => unh,
-        Kind::Uns => other,
-        Kind::Unt => other,
-        Kind::Une => other,
-        Kind::Unz => other,
-        Kind::User => other,
+        _ => 0,
     }
 }
 
@@ -68,22 +48,21 @@ fn kept_after(kind: Kind, unb: Headers, ung: Headers, unh: Headers, other: Heade
 pub fn passed_header(h: Headers, kind: Kind, reference: usize) -> Headers
     ensures { result ≡ headers_after h kind reference }
 {
-    let unb = Headers {
-        unb: reference,
-        ung: h.ung,
-        unh: h.unh,
-    };
-    let ung = Headers {
-        unb: h.unb,
-        ung: reference,
-        unh: h.unh,
-    };
-    let unh = Headers {
-        unb: h.unb,
-        ung: h.ung,
-        unh: reference,
-    };
-    kept_after(kind, unb, ung, unh, h)
+    match kind {
+        Kind::Unb => Headers {
+            unb: reference,
+            ..h
+        },
+        Kind::Ung => Headers {
+            ung: reference,
+            ..h
+        },
+        Kind::Unh => Headers {
+            unh: reference,
+            ..h
+        },
+        _ => h,
+    }
 }
 
 // "the groups, or the messages where there are no groups"
@@ -105,11 +84,7 @@ pub fn true_count(w: Walk, kind: Kind) -> u32
         Kind::Unt => w.in_message.0 + 1,
         Kind::Une => w.in_group.0,
         Kind::Unz => groups_or_messages(w),
-        Kind::Unb => 0,
-        Kind::Ung => 0,
-        Kind::Unh => 0,
-        Kind::Uns => 0,
-        Kind::User => 0,
+        _ => 0,
     }
 }
 
@@ -122,7 +97,7 @@ fn trailer_control(
     counted: usize,
     header: usize,
     count: u32,
-) -> Outcome
+) -> Result<(), Refusal>
     ensures { result ≡ trailer_at c s.now at reference counted header count }
 {
     let field = field_at(s, c, counted);
@@ -135,7 +110,7 @@ fn trailer_control(
     if field.number != count {
         return failed(Fault::CountWrong, at);
     }
-    Outcome::Passed
+    Ok(())
 }
 
 // One segment. A segment that has a count is a trailer.
@@ -147,23 +122,23 @@ pub fn segment_control(
     reference: usize,
     header: usize,
     count: u32,
-) -> Outcome
+) -> Result<(), Refusal>
     ensures { result ≡ controlled_by c s.now at p reference header count }
 {
     if p.reference == 0 {
-        return Outcome::Passed;
+        return Ok(());
     }
     if !is_reference(field_at(s, c, reference)) {
         return failed(Fault::BadControl, at);
     }
     if p.count == 0 {
-        return Outcome::Passed;
+        return Ok(());
     }
     let counted = element_at(s, c, at, p.count);
     trailer_control(s, c, at, reference, counted, header, count)
 }
 
-pub fn check(s: &[u8], c: Characters, start: usize) -> Outcome
+pub fn check(s: &[u8], c: Characters, start: usize) -> Result<(), Refusal>
     requires { length s.now ≤ most_bytes }
     ensures { result ≡ outcome (controlled (tokens_at c s.now start)) }
 {
@@ -180,16 +155,10 @@ pub fn check(s: &[u8], c: Characters, start: usize) -> Outcome
         let reference = element_at(s, c, at, p.reference);
         let next = segment_end(s, c, at);
         let header = header_of(headers, kind);
-        match segment_control(s, c, at, p, reference, header, true_count(walk, kind)) {
-            Outcome::Failed(r) => {
-                return Outcome::Failed(r);
-            }
-            Outcome::Passed => {
-                walk = stepped(walk, kind);
-                headers = passed_header(headers, kind, reference);
-                at = next;
-            }
-        }
+        segment_control(s, c, at, p, reference, header, true_count(walk, kind))?;
+        walk = stepped(walk, kind);
+        headers = passed_header(headers, kind, reference);
+        at = next;
     }
-    Outcome::Passed
+    Ok(())
 }

@@ -23,16 +23,8 @@ use trimmed_values::{is_text, is_unrepeated};
 fn is_version(s: &[u8], c: Characters, at: usize) -> bool
     ensures { result ≡ is_version c (value_in (tokens_at c s.now at)) }
 {
-    if is_text(s, c, at, b"4") {
-        return true;
-    }
-    if c.repetition != 32 {
-        return false;
-    }
-    if is_text(s, c, at, b"1") {
-        return true;
-    }
-    is_text(s, c, at, b"2")
+    is_text(s, c, at, b"4")
+        || (c.repetition == b' ' && (is_text(s, c, at, b"1") || is_text(s, c, at, b"2")))
 }
 
 // The level that the value which begins at a place names.
@@ -55,10 +47,7 @@ pub fn level_of(s: &[u8], c: Characters, start: usize) -> u8
     ensures { result ≡ maybe 0 (λ level. level) (level_of c (segment_at c s.now start)) }
 {
     let at = element_at(s, c, start, 1);
-    if !is_unrepeated(s, c, at) {
-        return 0;
-    }
-    if is_version(s, c, component_at(s, c, at, 1)) {
+    if is_unrepeated(s, c, at) && is_version(s, c, component_at(s, c, at, 1)) {
         level_named(s, c, at)
     } else {
         0
@@ -70,11 +59,9 @@ pub fn normal_repetition(s: &[u8], c: Characters, start: usize) -> u8
     ensures { result ≡ normal_repetition (contents_of (segment_at c s.now start) ∷ []) }
 {
     let at = element_at(s, c, start, 1);
-    if !is_unrepeated(s, c, at) {
-        return b' ';
+    if is_unrepeated(s, c, at) && is_text(s, c, component_at(s, c, at, 1), b"4") {
+        b'*'
+    } else {
+        b' '
     }
-    if is_text(s, c, component_at(s, c, at, 1), b"4") {
-        return b'*';
-    }
-    b' '
 }

@@ -1,6 +1,7 @@
 -- Paper 01, "The first failing stage answers": what a run of stages answers, which is the refusal, or what was found of the input on
 -- the way. Assumes nothing.
-use Rattle.std.specs.Prelude.{ℕ, List, [], reverse, leb, if◌then◌else◌}
+use Rattle.refusals.specs.declared.Refusal.{Refusal}
+use Rattle.std.specs.Prelude.{ℕ, List, [], reverse, leb, if◌then◌else◌, Ok, Err, Result}
 use Rattle.lists.specs.Lists.{maybe}
 use Rattle.characters.specs.Characters.{characters_of, body_start}
 use Rattle.refusals.specs.Refusals.{answering}
@@ -11,8 +12,6 @@ use Rattle.stages.specs.Contents.{segments_of, kinds_of}
 use Rattle.stages.specs.Places.{level}
 use Rattle.stages.specs.Stages.{stages_in}
 use Rattle.stage_opening.specs.declared.Found.{Found}
-use Rattle.stage_opening.specs.declared.Progress.{Progress}
-use Rattle.stage_opening.specs.declared.Progress.TheVariants.{Passed, Refused}
 
 -- what the stages up to a number find
 unfoldable pub found_by : (last : ℕ) → List ℕ → Found
@@ -24,6 +23,10 @@ found_by last s =
       walk = if leb 9 last then walk_over (last_section (reverse (segments_of s))) (kinds_of s) else walk_over None [];
     }
 
+-- what was found, or the refusal
+abbrev pub Progress : Type 0
+Progress = Result Found Refusal
+
 -- what the stages with the numbers from the first to the last answer
 unfoldable pub progress : (first last : ℕ) → List ℕ → Progress
-progress first last s = maybe (Passed (found_by last s)) Refused (answering (stages_in s first last))
+progress first last s = maybe (Ok (found_by last s)) Err (answering (stages_in s first last))

@@ -1,6 +1,6 @@
 // The opening of an input (paper 01, "Service characters"; refusals 2 and 3): which service characters
 // it uses, whether they are usable, and where its body begins. It promises what these two stages of
-// Judge answer, as `Progress`, in which every run of stages hands on what it found. What the body
+// Judge answer: the refusal, or what they found, which every run of stages hands on. What the body
 // holds is left to others.
 #![tactic(auto)]
 
@@ -13,6 +13,7 @@ ghost use Rattle.stage_opening.specs.Runs.{progress};
 use characters::Characters;
 use line_breaks::after_breaks;
 use refusals::{Fault, Refusal};
+use refusing::failed;
 use segments::Walk;
 
 // ---- when six bytes are usable
@@ -85,10 +86,7 @@ pub fn is_usable(c: Characters) -> bool
 fn byte_at(s: &[u8], at: usize) -> u8
     ensures { result ≡ get_or s.now at 0 }
 {
-    if s.len() <= at {
-        return 0;
-    }
-    s[at]
+    s.get(at).copied().unwrap_or(0)
 }
 
 // The byte stands so many bytes after a place.
@@ -126,21 +124,18 @@ fn names_version4(s: &[u8]) -> bool
 }
 
 // What an input without advice uses that begins `UNB+`.
+#[tactic(auto, unfolding(characters::specs::Characters::plus_characters, characters::specs::Characters::star_characters, characters::specs::Characters::six_bytes))]
 fn plus_characters(version4: bool) -> Characters
     ensures { result ≡ (if version4 then star_characters else plus_characters) }
 {
-    let mut c = Characters {
+    Characters {
         component: b':',
         element: b'+',
         mark: b'.',
         release: b'?',
-        repetition: b' ',
+        repetition: if version4 { b'*' } else { b' ' },
         terminator: b'\'',
-    };
-    if version4 {
-        c.repetition = b'*';
     }
-    c
 }
 
 fn characters_of(s: &[u8]) -> Characters
@@ -205,36 +200,23 @@ pub struct Found {
     pub walk: Walk,
 }
 
-// What a run of stages answers: what it found, or the refusal.
-#[derive(Clone, Copy)]
-pub enum Progress {
-    Passed(Found),
-    Refused(Refusal),
-}
-
-pub fn refused(fault: Fault, place: usize) -> Progress
-    ensures { result ≡ Progress.Refused (record { fault = fault; place = place }) }
-{
-    Progress::Refused(Refusal { fault, place })
-}
-
 // Stages 2 and 3.
-pub fn opening_of(s: &[u8]) -> Progress
+pub fn opening_of(s: &[u8]) -> Result<Found, Refusal>
     ensures { result ≡ progress 2 3 s.now }
 {
     if has_bad_advice(s) {
-        return refused(Fault::UnusableAdvice, 0);
+        return failed(Fault::UnusableAdvice, 0);
     }
     let start = body_start(s);
     if is_opening(s) {
         let characters = characters_of(s);
         let walk = walk::beginning();
-        return Progress::Passed(Found {
+        return Ok(Found {
             characters,
             start,
             level: 0,
             walk,
         });
     }
-    refused(Fault::NoOpening, start)
+    failed(Fault::NoOpening, start)
 }

@@ -1,5 +1,5 @@
 -- The walk from its beginning over all segments answers as stage 9 does. Assumes nothing.
-use Rattle.std.specs.Prelude.{if◌then◌else◌}
+use Rattle.std.specs.Prelude.{if◌then◌else◌, Ok}
 use Prim.Native.Nat.{ℕ, ◌≤◌, ◌<◌}
 use mathlib.Core.Path.{◌≡◌, refl, sym, ap, ◌∙◌}
 use mathlib.Core.Bool.{Bool, true, false, ◌&&◌}
@@ -26,9 +26,7 @@ use Rattle.stage_walks.specs.Walks.{refuse, first_in, ordered_segment, ordered}
 use Rattle.walk_laws.specs.Walking.{walked, marked, section_begun, fits_by, stepped_by, begun_by}
 use Rattle.walk_laws.proofs.Walks.{complete_over}
 use Rattle.walk_laws.proofs.Sections.{fits_over, passed_over}
-use Rattle.stage_order.specs.declared.Ordered.{Ordered}
-use Rattle.stage_order.specs.declared.Ordered.TheVariants.{Whole}
-use Rattle.stage_order.specs.Ordering.{ordered_by, ordered_as, misplaced_at, completed, goes_on}
+use Rattle.stage_order.specs.Ordering.{ordered_by, ordered_as, misplaced_at, completed, goes_on, Ordered}
 
 -- the walk over segments that passed
 abbrev walk_after : List Segment → Walk
@@ -47,9 +45,9 @@ ends_with : (size : ℕ) (section : Section) (past : List Kind)
     ≡ ordered_by (walk_over section past) (if is_complete past then none else refuse MisplacedSegment size)
 unfolding completed
 ends_with size section past =
-    ap (λ (b : Bool). if b then Whole (walk_over section past) else misplaced_at size) (complete_over section past) ∙ step (is_complete past)
+    ap (λ (b : Bool). if b then Ok (walk_over section past) else misplaced_at size) (complete_over section past) ∙ step (is_complete past)
   where
-    step : (b : Bool) → (if b then Whole (walk_over section past) else misplaced_at size)
+    step : (b : Bool) → (if b then Ok (walk_over section past) else misplaced_at size)
         ≡ ordered_by (walk_over section past) (if b then none else refuse MisplacedSegment size)
     step true = refl
     step false = refl

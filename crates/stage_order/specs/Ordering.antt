@@ -1,6 +1,6 @@
 -- What stage 9 answers, and the same as a walk that knows only where it stands, which section it is in and what it has counted.
 -- `size` is the length of the input. Assumes nothing.
-use Rattle.std.specs.Prelude.{ℕ, List, [], ◌∷◌, map, reverse, if◌then◌else◌}
+use Rattle.std.specs.Prelude.{ℕ, List, [], ◌∷◌, map, reverse, if◌then◌else◌, Ok, Err, Result}
 use Rattle.std.proofs.Math.Option.{Option, none, some}
 use Rattle.refusals.specs.declared.Fault.TheVariants.{MisplacedSegment}
 use Rattle.refusals.specs.declared.Refusal.{Refusal}
@@ -15,13 +15,14 @@ use Rattle.stage_walks.specs.Walks.{ordered}
 use Rattle.elements.specs.Values.{value_in}
 use Rattle.trimmed_values.specs.Trimmed.{is_alone}
 use Rattle.walk_laws.specs.Walking.{section_begun, fits_by, stepped_by, begun_by, is_after}
-use Rattle.stage_order.specs.declared.Ordered.{Ordered}
-use Rattle.stage_order.specs.declared.Ordered.TheVariants.{Whole, Failed}
 
--- the refusal that is met, or the walk over all segments
+-- the walk over all segments, or the refusal that is met
+abbrev pub Ordered : Type 0
+Ordered = Result Walk Refusal
+
 abbrev pub ordered_by : Walk → Option Refusal → Ordered
-ordered_by walk none = Whole walk
-ordered_by walk (some r) = Failed r
+ordered_by walk none = Ok walk
+ordered_by walk (some r) = Err r
 
 unfoldable pub ordered_as : ℕ → List Token → Ordered
 ordered_as size ts =
@@ -37,11 +38,11 @@ section_from ts = if is_alone ts then section_named (value_in ts) else None
 -- ---- the walk
 
 abbrev pub misplaced_at : ℕ → Ordered
-misplaced_at place = Failed (record { fault = MisplacedSegment; place = place })
+misplaced_at place = Err (record { fault = MisplacedSegment; place = place })
 
 -- the walk's answer after the last segment
 unfoldable pub completed : ℕ → Walk → Ordered
-completed size walk = if is_after walk.standing then Whole walk else misplaced_at size
+completed size walk = if is_after walk.standing then Ok walk else misplaced_at size
 
 -- the walk's answer over the segments that are left
 unfoldable pub goes_on : ℕ → Walk → List Segment → Ordered

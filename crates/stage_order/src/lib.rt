@@ -20,28 +20,21 @@ use tags::kind_at;
 use trimmed_values::{is_alone, is_text};
 use walk::{beginning, begun, fits, is_complete, is_marker, stepped};
 
-// The walk over the whole, or the refusal that stage 9 answers.
-#[derive(Clone, Copy)]
-pub enum Ordered {
-    Whole(Walk),
-    Failed(Refusal),
-}
-
-fn misplaced(place: usize) -> Ordered
+fn misplaced(place: usize) -> Result<Walk, Refusal>
     ensures { result ≡ misplaced_at place }
 {
-    Ordered::Failed(Refusal {
+    Err(Refusal {
         fault: Fault::MisplacedSegment,
         place,
     })
 }
 
 // "or the end before UNZ"
-fn complete(w: Walk, end: usize) -> Ordered
+fn complete(w: Walk, end: usize) -> Result<Walk, Refusal>
     ensures { result ≡ completed end w }
 {
     if is_complete(w) {
-        return Ordered::Whole(w);
+        return Ok(w);
     }
     misplaced(end)
 }
@@ -72,7 +65,7 @@ pub fn section_at(s: &[u8], c: Characters, at: usize, kind: Kind) -> Section
     Section::None
 }
 
-pub fn check(s: &[u8], c: Characters, start: usize) -> Ordered
+pub fn check(s: &[u8], c: Characters, start: usize) -> Result<Walk, Refusal>
     requires { length s.now ≤ most_bytes }
     ensures { result ≡ ordered_as (length s.now) (tokens_at c s.now start) }
 {

@@ -8,14 +8,14 @@ ghost use Rattle.values.specs.Tokens.{tokens_at};
 ghost use Rattle.stage_walks.specs.Walks.{worded};
 
 use characters::Characters;
-use refusals::{Fault, Outcome};
+use refusals::{Fault, Refusal};
 use refusing::failed;
 use scanner::{Scanned, scan};
 use tags::tag_holds;
 
 // The first refusal of 4, 5 and 6 from `start` on: in each segment a stray release character first,
 // then a missing terminator, then its tag.
-pub fn check(s: &[u8], c: Characters, start: usize) -> Outcome
+pub fn check(s: &[u8], c: Characters, start: usize) -> Result<(), Refusal>
     ensures { result ≡ outcome (worded (length s.now) (tokens_at c s.now start)) }
 {
     let mut at = start;
@@ -35,5 +35,5 @@ pub fn check(s: &[u8], c: Characters, start: usize) -> Outcome
             }
         }
     }
-    Outcome::Passed
+    Ok(())
 }

@@ -1,7 +1,7 @@
 -- Stage 22 at a place of the input: what a message's walk leaves there, and one segment or one message on. Assumes nothing.
-use Rattle.std.specs.Prelude.{if◌then◌else◌}
+use Rattle.std.specs.Prelude.{if◌then◌else◌, Result, Err}
 use Prim.Native.Nat.{ℕ, ◌≤◌, ◌<◌}
-use mathlib.Core.Path.{◌≡◌, refl, sym, ap, ◌∙◌}
+use mathlib.Core.Path.{◌≡◌, refl, sym, ap, subst, ◌∙◌}
 use mathlib.Core.Bool.{Bool, true, false}
 use mathlib.Core.List.{List, []}
 use mathlib.Core.Option.{none, some}
@@ -11,6 +11,9 @@ use borrow.Author.Tests.{ltb-true, ltb-false}
 use Rattle.lists.specs.Lists.{through as up_to, at as nth, maybe, same, gather}
 use Rattle.lists.proofs.Texts.{if_true, if_false}
 use Rattle.characters.specs.declared.Characters.{Characters}
+use Rattle.refusals.specs.declared.Fault.TheVariants.{UnmatchedBody}
+use Rattle.refusals.specs.declared.Refusal.{Refusal}
+use Rattle.stage_structure.specs.Stopping.{Says}
 use Rattle.values.specs.Tokens.{Token, Segment, ends, segments, tokens_at}
 use Rattle.values.specs.Values.{bytes_of}
 use Rattle.values.proofs.Steps.{at_end}
@@ -33,6 +36,11 @@ unfolding kind_of tag_of tag_piece up_to bytes_of gather kind_named same is
 untagged = refl
 
 -- ---- a message's walk
+
+-- 22 at the place at which it stopped
+pub left_here : (table : List ℕ) (c : Characters) (s : List ℕ) (from : ℕ) {place : ℕ} {r : Result ℕ Refusal} → r ≡ Err (record { fault = UnmatchedBody; place = place })
+    → stop_of (walk tag_of (structure_of table) (segments (tokens_at c s from))) ≡ some place → Says table c s from r
+left_here table c s from {place} e p = subst (Says table c s from) (sym e) (p, refl)
 
 module _ {w : Walked Segment} {left : List Segment} where
   pub stops : {place : ℕ} → stopped left ≡ w → place ≡ beginning left → stop_of w ≡ some place

@@ -13,79 +13,51 @@ ghost use Rattle.structure_walks.specs.Walks.{beginning, first_stop};
 ghost use Rattle.stage_structure.specs.Stopping.{Says, stopped_at};
 
 use characters::Characters;
-use refusals::{Fault, Outcome};
+use refusals::{Fault, Refusal};
 use refusing::failed;
 use scanner::segment_end;
 use segments::Kind;
-use table_walk::{Walked, through_table};
+use table_walk::through_table;
 use tags::kind_at;
-
-// What became of the message of a UNH: its UNT's place, or the place before which the walk stopped.
-#[derive(Clone, Copy)]
-pub enum Body {
-    Matched(usize),
-    Left(usize),
-}
 
 fn is_header(kind: Kind) -> bool
     ensures { result ≡ is Unh kind }
 {
-    match kind {
-        Kind::Unb => false,
-        Kind::Ung => false,
-        Kind::Unh => true,
-        Kind::Uns => false,
-        Kind::Unt => false,
-        Kind::Une => false,
-        Kind::Unz => false,
-        Kind::User => false,
-    }
+    matches!(kind, Kind::Unh)
 }
 
 fn is_trailer(kind: Kind) -> bool
     ensures { result ≡ is Unt kind }
 {
-    match kind {
-        Kind::Unb => false,
-        Kind::Ung => false,
-        Kind::Unh => false,
-        Kind::Uns => false,
-        Kind::Unt => true,
-        Kind::Une => false,
-        Kind::Unz => false,
-        Kind::User => false,
-    }
+    matches!(kind, Kind::Unt)
 }
 
 // Where what is left begins; nothing that is left begins at 0.
 fn place_in(s: &[u8], c: Characters, at: usize) -> usize
     ensures { result ≡ beginning (segments (tokens_at c s.now at)) }
 {
-    if at < s.len() {
-        return at;
-    }
-    0
+    if at < s.len() { at } else { 0 }
 }
 
-// The message of a UNH, behind which the input goes on at a place.
-fn body_at(s: &[u8], c: Characters, table: &[u8], from: usize) -> Body
+// The message of a UNH, behind which the input goes on at a place: where its UNT stands; or 22, at the place before
+// which the walk stopped.
+fn body_at(s: &[u8], c: Characters, table: &[u8], from: usize) -> Result<usize, Refusal>
     requires { is_sound table.now ≡ true }
     ensures { Says table.now c s.now from result }
 {
     match through_table(s, c, table, from) {
-        Walked::Stopped(next) => Body::Left(place_in(s, c, next.at)),
-        Walked::Through(next) => {
+        Err(next) => failed(Fault::UnmatchedBody, place_in(s, c, next.at)),
+        Ok(next) => {
             let at = next.at;
             if is_trailer(kind_at(s, c, at)) {
-                Body::Matched(at)
-            } else {
-                Body::Left(place_in(s, c, at))
+                return Ok(at);
             }
+            failed(Fault::UnmatchedBody, place_in(s, c, at))
         }
     }
 }
 
-pub fn check(s: &[u8], c: Characters, table: &[u8], start: usize) -> Outcome
+pub fn check(s: &[u8], c: Characters, table: &[u8], start: usize) -> Result<(), Refusal>
     requires { is_sound table.now ≡ true }
     ensures { result ≡ stopped_at (first_stop (structure_of table.now) (segments (tokens_at c s.now start))) }
 {
@@ -93,17 +65,10 @@ pub fn check(s: &[u8], c: Characters, table: &[u8], start: usize) -> Outcome
     while at < s.len() {
         let next = segment_end(s, c, at);
         if is_header(kind_at(s, c, at)) {
-            match body_at(s, c, table, next) {
-                Body::Left(place) => {
-                    return failed(Fault::UnmatchedBody, place);
-                }
-                Body::Matched(place) => {
-                    at = place;
-                }
-            }
+            at = body_at(s, c, table, next)?;
         } else {
             at = next;
         }
     }
-    Outcome::Passed
+    Ok(())
 }

@@ -1,18 +1,21 @@
 -- Laws of stores that follow one another, and of the spelling of a byte. Assumes nothing.
 use Rattle.std.specs.Prelude.{if◌then◌else◌}
-use Prim.Native.Nat.{ℕ, suc, ◌+◌, ◌-◌, ◌≤◌, ◌<◌}
+use Prim.Native.Nat.{ℕ, suc, ◌+◌, ◌≤◌, ◌<◌}
 use mathlib.Core.Path.{◌≡◌, refl, sym, ap, ap₂, ◌∙◌}
 use mathlib.Core.Bool.{Bool, true, false}
-use mathlib.Core.List.{List, [], ◌∷◌, ◌++◌}
+use mathlib.Core.List.{List, [], ◌∷◌, ◌++◌, append_assoc}
 use native.Mathlib.Nat.{add-zero, add-suc, suc-add}
 use native.Mathlib.Numerals.{add-one}
 use native.Mathlib.Omega.{arith}
-use lib.ListN.{length, set, get_or, drop, replicate, length-append}
-use lib.Seq.{sets, drop-cons, set-set, length-sets}
+use lib.ListN.{length, set, get_or, take, drop, length-append, drop_of_length-le}
+use lib.Seq.{sets, sets-eq, drop-cons, drop-drop, set-set, length-sets}
+use borrow.Rule.Slice.PartMut.{put_mid}
 use mir.Val.{bool_byte}
 use Rattle.characters.specs.declared.Characters.{Characters}
 use Rattle.characters.specs.Characters.{is_service}
-use Rattle.values.specs.Spelling.{spell_byte}
+use Rattle.values.specs.Spelling.{spell_byte, spell_value}
+use Rattle.lists.specs.Lists.{gather}
+use Rattle.lists.proofs.Numbers.{drop_next}
 
 module _ {A : Type 0} where
   -- two texts stored one after the other are one text stored
@@ -26,19 +29,19 @@ module _ {A : Type 0} where
   pub sets_first : (l : List A) (i : ℕ) (x : A) (xs : List A) → sets l i (x ∷ xs) ≡ sets (set l i x) (i + 1) xs
   sets_first l i x xs = ap (λ (k : ℕ). sets (set l i x) k xs) (sym (add-one i))
 
-  -- what is left of a run has one more, while there is any left
-  pub run_first : (count i : ℕ) (x : A) → i < count → replicate (count - i) x ≡ x ∷ replicate (count - (i + 1)) x
-  run_first count i x h = ap (λ (k : ℕ). replicate k x) one_more
-    where
-      one_more : count - i ≡ suc (count - (i + 1))
-      one_more = omega arith
-
   -- what stands in another text from a place on is stored byte by byte
   pub rest_first : (l s : List A) (to at : ℕ) (d : A) → at < length s
       → sets l to (drop at s) ≡ sets (set l to (get_or s at d)) (to + 1) (drop (at + 1) s)
   rest_first l s to at d h =
       ap (sets l to) (drop-cons s at d h ∙ ap (λ (k : ℕ). get_or s at d ∷ drop k s) (sym (add-one at)))
       ∙ sets_first l to (get_or s at d) (drop (at + 1) s)
+
+  -- a part of a text that holds another text now is that text stored there
+  pub part_stored : (l ys : List A) (at k : ℕ) → length ys ≡ k → at + k ≤ length l → put_mid at k l ys ≡ sets l at ys
+  part_stored l ys at k e h =
+      ap (λ (n : ℕ). take at l ++ (ys ++ drop n (drop at l))) (sym e)
+      ∙ ap (λ (r : List A). take at l ++ (ys ++ r)) (drop-drop (length ys) at l)
+      ∙ sym (sets-eq ys l at (omega arith) ∙ append_assoc (take at l) ys (drop (at + length ys) l))
 
 -- ---- a byte of a value
 
@@ -64,6 +67,26 @@ module _ (c : Characters) (b : ℕ) {service : Bool} (e : service ≡ is_service
       step : (t : Bool) → set (set buffer at c.release) (at + bool_byte t) b ≡ sets buffer at (if t then c.release ∷ b ∷ [] else b ∷ [])
       step true = ap (λ (k : ℕ). set (set buffer at c.release) k b) (add-one at)
       step false = ap (λ (k : ℕ). set (set buffer at c.release) k b) (add-zero at) ∙ set-set buffer at c.release b
+
+-- ---- a value
+
+module _ (c : Characters) (value : List ℕ) (i : ℕ) where
+  -- what is left of it has its next byte in front, and is nothing at its end
+  pub value_next : i < length value → spell_value c (drop i value) ≡ spell_byte c (get_or value i 0) ++ spell_value c (drop (i + 1) value)
+  unfolding spell_value gather
+  value_next h = ap (spell_value c) (drop_next value i h)
+
+  pub value_done : length value ≤ i → spell_value c (drop i value) ≡ []
+  unfolding spell_value gather
+  value_done h = ap (spell_value c) (drop_of_length-le value h)
+
+pub byte_most : (c : Characters) (b : ℕ) → length (spell_byte c b) ≤ 2
+unfolding spell_byte
+byte_most c b = step (is_service c b)
+  where
+    step : (t : Bool) → length (if t then c.release ∷ b ∷ [] else b ∷ []) ≤ 2
+    step true = omega arith
+    step false = omega arith
 
 -- ---- one text stored after the other
 

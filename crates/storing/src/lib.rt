@@ -2,23 +2,79 @@
 // is spelled, an advice. It promises every byte of the buffer at exit; what is not stored keeps its value.
 #![tactic(auto)]
 
-ghost use Rattle.std.specs.Prelude.{◌≡◌, ◌++◌, ◌+◌, ◌≤◌, length, replicate, drop};
+ghost use Rattle.std.specs.Prelude.{◌≡◌, ℕ, List, [], ◌∷◌, ◌++◌, ◌+◌, ◌≤◌, ◌<◌, length, replicate, drop};
 ghost use Rattle.std.proofs.lemmas.List.Edits.{sets};
 ghost use Rattle.characters.specs.Characters.{is_service, advice_of};
-ghost use Rattle.values.specs.Spelling.{spell_byte};
+ghost use Rattle.values.specs.Spelling.{spell_byte, spell_value};
+ghost use Rattle.storing.specs.Sinks.{SinkLaws};
+ghost use Rattle.storing.specs.Kept.{stored_laws, measured_laws};
 
 use characters::Characters;
+
+// ---- where a text goes
+
+// Where a text goes: into a lent buffer, or nowhere, where only its length is asked for.
+pub trait Sink {
+    // What the buffer holds after a text is put at a place.
+    ghost holds: { List ℕ → ℕ → List ℕ → List ℕ };
+
+    // How far the texts may reach.
+    ghost room: { List ℕ → ℕ };
+
+    // Puts a byte at a place.
+    fn set(buffer: &mut [u8], at: usize, b: u8)
+        requires { at < room buffer.old }
+        ensures { buffer.new ≡ holds buffer.old at (b ∷ []) };
+
+    // Puts a byte `count` times.
+    fn fill(buffer: &mut [u8], from: usize, count: usize, b: u8)
+        requires { from + count ≤ room buffer.old }
+        ensures { buffer.new ≡ holds buffer.old from (replicate count b) };
+
+    // What each sink keeps.
+    ghost laws: { SinkLaws holds room };
+}
+
+// The text is stored.
+pub struct Stored;
+
+impl Sink for Stored {
+    ghost holds = { sets };
+
+    ghost room = { length };
+
+    ghost laws = { stored_laws };
+
+    fn set(buffer: &mut [u8], at: usize, b: u8) {
+        buffer[at] = b;
+    }
+
+    fn fill(buffer: &mut [u8], from: usize, count: usize, b: u8) {
+        fill(buffer, from, count, b);
+    }
+}
+
+// The text is measured alone: no buffer is needed, and none changes.
+pub struct Measured;
+
+impl Sink for Measured {
+    ghost holds = { λ l at text. l };
+
+    ghost room = { λ l. 18446744073709551615 };
+
+    ghost laws = { measured_laws };
+
+    fn set(_buffer: &mut [u8], _at: usize, _b: u8) {}
+
+    fn fill(_buffer: &mut [u8], _from: usize, _count: usize, _b: u8) {}
+}
 
 // Stores a byte `count` times, from a place on.
 pub fn fill(buffer: &mut [u8], from: usize, count: usize, b: u8)
     requires { from + count ≤ length buffer.old }
     ensures { buffer.new ≡ sets buffer.old from (replicate count b) }
 {
-    let mut i = 0;
-    while i < count {
-        buffer[from + i] = b;
-        i += 1;
-    }
+    buffer[from..from + count].fill(b);
 }
 
 // Stores what stands in another text from `start` on, from a place on.
@@ -26,12 +82,18 @@ pub fn copy(buffer: &mut [u8], from: usize, s: &[u8], start: usize)
     requires { from + length (drop start s.now) ≤ length buffer.old }
     ensures { buffer.new ≡ sets buffer.old from (drop start s.now) }
 {
-    let mut at = start;
-    let mut to = from;
-    while at < s.len() {
-        buffer[to] = s[at];
-        at += 1;
-        to += 1;
+    let rest = &s[start.min(s.len())..];
+    buffer[from..from + rest.len()].copy_from_slice(rest);
+}
+
+// Stores a short text, from a place on. (`copy_from_slice` was tried: the C library's memcpy, which it calls, costs more than
+// a few bytes do.)
+pub fn put_short(buffer: &mut [u8], at: usize, text: &[u8])
+    requires { at + length text.now ≤ length buffer.old }
+    ensures { buffer.new ≡ sets buffer.old at text.now }
+{
+    for (k, b) in text.iter().enumerate() {
+        buffer[at + k] = *b;
     }
 }
 
@@ -45,23 +107,28 @@ pub fn is_service(c: Characters, b: u8) -> bool
     (b == c.component) | ((b == c.element) | ((b == c.terminator) | others))
 }
 
-// How many bytes a byte of a value takes as it is spelled.
-pub fn byte_length(c: Characters, b: u8) -> usize
-    ensures { result ≡ length (spell_byte c b) }
-{
-    1 + is_service(c, b) as usize
-}
-
-// Stores a byte of a value as it is spelled, and returns the place after it. The release character is
-// stored first, and where there is none to store, the byte takes its place.
-pub fn put_byte(buffer: &mut [u8], at: usize, c: Characters, b: u8) -> usize
-    requires { at + length (spell_byte c b) ≤ length buffer.old }
-    ensures { (buffer.new ≡ sets buffer.old at (spell_byte c b)) × (result ≡ at + length (spell_byte c b)) }
+// Puts a byte of a value as it is spelled, and returns the place after it. The release character is put
+// first, and where there is none to put, the byte takes its place.
+pub fn put_byte<S: Sink>(buffer: &mut [u8], at: usize, c: Characters, b: u8) -> usize
+    requires { at + length (spell_byte c b) ≤ S.room buffer.old }
+    ensures { (buffer.new ≡ S.holds buffer.old at (spell_byte c b)) × (result ≡ at + length (spell_byte c b)) }
 {
     let last = at + is_service(c, b) as usize;
-    buffer[at] = c.release;
-    buffer[last] = b;
+    S::set(buffer, at, c.release);
+    S::set(buffer, last, b);
     last + 1
+}
+
+// Puts a value as it is spelled, and returns the place after it.
+pub fn put_value<S: Sink>(buffer: &mut [u8], at: usize, c: Characters, value: &[u8]) -> usize
+    requires { at + length (spell_value c value.now) ≤ S.room buffer.old }
+    ensures { (buffer.new ≡ S.holds buffer.old at (spell_value c value.now)) × (result ≡ at + length (spell_value c value.now)) }
+{
+    let mut end = at;
+    for b in value {
+        end = put_byte::<S>(buffer, end, c, *b);
+    }
+    end
 }
 
 // Stores an advice at the front.

@@ -44,8 +44,8 @@ module _ (c n : Characters) (v : alike c n ≡ true) where
 
   -- release characters with the bytes that they take
   pub taken_next : (s : List ℕ) {from at : ℕ} → Passes c n s from at → at + 1 < length s → get_or s at 0 ≡ c.release → is_service c (get_or s (at + 1) 0) ≡ true
-      → Passes c n s from (at + 1 + 1)
-  taken_next s {from} {at} g i e q = together g refl i v (alike_role c n v (get_or s at 0) (eq-eqb (get_or s at 0) c.release e)) q
+      → Passes c n s from (at + 2)
+  taken_next s {from} {at} g i e q = together g (omega arith) i v (alike_role c n v (get_or s at 0) (eq-eqb (get_or s at 0) c.release e)) q
 
 -- each of six bytes at a place of its own
 pub stops_there : (c : Characters) (s : List ℕ) (w : ℕ) {x y z a b : ℕ} {found this next : Bool} → x ≡ w + 1 → y ≡ w + 1 + 1 → z ≡ w + 1 + 1 + 1

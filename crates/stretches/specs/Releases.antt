@@ -6,6 +6,8 @@ use Rattle.characters.specs.declared.Role.TheVariants.{Release}
 use Rattle.characters.specs.Characters.{role, is_service, has_release, is_break}
 use Rattle.release_marks.specs.Marks.{marked_at, misread, Reached}
 use Rattle.verbatim.specs.Verbatim.{idle}
+use Rattle.stretches.specs.declared.Passed.{Passed}
+use Rattle.stretches.specs.declared.Passed.TheVariants.{On, Ended}
 use Rattle.stretches.specs.Stretches.{halts}
 
 -- the five service characters are the same; there is a release character, and it is no separator
@@ -46,3 +48,8 @@ abbrev pub Stopped : Characters → List ℕ → ℕ → ℕ → Type 0
 Stopped c s from k =
     (k ≤ 32)
     × ((n : Characters) → alike c n ≡ true → Reached (Passes c n s (from + 4)) c s (marked_at c s (from + k)) (from + k + 1 + 1 + 1 + 1))
+
+-- from a place up to another, which lies behind it where the stretch goes on
+abbrev pub PassesBlock : Characters → List ℕ → ℕ → Passed → Type 0
+PassesBlock c s from (On to) = PassesAlike c s from to × (from < to)
+PassesBlock c s from (Ended to) = PassesAlike c s from to

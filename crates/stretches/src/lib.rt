@@ -9,7 +9,7 @@ ghost use Rattle.std.specs.Prelude.{true, false, ◌≡◌, ◌+◌, ◌-◌, �
 ghost use Rattle.std.proofs.lemmas.List.Edits.{sets};
 ghost use Rattle.verbatim.specs.Verbatim.{ends_repeat};
 ghost use Rattle.release_marks.specs.Marks.{marked_at};
-ghost use Rattle.stretches.specs.Releases.{alike, Passes, PassesAlike, stops, Stopped};
+ghost use Rattle.stretches.specs.Releases.{alike, Passes, PassesAlike, PassesBlock, stops, Stopped};
 ghost use Rattle.stretches.specs.Stretches.{respelled, halts, Goes, respelling, Stretch, EndsInValue};
 
 use characters::Characters;
@@ -57,27 +57,21 @@ fn before_halt(s: &[u8], c: Characters, n: Characters, r: u8, from: usize) -> us
     ensures { (result ≤ 32) × Goes c n s.now from (from + result) }
 {
     let mut first: u8 = 32;
-    let mut k: u8 = 0;
-    let mut at = from;
-    while k < 32 {
-        let next = at + 1;
-        first = least(first, place_found(halts(c, n, r, s[at], s[next]), k));
-        at = next;
-        k += 1;
+    for k in 0..32 {
+        let at = from + usize::from(k);
+        first = least(first, place_found(halts(c, n, r, s[at], s[at + 1]), k));
     }
-    first as usize
+    usize::from(first)
 }
 
-// A place up to which a stretch goes on, thirty-two bytes at once: where it halts, or the last few bytes.
+// A place up to which a stretch goes on, thirty-two bytes at once: where it halts, or the last few bytes. (A `for`
+// with `step_by` would not hand out the place where it ends.)
 fn past_blocks(s: &[u8], c: Characters, n: Characters, r: u8, from: usize) -> usize
     requires { r ≡ ends_repeat c }
     ensures { (from ≤ result) × Goes c n s.now from result }
 {
     let mut at = from;
-    while at < s.len() {
-        if s.len() - at <= 32 {
-            return at;
-        }
+    while at < s.len() && 32 < s.len() - at {
         let count = before_halt(s, c, n, r, at);
         if count < 32 {
             return at + count;
@@ -92,21 +86,16 @@ fn past_last(s: &[u8], c: Characters, n: Characters, r: u8, from: usize) -> usiz
     requires { r ≡ ends_repeat c }
     ensures { (from ≤ result) × Goes c n s.now from result }
 {
-    let mut at = from;
-    while at < s.len() {
-        if 32 < s.len() - at {
-            return at;
-        }
-        let next = at + 1;
-        if s.len() <= next {
-            return at;
-        }
-        if halts(c, n, r, s[at], s[next]) {
-            return at;
-        }
-        at = next;
+    if s.len() <= from || 32 < s.len() - from {
+        return from;
     }
-    at
+    let last = s.len() - 1;
+    for at in from..last {
+        if halts(c, n, r, s[at], s[at + 1]) {
+            return at;
+        }
+    }
+    last
 }
 
 // ---- release characters
@@ -133,32 +122,22 @@ fn stops(c: Characters, r: u8, this: bool, next: bool, a: u8, b: u8) -> bool
 
 // The first of thirty-two bytes at which a stretch stops, or 32. They begin four places on, and the first is not
 // released. Which of the others are is only guessed: where a guess is wrong the stretch stops. The loop never
-// ends early, and each of six bytes has a place of its own, so that thirty-two are asked at once.
+// ends early, and counts in bytes, so that thirty-two are asked at once.
 fn first_stop(s: &[u8], c: Characters, r: u8, from: usize) -> usize
     requires { (from + 37 ≤ length s.now) × (r ≡ ends_repeat c) × (marked_at c s.now from ≡ false) }
     ensures { Stopped c s.now from result }
 {
     let mut first: u8 = 32;
-    let mut k: u8 = 0;
-    let mut w = from;
-    let mut x = w + 1;
-    let mut y = x + 1;
-    let mut z = y + 1;
-    let mut a = z + 1;
-    let mut b = a + 1;
-    while k < 32 {
-        let this = is_marked(c, s[z], s[y], s[x], s[w]);
-        let next = is_marked(c, s[a], s[z], s[y], s[x]);
-        first = least(first, place_found(stops(c, r, this, next, s[a], s[b]), k));
-        w += 1;
-        x += 1;
-        y += 1;
-        z += 1;
-        a += 1;
-        b += 1;
-        k += 1;
+    for k in 0..32 {
+        let at = from + usize::from(k);
+        let this = is_marked(c, s[at + 3], s[at + 2], s[at + 1], s[at]);
+        let next = is_marked(c, s[at + 4], s[at + 3], s[at + 2], s[at + 1]);
+        first = least(
+            first,
+            place_found(stops(c, r, this, next, s[at + 4], s[at + 5]), k),
+        );
     }
-    first as usize
+    usize::from(first)
 }
 
 // Over so many of thirty-two bytes a stretch passes. The last two calls are the same: where it passes all of them
@@ -179,55 +158,43 @@ fn before_stop(s: &[u8], c: Characters, r: u8, from: usize) -> usize
 }
 
 // The place after release characters, each with the service character that it takes, of which none may stand
-// there.
+// there. (The pairs as `chunks_exact(2)` would leave the place to be counted beside them.)
 fn past_taken(s: &[u8], c: Characters, from: usize) -> usize
     ensures { (from ≤ result) × PassesAlike c s.now from result }
 {
     let mut at = from;
-    while at < s.len() {
-        let next = at + 1;
-        if s.len() <= next {
-            return at;
-        }
-        if s[at] != c.release {
-            return at;
-        }
-        if !is_service(c, s[next]) {
-            return at;
-        }
-        at = next + 1;
+    while at < s.len() && 1 < s.len() - at && s[at] == c.release && is_service(c, s[at + 1]) {
+        at += 2;
     }
     at
 }
 
-// A place up to which a stretch passes, and whether it goes on there.
+// A place up to which a stretch passes: behind the one before it, and the stretch goes on there; or it ends.
 #[derive(Clone, Copy)]
-struct Passed {
-    to: usize,
-    on: bool,
+enum Passed {
+    On(usize),
+    Ended(usize),
 }
 
 // Over thirty-two bytes or up to where the stretch stops; more than four release characters that stand side by
 // side are passed two by two.
 fn past_block(s: &[u8], c: Characters, r: u8, from: usize) -> Passed
     requires { (4 ≤ from) × (from + 33 ≤ length s.now) × (r ≡ ends_repeat c) }
-    ensures { PassesAlike c s.now from result.to × (result.on ≡ true → from < result.to) }
+    ensures { PassesBlock c s.now from result }
 {
     let count = before_stop(s, c, r, from);
     if count == 32 {
-        return Passed {
-            to: from + 32,
-            on: true,
-        };
+        return Passed::On(from + 32);
     }
     let to = from + count;
     if count == 31 {
-        return Passed { to, on: true };
+        return Passed::On(to);
     }
     let next = past_taken(s, c, to);
-    Passed {
-        to: next,
-        on: to < next,
+    if to < next {
+        Passed::On(next)
+    } else {
+        Passed::Ended(to)
     }
 }
 
@@ -238,20 +205,10 @@ fn past_alike(s: &[u8], c: Characters, r: u8, from: usize, until: usize) -> usiz
     ensures { PassesAlike c s.now from result }
 {
     let mut at = from;
-    while at < s.len() {
-        if s.len() - at <= 32 {
-            return at;
-        }
-        if at < 4 {
-            return at;
-        }
-        if until <= at {
-            return at;
-        }
-        let p = past_block(s, c, r, at);
-        at = p.to;
-        if !p.on {
-            return at;
+    while at < s.len() && 32 < s.len() - at && 4 <= at && at < until {
+        match past_block(s, c, r, at) {
+            Passed::On(to) => at = to,
+            Passed::Ended(to) => return to,
         }
     }
     at
@@ -273,15 +230,12 @@ fn back_to_value(s: &[u8], c: Characters, from: usize, to: usize) -> usize
     requires { (from ≤ to) × (from < to → to ≤ length s.now) }
     ensures { (from ≤ result) × (result ≤ to) × EndsInValue c s.now from result }
 {
-    let mut at = to;
-    while from < at {
-        let last = at - 1;
+    for last in (from..to).rev() {
         if !is_service(c, s[last]) {
-            return at;
+            return last + 1;
         }
-        at = last;
     }
-    at
+    from
 }
 
 // A place up to which a stretch goes that begins at a place where nothing is held back. Where the
@@ -308,12 +262,8 @@ pub fn put_stretch(
     requires { (into + (end - from) ≤ length buffer.old) × (end ≤ length s.now) }
     ensures { buffer.new ≡ sets buffer.old into (respelling c n s.now from (end - from)) }
 {
-    let mut at = from;
-    let mut to = into;
-    while at < end {
-        buffer[to] = respelled(c, n, s[at]);
-        at += 1;
-        to += 1;
+    for at in from..end {
+        buffer[into + (at - from)] = respelled(c, n, s[at]);
     }
 }
 

@@ -1,6 +1,6 @@
 -- Two results that the contract allows are equal. The field is a theorem; `proofs/Tight.antt` proves the record. Assumes nothing.
+use Rattle.answers.specs.Answers.{Judged}
 use Rattle.std.specs.Prelude.{ℕ, ◌≡◌, List}
-use Rattle.answers.specs.declared.Judged.{Judged}
 use Rattle.structure_contracts.specs.Promises.{JudgesByTable}
 
 pub record Tight : Type 0 where

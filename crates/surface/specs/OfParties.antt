@@ -1,12 +1,11 @@
 -- How the parties of an interchange are laid out in the struct that crosses to C: what refuses the input, and the part of the input that
 -- spells each, as Locate's companion hands it back. Assumes nothing.
-use Rattle.std.specs.Prelude.{ℕ, List}
+use Rattle.std.specs.Prelude.{ℕ, List, Result, Ok, Err}
 use Rattle.lists.specs.Lists.{maybe}
-use Rattle.refusals.specs.declared.Outcome.{Outcome}
-use Rattle.refusals.specs.declared.Outcome.TheVariants.{Passed, Failed}
+use Rattle.refusals.specs.declared.Refusal.{Refusal}
 use Rattle.refusals.specs.Refusals.{number}
 use Rattle.stages.specs.Stages.{refusal_of}
-use Rattle.locate.specs.declared.Span.{Span}
+use Rattle.values.specs.declared.Span.{Span}
 use Rattle.parties.specs.declared.Parties.{Parties as Found}
 use Rattle.surface.specs.Parts.{part_of}
 use Rattle.surface.specs.declared.Part.{Part}
@@ -38,9 +37,10 @@ parties_beside number place found =
       reference = part found.reference;
     }
 
-unfoldable pub laid_by : Outcome → Found → Parties
-laid_by Passed found = parties_beside 0 0 found
-laid_by (Failed r) found = parties_beside (number r.fault) r.place found
+-- zero bytes at the input's start
+unfoldable pub no_part : Part
+no_part = record { offset = 0; length = 0 }
 
-unfoldable pub laid_parties : Found → Parties
-laid_parties found = laid_by found.outcome found
+unfoldable pub laid_parties : Result Found Refusal → Parties
+laid_parties (Ok found) = parties_beside 0 0 found
+laid_parties (Err r) = record { number = number r.fault; place = r.place; sender = no_part; recipient = no_part; reference = no_part }

@@ -7,9 +7,10 @@ ghost use Rattle.surface.specs.Verdicts.{verdict_of};
 ghost use Rattle.surface.specs.Answered.{written_of, comparison_of, location_of, listing_of};
 
 use crate::{Comparison, Listing, Location, Verdict, Written};
-use answers::{Compared, Figures, Judged, Listed, Located, Stored};
+use answers::{Figures, Listed, Unaccepted};
 use refusals::Refusal;
 use refusing::number_of;
+use values::Span;
 
 pub fn refusal_number(refusal: Refusal) -> u32
     ensures { result ≡ number refusal.fault }
@@ -60,25 +61,25 @@ fn verdict_refused(refusal: Refusal) -> Verdict
     }
 }
 
-pub fn verdict_of(judged: Judged) -> Verdict
+pub fn verdict_of(judged: Result<Figures, Refusal>) -> Verdict
     ensures { result ≡ verdict_of (told_judged judged) }
 {
     match judged {
-        Judged::Accepted(i) => verdict_accepted(i),
-        Judged::Refused(refusal) => verdict_refused(refusal),
+        Ok(i) => verdict_accepted(i),
+        Err(refusal) => verdict_refused(refusal),
     }
 }
 
-pub fn written_of(stored: Stored) -> Written
+pub fn written_of(stored: Result<usize, Refusal>) -> Written
     ensures { result ≡ written_of (told_stored stored) }
 {
     match stored {
-        Stored::Length(length) => Written {
+        Ok(length) => Written {
             number: 0,
             place: 0,
             length,
         },
-        Stored::Refused(refusal) => Written {
+        Err(refusal) => Written {
             number: refusal_number(refusal),
             place: refusal.place,
             length: 0,
@@ -108,36 +109,45 @@ fn comparison_refused(input: u32, refusal: Refusal) -> Comparison
     }
 }
 
-pub fn comparison_of(compared: Compared) -> Comparison
+pub fn comparison_of(compared: Result<bool, Unaccepted>) -> Comparison
     ensures { result ≡ comparison_of (told_compared compared) }
 {
     match compared {
-        Compared::Same => comparison_given(1),
-        Compared::Different => comparison_given(0),
-        Compared::FirstRefused(refusal) => comparison_refused(1, refusal),
-        Compared::SecondRefused(refusal) => comparison_refused(2, refusal),
+        Ok(same) => {
+            if same {
+                comparison_given(1)
+            } else {
+                comparison_given(0)
+            }
+        }
+        Err(unaccepted) => match unaccepted {
+            Unaccepted::First(refusal) => comparison_refused(1, refusal),
+            Unaccepted::Second(refusal) => comparison_refused(2, refusal),
+        },
     }
 }
 
-pub fn location_of(located: Located) -> Location
+pub fn location_of(located: Result<Option<Span>, Refusal>) -> Location
     ensures { result ≡ location_of (told_located located) }
 {
     match located {
-        Located::At { offset, length } => Location {
-            number: 0,
-            present: 1,
-            place: 0,
-            offset,
-            length,
+        Ok(found) => match found {
+            Some(part) => Location {
+                number: 0,
+                present: 1,
+                place: 0,
+                offset: part.offset,
+                length: part.length,
+            },
+            None => Location {
+                number: 0,
+                present: 0,
+                place: 0,
+                offset: 0,
+                length: 0,
+            },
         },
-        Located::Absent => Location {
-            number: 0,
-            present: 0,
-            place: 0,
-            offset: 0,
-            length: 0,
-        },
-        Located::Refused(refusal) => Location {
+        Err(refusal) => Location {
             number: refusal_number(refusal),
             present: 0,
             place: refusal.place,
@@ -147,17 +157,17 @@ pub fn location_of(located: Located) -> Location
     }
 }
 
-pub fn listing_of(listed: Listed) -> Listing
+pub fn listing_of(listed: Result<Listed, Refusal>) -> Listing
     ensures { result ≡ listing_of (told_listed listed) }
 {
     match listed {
-        Listed::Values { bytes, numbers } => Listing {
+        Ok(list) => Listing {
             number: 0,
             place: 0,
-            bytes,
-            numbers,
+            bytes: list.bytes,
+            numbers: list.numbers,
         },
-        Listed::Refused(refusal) => Listing {
+        Err(refusal) => Listing {
             number: refusal_number(refusal),
             place: refusal.place,
             bytes: 0,

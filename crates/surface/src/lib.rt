@@ -24,7 +24,6 @@ ghost use Rattle.carrying.specs.Carrying.{carry as carry_of, carry_shelf, carry_
 ghost use Rattle.shelves.specs.Layout.{version_two};
 ghost use Rattle.shelves.specs.Operations.{start as start_of, start_shelf, put as put_of, put_shelf, got_offset, got_length, length_answer, remove as remove_of, remove_shelf, slots_of, sums_of};
 
-use answers::Stored;
 use laying::{comparison_of, listing_of, location_of, verdict_of, written_of};
 use mailbox_laying::{morning_of, piece_laid};
 use parties_laying::parties_laid;
@@ -357,8 +356,8 @@ pub fn hverolda_shelf_get(shelf: &[u8], slot: usize) -> Got
     ensures { result ≡ got_of (length_answer version_two shelf.now slot) (got_offset version_two shelf.now slot) (got_length version_two shelf.now slot) }
 {
     match shelf::measure(shelf, slot) {
-        Stored::Refused(refusal) => got_refused(refusal),
-        Stored::Length(length) => {
+        Err(refusal) => got_refused(refusal),
+        Ok(length) => {
             let l = shelf_layout::version_two();
             got_at(shelf_layout::start_of(shelf, l, slot), length)
         }

@@ -6,9 +6,9 @@ ghost use Rattle.surface.specs.OfMailbox.{morning_of, beside, laid_ending};
 
 use crate::laying::refusal_number;
 use crate::{MorningFigures, PieceEnd};
-use mailbox_files::{Report, Reported};
+use mailbox_files::Report;
 use pieces::Ending;
-use refusals::Outcome;
+use refusals::Refusal;
 
 // The figures beside a number and a place.
 fn figures_beside(report: Report, number: u32, place: usize) -> MorningFigures
@@ -29,15 +29,13 @@ fn figures_beside(report: Report, number: u32, place: usize) -> MorningFigures
     }
 }
 
-pub fn morning_of(reported: Reported) -> MorningFigures
+pub fn morning_of(reported: Result<Report, Refusal>) -> MorningFigures
     ensures { result ≡ morning_of (told_reported reported) }
 {
-    let report = reported.report;
-    let outcome = reported.outcome;
-    match outcome {
-        Outcome::Passed => figures_beside(report, 0, 0),
-        Outcome::Failed(refusal) => {
-            figures_beside(report, refusal_number(refusal), refusal.place)
+    match reported {
+        Ok(report) => figures_beside(report, 0, 0),
+        Err(refusal) => {
+            figures_beside(report::no_figures(), refusal_number(refusal), refusal.place)
         }
     }
 }

@@ -1,11 +1,11 @@
 // The struct of the parties that crosses to C. It promises what the definition in specs/ says.
 ghost use Rattle.std.specs.Prelude.{◌≡◌};
-ghost use Rattle.surface.specs.OfParties.{part, parties_beside, laid_parties};
+ghost use Rattle.surface.specs.OfParties.{part, parties_beside, no_part, laid_parties};
 
 use crate::laying::refusal_number;
 use crate::{Part, Parties};
-use locate::Span;
-use refusals::Outcome;
+use refusals::Refusal;
+use values::Span;
 
 fn part_laid(span: Span) -> Part
     ensures { result ≡ part span }
@@ -32,14 +32,27 @@ fn parties_beside(found: parties::Parties, number: u32, place: usize) -> Parties
     }
 }
 
-pub fn parties_laid(found: parties::Parties) -> Parties
+// Zero bytes at the input's start.
+fn no_part() -> Part
+    ensures { result ≡ no_part }
+{
+    Part {
+        offset: 0,
+        length: 0,
+    }
+}
+
+pub fn parties_laid(found: Result<parties::Parties, Refusal>) -> Parties
     ensures { result ≡ laid_parties found }
 {
-    let outcome = found.outcome;
-    match outcome {
-        Outcome::Passed => parties_beside(found, 0, 0),
-        Outcome::Failed(refusal) => {
-            parties_beside(found, refusal_number(refusal), refusal.place)
-        }
+    match found {
+        Ok(found) => parties_beside(found, 0, 0),
+        Err(refusal) => Parties {
+            number: refusal_number(refusal),
+            place: refusal.place,
+            sender: no_part(),
+            recipient: no_part(),
+            reference: no_part(),
+        },
     }
 }

@@ -7,18 +7,18 @@ ghost use Rattle.surface.specs.OfShelf.{started_of, shelving_of, got_of, slot_nu
 
 use crate::laying::refusal_number;
 use crate::{Got, Shelving, SlotNumbers, Started, SumNumbers};
-use refusals::{Outcome, Refusal};
+use refusals::Refusal;
 use shelves::{Shelved, Slots, TwoSums};
 
-pub fn started_of(outcome: Outcome) -> Started
+pub fn started_of(outcome: Result<(), Refusal>) -> Started
     ensures { result ≡ started_of (told_outcome outcome) }
 {
     match outcome {
-        Outcome::Passed => Started {
+        Ok(()) => Started {
             number: 0,
             place: 0,
         },
-        Outcome::Failed(refusal) => Started {
+        Err(refusal) => Started {
             number: refusal_number(refusal),
             place: refusal.place,
         },
@@ -36,23 +36,25 @@ fn shelving_refused(refusal: Refusal) -> Shelving
     }
 }
 
-pub fn shelving_of(shelved: Shelved) -> Shelving
+pub fn shelving_of(shelved: Result<Shelved, Refusal>) -> Shelving
     ensures { result ≡ shelving_of (told_shelved shelved) }
 {
     match shelved {
-        Shelved::New(slot) => Shelving {
-            number: 0,
-            added: 1,
-            place: 0,
-            slot,
+        Ok(found) => match found {
+            Shelved::New(slot) => Shelving {
+                number: 0,
+                added: 1,
+                place: 0,
+                slot,
+            },
+            Shelved::Copy(slot) => Shelving {
+                number: 0,
+                added: 0,
+                place: 0,
+                slot,
+            },
         },
-        Shelved::Copy(slot) => Shelving {
-            number: 0,
-            added: 0,
-            place: 0,
-            slot,
-        },
-        Shelved::Refused(refusal) => shelving_refused(refusal),
+        Err(refusal) => shelving_refused(refusal),
     }
 }
 
@@ -79,20 +81,17 @@ pub fn got_refused(refusal: Refusal) -> Got
     }
 }
 
-pub fn slot_numbers_of(slots: Slots) -> SlotNumbers
+pub fn slot_numbers_of(slots: Result<Slots, Refusal>) -> SlotNumbers
     ensures { result ≡ slot_numbers_of (told_slots slots) }
 {
     match slots {
-        Slots::Numbers {
-            occupied,
-            lowest_free,
-        } => SlotNumbers {
+        Ok(slots) => SlotNumbers {
             number: 0,
             place: 0,
-            occupied,
-            lowest: lowest_free,
+            occupied: slots.occupied,
+            lowest: slots.lowest_free,
         },
-        Slots::Refused(refusal) => SlotNumbers {
+        Err(refusal) => SlotNumbers {
             number: refusal_number(refusal),
             place: refusal.place,
             occupied: 0,
@@ -101,17 +100,17 @@ pub fn slot_numbers_of(slots: Slots) -> SlotNumbers
     }
 }
 
-pub fn sum_numbers_of(sums: TwoSums) -> SumNumbers
+pub fn sum_numbers_of(sums: Result<TwoSums, Refusal>) -> SumNumbers
     ensures { result ≡ sum_numbers_of (told_sums sums) }
 {
     match sums {
-        TwoSums::Numbers { held, duplicates } => SumNumbers {
+        Ok(sums) => SumNumbers {
             number: 0,
-            held,
-            duplicates,
+            held: sums.held,
+            duplicates: sums.duplicates,
             place: 0,
         },
-        TwoSums::Refused(refusal) => SumNumbers {
+        Err(refusal) => SumNumbers {
             number: refusal_number(refusal),
             held: 0,
             duplicates: 0,

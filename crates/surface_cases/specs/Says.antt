@@ -1,16 +1,11 @@
 -- What each function of the surface says and leaves in what it is lent: for whatever answer and bytes the operation's promise allows, the struct of
 -- that answer, and those bytes. Each promise is met by the function that is called, and leaves one result. Assumes nothing.
-use Rattle.std.specs.Prelude.{ℕ, ◌≤◌, ◌<◌, ◌≡◌, true, List, [], ◌∷◌, length}
+use Rattle.std.specs.Prelude.{ℕ, ◌≤◌, ◌<◌, ◌≡◌, true, List, [], ◌∷◌, length, Result}
 use Rattle.std.proofs.Math.Option.{some}
 use Rattle.refusals.specs.declared.Refusal.{Refusal}
-use Rattle.refusals.specs.declared.Outcome.{Outcome}
-use Rattle.refusals.specs.Refusals.{number}
-use Rattle.answers.specs.declared.Judged.{Judged}
-use Rattle.answers.specs.declared.Stored.{Stored}
-use Rattle.answers.specs.declared.Compared.{Compared}
-use Rattle.answers.specs.declared.Located.{Located}
+use Rattle.refusals.specs.Refusals.{number, Outcome}
 use Rattle.answers.specs.declared.Listed.{Listed}
-use Rattle.answers.specs.Answers.{given}
+use Rattle.answers.specs.Answers.{given, Stored, Judged, Compared, Located}
 use Rattle.operations.specs.Compare.{of_first, of_second, keep}
 use Rattle.operations.specs.Locate.{locate}
 use Rattle.contracts.specs.Promises.{Judges, Normalises, Compares, Locates, Reads, Writes}
@@ -72,7 +67,7 @@ SaysPart s segment element repeat component r =
 
 abbrev pub SaysListed : (buffer table s : List ℕ) → Listing → (bytesAfter tableAfter : List ℕ) → Type 0
 SaysListed buffer table s r bytesAfter tableAfter =
-    (a : Listed) (bytes numbers : List ℕ) → Reads buffer table s a bytes numbers → (r ≡ listing a) × (bytesAfter ≡ bytes) × (tableAfter ≡ numbers)
+    (a : Result Listed Refusal) (bytes numbers : List ℕ) → Reads buffer table s a bytes numbers → (r ≡ listing a) × (bytesAfter ≡ bytes) × (tableAfter ≡ numbers)
 
 abbrev pub SaysWritten : (service bytes table output : List ℕ) → Written → (after : List ℕ) → Type 0
 SaysWritten service bytes table output r after =
@@ -94,7 +89,7 @@ abbrev pub SaysStarted : (buffer : List ℕ) → Started → (after : List ℕ) 
 SaysStarted buffer r after = (a : Outcome) (left : List ℕ) → Starts version_two buffer a left → (r ≡ started a) × (after ≡ left)
 
 abbrev pub SaysPut : (s input : List ℕ) → Shelving → (after : List ℕ) → Type 0
-SaysPut s input r after = (a : Shelved) (left : List ℕ) → Puts version_two s input a left → (r ≡ shelving a) × (after ≡ left)
+SaysPut s input r after = (a : Result Shelved Refusal) (left : List ℕ) → Puts version_two s input a left → (r ≡ shelving a) × (after ≡ left)
 
 -- the part of the shelf that the slot's pair names; or the refusal, and zero bytes at the shelf's start
 abbrev pub SaysGot : (s : List ℕ) (slot : ℕ) → Got → Type 0
@@ -108,10 +103,10 @@ abbrev pub SaysRemoved : (s : List ℕ) (slot : ℕ) → Written → (after : Li
 SaysRemoved s slot r after = (a : Stored) (left : List ℕ) → Removes version_two s slot a left → (r ≡ written a) × (after ≡ left)
 
 abbrev pub SaysCounted : (s : List ℕ) → SlotNumbers → Type 0
-SaysCounted s r = (a : Slots) → Counts version_two s a → r ≡ slot_numbers a
+SaysCounted s r = (a : Result Slots Refusal) → Counts version_two s a → r ≡ slot_numbers a
 
 abbrev pub SaysSummed : (s : List ℕ) → SumNumbers → Type 0
-SaysSummed s r = (a : TwoSums) → Sums version_two s a → r ≡ sum_numbers a
+SaysSummed s r = (a : Result TwoSums Refusal) → Sums version_two s a → r ≡ sum_numbers a
 
 abbrev pub SaysCarried : (s : List ℕ) → Started → (after : List ℕ) → Type 0
 SaysCarried s r after = (a : Outcome) (left : List ℕ) → Carries s a left → (r ≡ started a) × (after ≡ left)

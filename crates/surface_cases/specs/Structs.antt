@@ -1,25 +1,14 @@
 -- The struct that a program in C gets for each case of each answer, field by field. Assumes nothing.
-use Rattle.std.specs.Prelude.{ℕ, replicate}
+use Rattle.answers.specs.declared.Unaccepted.TheVariants.{First, Second}
+use Rattle.answers.specs.Answers.{Stored, Judged, Compared, Located}
+use Rattle.std.specs.Prelude.{ℕ, replicate, Ok, Err, Some, None, Result, true, false}
 use Rattle.refusals.specs.declared.Refusal.{Refusal}
-use Rattle.refusals.specs.declared.Outcome.{Outcome}
-use Rattle.refusals.specs.declared.Outcome.TheVariants.{Passed, Failed}
-use Rattle.refusals.specs.Refusals.{number}
-use Rattle.answers.specs.declared.Judged.{Judged}
-use Rattle.answers.specs.declared.Judged.TheVariants as judged
-use Rattle.answers.specs.declared.Stored.{Stored}
-use Rattle.answers.specs.declared.Stored.TheVariants as stored
-use Rattle.answers.specs.declared.Compared.{Compared}
-use Rattle.answers.specs.declared.Compared.TheVariants as compared
-use Rattle.answers.specs.declared.Located.{Located}
-use Rattle.answers.specs.declared.Located.TheVariants as located
+use Rattle.refusals.specs.Refusals.{number, Outcome}
 use Rattle.answers.specs.declared.Listed.{Listed}
-use Rattle.answers.specs.declared.Listed.TheVariants as listed
 use Rattle.shelves.specs.declared.Shelved.{Shelved}
 use Rattle.shelves.specs.declared.Shelved.TheVariants as shelved
 use Rattle.shelves.specs.declared.Slots.{Slots}
-use Rattle.shelves.specs.declared.Slots.TheVariants as slots
 use Rattle.shelves.specs.declared.TwoSums.{TwoSums}
-use Rattle.shelves.specs.declared.TwoSums.TheVariants as sums
 use Rattle.mailbox_files.specs.declared.Report.{Report}
 use Rattle.surface.specs.declared.Verdict.{Verdict}
 use Rattle.surface.specs.declared.Written.{Written}
@@ -33,7 +22,7 @@ use Rattle.surface.specs.declared.SumNumbers.{SumNumbers}
 use Rattle.surface.specs.declared.MorningFigures.{MorningFigures}
 
 unfoldable pub verdict : Judged → Verdict
-verdict (judged.Accepted f) =
+verdict (Ok f) =
     record {
       number = 0;
       segments = f.segments.0;
@@ -48,7 +37,7 @@ verdict (judged.Accepted f) =
       repetition = f.characters.repetition;
       terminator = f.characters.terminator;
     }
-verdict (judged.Refused r) =
+verdict (Err r) =
     record {
       number = number r.fault;
       segments = 0;
@@ -65,40 +54,40 @@ verdict (judged.Refused r) =
     }
 
 unfoldable pub written : Stored → Written
-written (stored.Length n) = record { number = 0; place = 0; length = n }
-written (stored.Refused r) = record { number = number r.fault; place = r.place; length = 0 }
+written (Ok n) = record { number = 0; place = 0; length = n }
+written (Err r) = record { number = number r.fault; place = r.place; length = 0 }
 
 unfoldable pub comparison : Compared → Comparison
-comparison compared.Same = record { number = 0; input = 0; same = 1; place = 0 }
-comparison compared.Different = record { number = 0; input = 0; same = 0; place = 0 }
-comparison (compared.FirstRefused r) = record { number = number r.fault; input = 1; same = 0; place = r.place }
-comparison (compared.SecondRefused r) = record { number = number r.fault; input = 2; same = 0; place = r.place }
+comparison (Ok true) = record { number = 0; input = 0; same = 1; place = 0 }
+comparison (Ok false) = record { number = 0; input = 0; same = 0; place = 0 }
+comparison (Err (First r)) = record { number = number r.fault; input = 1; same = 0; place = r.place }
+comparison (Err (Second r)) = record { number = number r.fault; input = 2; same = 0; place = r.place }
 
 unfoldable pub location : Located → Location
-location (located.At offset length) = record { number = 0; present = 1; place = 0; offset = offset; length = length }
-location located.Absent = record { number = 0; present = 0; place = 0; offset = 0; length = 0 }
-location (located.Refused r) = record { number = number r.fault; present = 0; place = r.place; offset = 0; length = 0 }
+location (Ok (Some v)) = record { number = 0; present = 1; place = 0; offset = v.offset; length = v.length }
+location (Ok None) = record { number = 0; present = 0; place = 0; offset = 0; length = 0 }
+location (Err r) = record { number = number r.fault; present = 0; place = r.place; offset = 0; length = 0 }
 
-unfoldable pub listing : Listed → Listing
-listing (listed.Values bytes numbers) = record { number = 0; place = 0; bytes = bytes; numbers = numbers }
-listing (listed.Refused r) = record { number = number r.fault; place = r.place; bytes = 0; numbers = 0 }
+unfoldable pub listing : Result Listed Refusal → Listing
+listing (Ok v) = record { number = 0; place = 0; bytes = v.bytes; numbers = v.numbers }
+listing (Err r) = record { number = number r.fault; place = r.place; bytes = 0; numbers = 0 }
 
 unfoldable pub started : Outcome → Started
-started Passed = record { number = 0; place = 0 }
-started (Failed r) = record { number = number r.fault; place = r.place }
+started (Ok _) = record { number = 0; place = 0 }
+started (Err r) = record { number = number r.fault; place = r.place }
 
-unfoldable pub shelving : Shelved → Shelving
-shelving (shelved.New slot) = record { number = 0; added = 1; place = 0; slot = slot }
-shelving (shelved.Copy slot) = record { number = 0; added = 0; place = 0; slot = slot }
-shelving (shelved.Refused r) = record { number = number r.fault; added = 0; place = r.place; slot = 0 }
+unfoldable pub shelving : Result Shelved Refusal → Shelving
+shelving (Ok (shelved.New slot)) = record { number = 0; added = 1; place = 0; slot = slot }
+shelving (Ok (shelved.Copy slot)) = record { number = 0; added = 0; place = 0; slot = slot }
+shelving (Err r) = record { number = number r.fault; added = 0; place = r.place; slot = 0 }
 
-unfoldable pub slot_numbers : Slots → SlotNumbers
-slot_numbers (slots.Numbers occupied lowest) = record { number = 0; place = 0; occupied = occupied; lowest = lowest }
-slot_numbers (slots.Refused r) = record { number = number r.fault; place = r.place; occupied = 0; lowest = 0 }
+unfoldable pub slot_numbers : Result Slots Refusal → SlotNumbers
+slot_numbers (Ok v) = record { number = 0; place = 0; occupied = v.occupied; lowest = v.lowest_free }
+slot_numbers (Err r) = record { number = number r.fault; place = r.place; occupied = 0; lowest = 0 }
 
-unfoldable pub sum_numbers : TwoSums → SumNumbers
-sum_numbers (sums.Numbers held duplicates) = record { number = 0; held = held; duplicates = duplicates; place = 0 }
-sum_numbers (sums.Refused r) = record { number = number r.fault; held = 0; duplicates = 0; place = r.place }
+unfoldable pub sum_numbers : Result TwoSums Refusal → SumNumbers
+sum_numbers (Ok v) = record { number = 0; held = v.held; duplicates = v.duplicates; place = 0 }
+sum_numbers (Err r) = record { number = number r.fault; held = 0; duplicates = 0; place = r.place }
 
 -- the figures of a report that was made
 unfoldable pub morning : Report → MorningFigures

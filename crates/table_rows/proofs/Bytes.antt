@@ -1,13 +1,10 @@
 -- The bytes of an entry, each where it stands. Assumes nothing.
 use Prim.Native.Nat.{ℕ, suc, ◌+◌, ◌*◌, ◌≤◌, ◌<◌}
-use mathlib.Core.Path.{◌≡◌, refl, sym, ap, ◌∙◌}
-use mathlib.Core.Bool.{Bool, true, false, ◌&&◌}
+use mathlib.Core.Path.{◌≡◌, sym, ap, ◌∙◌}
 use mathlib.Core.List.{List, [], ◌∷◌}
 use native.Mathlib.Omega.{arith}
 use lib.ListN.{length, take, drop, get_or}
 use lib.Seq.{drop-cons}
-use lib.Dec.{eqb}
-use Rattle.lists.specs.Lists.{same}
 use Rattle.message_tables.specs.Entries.{whole_entries}
 use Rattle.numbers.specs.Numbers.{read_on, number_at}
 
@@ -32,14 +29,3 @@ three_at s at h =
 pub one_at : (s : List ℕ) (at : ℕ) → at < length s → get_or s at 0 ≡ number_at s at 1
 unfolding number_at read_on
 one_at s at h = omega arith ∙ sym (ap (λ (l : List ℕ). read_on 0 (take 1 l)) (drop-cons s at 0 h))
-
--- where two bytes of two tags are the same, the third decides
-pub third_decides : (a b z x y w : ℕ) → eqb a x ≡ true → eqb b y ≡ true → eqb z w ≡ same (a ∷ b ∷ z ∷ []) (x ∷ y ∷ w ∷ [])
-unfolding same
-third_decides a b z x y w p q =
-    alone (eqb z w)
-    ∙ sym (ap (λ (t : Bool). t && (eqb b y && (eqb z w && true))) p ∙ ap (λ (t : Bool). t && (eqb z w && true)) q)
-  where
-    alone : (t : Bool) → t ≡ (t && true)
-    alone true = refl
-    alone false = refl

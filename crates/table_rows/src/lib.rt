@@ -14,14 +14,15 @@ use big_endian::get;
 pub const ROW_BYTES: usize = 8;
 
 // A tag of three bytes; zeros are a group's own.
-#[derive(Clone, Copy)]
+#[derive(Clone, Copy, PartialEq, Eq)]
 pub struct Tag {
     pub first: u8,
     pub second: u8,
     pub third: u8,
 }
 
-// An entry: its tag, `M` or `C`, the largest number of repeats, and how many entries stand under it.
+// An entry: its tag, `M` or `C`, the largest number of repeats, and how many entries stand under it. The
+// status is a byte and no enum: by the contract of `row_at` it is the byte that stands there, sound or not.
 #[derive(Clone, Copy)]
 pub struct Row {
     pub tag: Tag,
@@ -44,13 +45,7 @@ pub fn no_tag() -> Tag
 pub fn same_tag(a: Tag, b: Tag) -> bool
     ensures { result ≡ same (tag_bytes a) (tag_bytes b) }
 {
-    if a.first != b.first {
-        return false;
-    }
-    if a.second != b.second {
-        return false;
-    }
-    a.third == b.third
+    a == b
 }
 
 // The entry of a number, from 0.
@@ -77,8 +72,7 @@ pub fn row_at(table: &[u8], number: usize) -> Row
 pub fn is_group(row: Row) -> bool
     ensures { result ≡ is_group (entry_in row) }
 {
-    let tag = row.tag;
-    same_tag(tag, no_tag())
+    same_tag(row.tag, no_tag())
 }
 
 pub fn is_mandatory(row: Row) -> bool

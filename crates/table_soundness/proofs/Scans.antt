@@ -1,5 +1,5 @@
 -- The scan one entry at a time, with what the code keeps. Assumes nothing.
-use Rattle.std.specs.Prelude.{if◌then◌else◌}
+use Rattle.std.specs.Prelude.{if◌then◌else◌, Ok, Err}
 use Prim.Native.Nat.{ℕ, zero, suc, ◌+◌, ◌-◌, ◌*◌, ◌%◌, ◌≤◌, ◌<◌}
 use mathlib.Core.Path.{◌≡◌, refl, sym, ap, subst, ◌∙◌}
 use mathlib.Core.Bool.{Bool, true, false, not, ◌&&◌, ◌||◌}
@@ -13,9 +13,7 @@ use Rattle.lists.specs.Lists.{maybe}
 use Rattle.lists.proofs.Texts.{and_left, and_right, if_true, if_false}
 use Rattle.refusals.specs.declared.Fault.TheVariants.{UnsoundTable}
 use Rattle.refusals.specs.declared.Refusal.{Refusal}
-use Rattle.refusals.specs.declared.Outcome.{Outcome}
-use Rattle.refusals.specs.declared.Outcome.TheVariants.{Passed, Failed}
-use Rattle.refusals.specs.Refusals.{place_if, failed_at}
+use Rattle.refusals.specs.Refusals.{place_if, failed_at, Outcome}
 use Rattle.message_tables.specs.Entries.{Entry, entry_of, whole_entries, entries_of, is_group}
 use Rattle.message_tables.specs.Soundness.{most_entries, most_depth, is_table_tag, segment_fits, is_trigger}
 use Rattle.message_table_laws.specs.Scanning.{lower, own_room, nearest, Rises, fits_in, scanned, size_fault, first_fault}
@@ -222,7 +220,7 @@ module _ (table : List ℕ) where
     unfolding size_fault
     size_left = if_false (ltb most_entries (whole_entries table)) _ _ (le-ltb most_entries (whole_entries table) h)
 
-    pub size_whole : length table % 8 ≡ 0 → Passed ≡ found_at (size_fault table)
+    pub size_whole : length table % 8 ≡ 0 → Ok tt ≡ found_at (size_fault table)
     size_whole e = sym (ap found_at (size_left ∙ if_true (eqb (length table % 8) 0) none _ (eq-eqb (length table % 8) 0 e)))
 
     pub size_part : (length table % 8 ≡ 0 → ⊥) → failed_at UnsoundTable (whole_entries table) ≡ found_at (size_fault table)
@@ -232,19 +230,19 @@ module _ (table : List ℕ) where
 
 module _ (table : List ℕ) {scan : Outcome} (e : scan ≡ found_at (scanned most_entries 0 false [] (entries_of table))) where
   -- an entry below 999 is at fault
-  pub entry_answers : {r : Refusal} → scan ≡ Failed r → Failed r ≡ found_at (first_fault table)
+  pub entry_answers : {r : Refusal} → scan ≡ Err r → Err r ≡ found_at (first_fault table)
   unfolding first_fault maybe
   entry_answers {r} d = step (scanned most_entries 0 false [] (entries_of table)) (sym d ∙ e)
     where
-      step : (o : Option ℕ) → Failed r ≡ found_at o → Failed r ≡ found_at (maybe (size_fault table) some o)
+      step : (o : Option ℕ) → Err r ≡ found_at o → Err r ≡ found_at (maybe (size_fault table) some o)
       step none h = cc
       step (some n) h = h
 
   -- none is: the size decides
-  pub size_answers : scan ≡ Passed → found_at (size_fault table) ≡ found_at (first_fault table)
+  pub size_answers : scan ≡ Ok tt → found_at (size_fault table) ≡ found_at (first_fault table)
   unfolding first_fault maybe
   size_answers d = step (scanned most_entries 0 false [] (entries_of table)) (sym d ∙ e)
     where
-      step : (o : Option ℕ) → Passed ≡ found_at o → found_at (size_fault table) ≡ found_at (maybe (size_fault table) some o)
+      step : (o : Option ℕ) → Ok tt ≡ found_at o → found_at (size_fault table) ≡ found_at (maybe (size_fault table) some o)
       step none h = refl
       step (some n) h = cc

@@ -1,14 +1,12 @@
 -- What is asked of an entry, from what is kept of those before it: whether the last was a group's own, how many groups hold the present one,
 -- and behind which entry each of them ends. `ends` holds first where the table ends, then where the outermost group does, and so on to the
 -- nearest; `next` is the number of the entry that follows the present one. Assumes nothing.
-use Rattle.std.specs.Prelude.{ℕ, zero, suc, ◌-◌, ◌≤◌, Bool, not, ◌&&◌, ◌||◌, List, [], ◌∷◌, get_or, leb, ltb, if◌then◌else◌}
+use Rattle.std.specs.Prelude.{ℕ, zero, suc, ◌-◌, ◌≤◌, Bool, not, ◌&&◌, ◌||◌, List, [], ◌∷◌, get_or, leb, ltb, if◌then◌else◌, Ok}
 use Rattle.std.proofs.Math.Option.{Option, none, some}
 use Rattle.lists.specs.Lists.{text, member}
 use Rattle.characters.specs.Characters.{between}
 use Rattle.refusals.specs.declared.Fault.TheVariants.{UnsoundTable}
-use Rattle.refusals.specs.declared.Outcome.{Outcome}
-use Rattle.refusals.specs.declared.Outcome.TheVariants.{Passed}
-use Rattle.refusals.specs.Refusals.{failed_at}
+use Rattle.refusals.specs.Refusals.{failed_at, Outcome}
 use Rattle.message_tables.specs.Entries.{Entry, is_group}
 use Rattle.message_tables.specs.Soundness.{most_entries, most_repeats, most_depth, segment_fits, is_trigger}
 
@@ -45,5 +43,5 @@ Nested next (suc depth) ends = (next ≤ get_or ends (suc depth) 0) × (get_or e
 
 -- refused at the entry that is at fault, if there is one
 abbrev pub found_at : Option ℕ → Outcome
-found_at none = Passed
+found_at none = Ok tt
 found_at (some n) = failed_at UnsoundTable n

@@ -11,7 +11,7 @@ ghost use Rattle.message_table_laws.specs.Scanning.{lower, scanned, size_fault, 
 ghost use Rattle.table_rows.specs.Rows.{tag_bytes, entry_in};
 ghost use Rattle.table_soundness.specs.Fitting.{asked, stated, group_fits_within, fits_within, rooms_in, Nested, found_at};
 
-use refusals::{Fault, Outcome};
+use refusals::{Fault, Refusal};
 use refusing::failed;
 use table_rows::{ROW_BYTES, Row, Tag, is_group, is_mandatory, row_at};
 
@@ -25,102 +25,63 @@ const MOST_DEPTH: usize = 8;
 fn is_table_tag(tag: Tag) -> bool
     ensures { result ≡ is_table_tag (tag_bytes tag) }
 {
-    if !tags::is_tag(tag.first, tag.second, tag.third) {
-        return false;
-    }
-    if tag.first != b'U' {
-        return true;
-    }
-    if tag.second != b'N' {
-        return true;
-    }
-    tag.third == b'S'
+    tags::is_tag(tag.first, tag.second, tag.third)
+        && (tag.first != b'U' || tag.second != b'N' || tag.third == b'S')
 }
 
 // "a 16-bit number of entries under it at any depth (1 or more for a group, else 0)"
 fn segment_fits(row: Row) -> bool
     ensures { result ≡ segment_fits (entry_in row) }
 {
-    if row.under != 0 {
-        return false;
-    }
-    let tag = row.tag;
-    is_table_tag(tag)
+    row.under == 0 && is_table_tag(row.tag)
 }
 
 // A group that stands in so many others, of the nearest of which so many entries are left.
 fn group_fits(under: usize, depth: usize, room: usize) -> bool
     ensures { result ≡ group_fits_within depth room under }
 {
-    if under < 1 {
-        return false;
-    }
-    if MOST_DEPTH <= depth {
-        return false;
-    }
-    under <= room
+    1 <= under && depth < MOST_DEPTH && under <= room
 }
 
 // "`M` mandatory or `C` conditional"
 fn is_status(status: u8) -> bool
     ensures { result ≡ member status (text "MC") }
 {
-    if status == b'M' {
-        return true;
-    }
-    status == b'C'
+    matches!(status, b'M' | b'C')
 }
 
 // "a 16-bit largest number of repeats (1 to 999)"
 fn is_stated(row: Row) -> bool
     ensures { result ≡ stated (entry_in row) }
 {
-    if !is_status(row.status) {
-        return false;
-    }
-    if row.repeats < 1 {
-        return false;
-    }
-    row.repeats <= MOST
+    is_status(row.status) && 1 <= row.repeats && row.repeats <= MOST
 }
 
 // "a group's first entry is its trigger, a segment, mandatory and once"
 fn is_trigger(row: Row) -> bool
     ensures { result ≡ is_trigger (entry_in row) }
 {
-    if is_group(row) {
-        return false;
-    }
-    if !is_mandatory(row) {
-        return false;
-    }
-    row.repeats == 1
+    !is_group(row) && is_mandatory(row) && row.repeats == 1
 }
 
 // The same, asked only after a group's own entry.
 fn triggers(row: Row, after: bool) -> bool
     ensures { result ≡ (not after || is_trigger (entry_in row)) }
 {
-    if after {
-        return is_trigger(row);
-    }
-    true
+    !after || is_trigger(row)
 }
 
 // What is asked of an entry.
 fn fits(row: Row, after: bool, depth: usize, room: usize) -> bool
     ensures { result ≡ fits_within after depth room (entry_in row) }
 {
-    if !is_stated(row) {
-        return false;
-    }
-    if !triggers(row, after) {
-        return false;
-    }
-    if is_group(row) {
-        return group_fits(row.under, depth, room);
-    }
-    segment_fits(row)
+    is_stated(row)
+        && triggers(row, after)
+        && if is_group(row) {
+            group_fits(row.under, depth, room)
+        } else {
+            segment_fits(row)
+        }
 }
 
 // How many groups are still open, of so many, when the entry before `next` is passed.
@@ -130,18 +91,16 @@ fn still_open(ends: &[usize; 10], depth: usize, next: usize) -> usize
     ensures nested { Nested (next + 1) result ends.now }
     ensures fewer { result ≤ depth }
 {
-    let mut count = depth;
-    while 0 < count {
+    for count in (1..=depth).rev() {
         if next < ends[count] {
             return count;
         }
-        count -= 1;
     }
     0
 }
 
 // The first of so many entries that does not fit. A segment is passed like a group that holds nothing.
-fn scan(table: &[u8], whole: usize, most: usize) -> Outcome
+fn scan(table: &[u8], whole: usize, most: usize) -> Result<(), Refusal>
     requires { (whole ≡ whole_entries table.now) × (most ≡ asked whole) }
     ensures { result ≡ found_at (scanned most_entries 0 false [] (entries_of table.now)) }
 {
@@ -149,8 +108,7 @@ fn scan(table: &[u8], whole: usize, most: usize) -> Outcome
     ends[0] = whole;
     let mut depth = 0;
     let mut after = false;
-    let mut number = 0;
-    while number < most {
+    for number in 0..most {
         let row = row_at(table, number);
         let next = number + 1;
         if !fits(row, after, depth, ends[depth] - next) {
@@ -159,23 +117,19 @@ fn scan(table: &[u8], whole: usize, most: usize) -> Outcome
         after = is_group(row);
         ends[depth + 1] = next + row.under;
         depth = still_open(&ends, depth + 1, next);
-        number = next;
     }
-    Outcome::Passed
+    Ok(())
 }
 
 // How many entries are asked one by one.
 fn entries_asked(whole: usize) -> usize
     ensures { result ≡ asked whole }
 {
-    if MOST < whole {
-        return MOST;
-    }
-    whole
+    whole.min(MOST)
 }
 
 // "where there are more than 999, entry 999 is at fault too"; a last entry that is not whole is at fault.
-fn check_size(table: &[u8]) -> Outcome
+fn check_size(table: &[u8]) -> Result<(), Refusal>
     ensures { result ≡ found_at (size_fault table.now) }
 {
     let whole = table.len() / ROW_BYTES;
@@ -183,18 +137,16 @@ fn check_size(table: &[u8]) -> Outcome
         return failed(Fault::UnsoundTable, MOST);
     }
     if table.len() % ROW_BYTES == 0 {
-        return Outcome::Passed;
+        return Ok(());
     }
     failed(Fault::UnsoundTable, whole)
 }
 
 // 21: the lowest entry at fault.
-pub fn check(table: &[u8]) -> Outcome
+pub fn check(table: &[u8]) -> Result<(), Refusal>
     ensures { result ≡ found_at (first_fault table.now) }
 {
     let whole = table.len() / ROW_BYTES;
-    match scan(table, whole, entries_asked(whole)) {
-        Outcome::Failed(r) => Outcome::Failed(r),
-        Outcome::Passed => check_size(table),
-    }
+    scan(table, whole, entries_asked(whole))?;
+    check_size(table)
 }

@@ -1,4 +1,5 @@
 -- The loops of the walk: over the repeats of an entry, and over the entries of a level. Assumes nothing.
+use Rattle.std.specs.Prelude.{Ok, Err}
 use Prim.Native.Nat.{ℕ, zero, suc, ◌-◌, ◌≤◌, ◌<◌}
 use mathlib.Core.Path.{◌≡◌, refl, sym, ap, subst, ◌∙◌}
 use mathlib.Core.Bool.{Bool, true, false, not, ◌&&◌}
@@ -14,10 +15,8 @@ use Rattle.message_tables.specs.Structure.{Structure, level, levels}
 use Rattle.message_structures.specs.Walking.{Walked as Told, stopped, through, onward, leads, repeated, walk}
 use Rattle.table_rows.specs.Rows.{tag_bytes}
 use Rattle.table_walk.specs.declared.Next.{Next}
-use Rattle.table_walk.specs.declared.Walked.{Walked}
-use Rattle.table_walk.specs.declared.Walked.TheVariants.{Stopped, Through}
 use Rattle.table_walk.specs.declared.Part.{Part}
-use Rattle.table_walk.specs.Walking.{Tagged, segments_at, Marked, told, standing, within}
+use Rattle.table_walk.specs.Walking.{Walked, Tagged, segments_at, Marked, told, standing, within}
 use Rattle.table_walk.proofs.Entries.{Opened}
 use Rattle.table_walk.proofs.Steps.{onward_stopped, onward_through, repeats_stop, repeats_on, entry_missed, entry_met}
 use Rattle.table_walk.proofs.Standing.{lead_known}
@@ -56,21 +55,21 @@ module _ (c : Characters) (s : List ℕ) where
   -- ---- answers
 
   module _ (from : ℕ) (w : Told Segment) (next : List Segment → Told Segment) (here : Next) (g : Goes from w next here) where
-    pub answers_through : next (segments_at c s here.at) ≡ through (segments_at c s here.at) → Answers from w (Through here)
+    pub answers_through : next (segments_at c s here.at) ≡ through (segments_at c s here.at) → Answers from w (Ok here)
     answers_through e = (sym (g.0 ∙ e), (g.1, g.2))
 
-    pub answers_stopped : next (segments_at c s here.at) ≡ stopped (segments_at c s here.at) → Answers from w (Stopped here)
+    pub answers_stopped : next (segments_at c s here.at) ≡ stopped (segments_at c s here.at) → Answers from w (Err here)
     answers_stopped e = (sym (g.0 ∙ e), (g.1, g.2))
 
     -- a part of it was walked
     module _ (part : Told Segment) (after : List Segment → Told Segment) (e : next (segments_at c s here.at) ≡ onward tag_of part after)
         (at : ℕ) (l : here.at ≤ at) (r : Walked) (a : Answers at part r) (n : Next) where
-      pub part_stopped : r ≡ Stopped n → Answers from w (Stopped n)
+      pub part_stopped : r ≡ Err n → Answers from w (Err n)
       part_stopped d =
           let b = subst (Answers at part) d a in
           (onward_stopped tag_of after b.0 ∙ sym (g.0 ∙ e), (b.1.0, omega (arith, b.1.1, g.2)))
 
-      pub part_through : r ≡ Through n → Goes from w after n
+      pub part_through : r ≡ Ok n → Goes from w after n
       part_through d =
           let b = subst (Answers at part) d a in
           (g.0 ∙ e ∙ sym (onward_through tag_of after b.0), b.1.0, omega (arith, b.1.1, g.2))

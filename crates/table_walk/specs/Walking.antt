@@ -1,5 +1,5 @@
 -- Where the walk stands, and what it is given of a table: the entries from a number up to another. Assumes nothing.
-use Rattle.std.specs.Prelude.{ℕ, ◌+◌, ◌-◌, ◌*◌, ◌≤◌, ◌<◌, ◌≡◌, true, false, List, [], ◌∷◌, length, take, drop, eqb, if◌then◌else◌}
+use Rattle.std.specs.Prelude.{ℕ, ◌+◌, ◌-◌, ◌*◌, ◌≤◌, ◌<◌, ◌≡◌, true, false, List, [], ◌∷◌, length, take, drop, eqb, if◌then◌else◌, Result, Ok, Err}
 use Rattle.lists.specs.Lists.{same}
 use Rattle.characters.specs.declared.Characters.{Characters}
 use Rattle.values.specs.Tokens.{Segment, segments, tokens_at}
@@ -9,9 +9,11 @@ use Rattle.message_tables.specs.Structure.{lead_of}
 use Rattle.message_structures.specs.Walking.{Walked as Told, stopped, through}
 use Rattle.table_rows.specs.Rows.{tag_bytes}
 use Rattle.table_walk.specs.declared.Next.{Next}
-use Rattle.table_walk.specs.declared.Walked.{Walked}
-use Rattle.table_walk.specs.declared.Walked.TheVariants.{Stopped, Through}
 use Rattle.table_walk.specs.declared.Part.{Part}
+
+-- the walk went through all entries, or stopped
+abbrev pub Walked : Type 0
+Walked = Result Next Next
 
 -- ---- the segments
 
@@ -36,15 +38,15 @@ module _ (c : Characters) (s : List ℕ) where
   abbrev pub Marked : Next → Type 0
   Marked n = tag_bytes n.tag ≡ tag_here (segments_at n.at)
 
-  -- what is left
+  -- what is left, where the walk stopped or went through all entries
   abbrev pub told : Walked → Told Segment
-  told (Stopped n) = stopped (segments_at n.at)
-  told (Through n) = through (segments_at n.at)
+  told (Err n) = stopped (segments_at n.at)
+  told (Ok n) = through (segments_at n.at)
 
 -- where the walk stands then
 abbrev pub standing : Walked → Next
-standing (Stopped n) = n
-standing (Through n) = n
+standing (Err n) = n
+standing (Ok n) = n
 
 -- ---- the table
 

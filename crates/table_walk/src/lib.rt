@@ -31,11 +31,12 @@ pub struct Next {
     pub tag: Tag,
 }
 
-// The walk stopped, or went through all entries: with what is left.
+// What the walk goes through: the bytes and characters of a message, and the table.
 #[derive(Clone, Copy)]
-pub enum Walked {
-    Stopped(Next),
-    Through(Next),
+struct Walk<'a> {
+    s: &'a [u8],
+    c: Characters,
+    table: &'a [u8],
 }
 
 // An entry, for the walk: whether it is mandatory, its most repeats, the tag with which each of them
@@ -87,10 +88,10 @@ fn lead_of(table: &[u8], number: usize, row: Row) -> Tag
     ensures { tag_bytes result ≡ lead_of (entry_at table.now number) (drop (number + 1) (entries_of table.now)) }
 {
     if is_group(row) {
-        let trigger = row_at(table, number + 1);
-        return trigger.tag;
+        row_at(table, number + 1).tag
+    } else {
+        row.tag
     }
-    row.tag
 }
 
 // The entry of a number.
@@ -113,92 +114,62 @@ fn part_at(table: &[u8], number: usize) -> Part
 fn is_missed(part: Part, next: Next) -> bool
     ensures { result ≡ (part.mandatory && not (same (tag_bytes next.tag) (tag_bytes part.lead))) }
 {
-    if !part.mandatory {
-        return false;
-    }
-    let tag = next.tag;
-    let lead = part.lead;
-    !same_tag(tag, lead)
+    part.mandatory && !same_tag(next.tag, part.lead)
 }
 
-// The repeats of an entry, as many as there are, up to its most; what each holds is one level deeper.
+// The repeats of an entry, as many as there are, up to its most; what each holds is one level deeper. Like the walk of a
+// level, it says where the walk stands then, or, as an error, where it stopped.
 #[cycle(level_repeats)]
-fn repeats(s: &[u8], c: Characters, table: &[u8], part: Part, depth: usize, next: Next) -> Walked
-    requires { (part.end ≤ whole_entries table.now) × Levels depth (within table.now part.from part.end) × Tagged (tag_bytes part.lead) × Marked c s.now next }
-    ensures is { told c s.now result ≡ repeated tag_of (walk tag_of (levels depth (within table.now part.from part.end))) (tag_bytes part.lead) part.most (segments_at c s.now next.at) }
-    ensures marked { Marked c s.now (standing result) }
+fn repeats(w: &Walk, part: Part, depth: usize, next: Next) -> Result<Next, Next>
+    requires { (part.end ≤ whole_entries w.now.table.now) × Levels depth (within w.now.table.now part.from part.end) × Tagged (tag_bytes part.lead) × Marked w.now.c w.now.s.now next }
+    ensures is { told w.now.c w.now.s.now result ≡ repeated tag_of (walk tag_of (levels depth (within w.now.table.now part.from part.end))) (tag_bytes part.lead) part.most (segments_at w.now.c w.now.s.now next.at) }
+    ensures marked { Marked w.now.c w.now.s.now (standing result) }
     ensures later { next.at ≤ (standing result).at }
 {
     let mut here = next;
-    let mut left = part.most;
-    while 0 < left {
-        let tag = here.tag;
-        let lead = part.lead;
-        if !same_tag(tag, lead) {
-            return Walked::Through(here);
+    for _ in 0..part.most {
+        if !same_tag(here.tag, part.lead) {
+            return Ok(here);
         }
-        match level(s, c, table, part.from, part.end, depth, stepped(s, c, here)) {
-            Walked::Stopped(at) => {
-                return Walked::Stopped(at);
-            }
-            Walked::Through(at) => {
-                here = at;
-            }
-        }
-        left -= 1;
+        here = level(w, part.from, part.end, depth, stepped(w.s, w.c, here))?;
     }
-    Walked::Through(here)
+    Ok(here)
 }
 
 // The entries of a level, from a number up to another, with so many levels from here on.
 #[cycle(level_repeats)]
-fn level(
-    s: &[u8],
-    c: Characters,
-    table: &[u8],
-    from: usize,
-    end: usize,
-    depth: usize,
-    next: Next,
-) -> Walked
-    requires { (end ≤ whole_entries table.now) × Levels depth (within table.now from end) × Marked c s.now next }
-    ensures is { told c s.now result ≡ walk tag_of (levels depth (within table.now from end)) (segments_at c s.now next.at) }
-    ensures marked { Marked c s.now (standing result) }
+fn level(w: &Walk, from: usize, end: usize, depth: usize, next: Next) -> Result<Next, Next>
+    requires { (end ≤ whole_entries w.now.table.now) × Levels depth (within w.now.table.now from end) × Marked w.now.c w.now.s.now next }
+    ensures is { told w.now.c w.now.s.now result ≡ walk tag_of (levels depth (within w.now.table.now from end)) (segments_at w.now.c w.now.s.now next.at) }
+    ensures marked { Marked w.now.c w.now.s.now (standing result) }
     ensures later { next.at ≤ (standing result).at }
 {
     if depth == 0 {
-        return Walked::Through(next);
+        return Ok(next);
     }
     let mut here = next;
     let mut number = from;
     while number < end {
-        let part = part_at(table, number);
+        let part = part_at(w.table, number);
         if is_missed(part, here) {
-            return Walked::Stopped(here);
+            return Err(here);
         }
-        match repeats(s, c, table, part, depth - 1, here) {
-            Walked::Stopped(at) => {
-                return Walked::Stopped(at);
-            }
-            Walked::Through(at) => {
-                here = at;
-            }
-        }
+        here = repeats(w, part, depth - 1, here)?;
+        // The next entry of this level stands behind all that is under this one.
         number = part.end;
     }
-    Walked::Through(here)
+    Ok(here)
 }
 
-// The walk over all that stands from a place on, through a table whose groups lie in one another.
-pub fn through_table(s: &[u8], c: Characters, table: &[u8], at: usize) -> Walked
+// The walk over all that stands from a place on, through a table whose groups lie in one another: where it stands
+// behind all entries, or, as an error, where it stopped.
+pub fn through_table(s: &[u8], c: Characters, table: &[u8], at: usize) -> Result<Next, Next>
     requires { Levels 9 (entries_of table.now) }
     ensures is { told c s.now result ≡ walk tag_of (structure_of table.now) (segments_at c s.now at) }
     ensures later { at ≤ (standing result).at }
 {
     level(
-        s,
-        c,
-        table,
+        &Walk { s, c, table },
         0,
         table.len() / ROW_BYTES,
         LEVELS,

@@ -62,12 +62,10 @@ fn grown_by(word: Word, byte: u8, next: usize) -> Word
 }
 
 // No byte more: `rank` is 4 where the value goes on.
-fn passed_by(mut word: Word, rank: u8, next: usize) -> Word
+fn passed_by(word: Word, rank: u8, next: usize) -> Word
     ensures { result ≡ passed word rank next }
 {
-    word.rank = rank;
-    word.next = next;
-    word
+    Word { rank, next, ..word }
 }
 
 // The value that begins at a place. A stray release character in it is passed over.
@@ -78,11 +76,7 @@ pub fn word_at(s: &[u8], c: Characters, from: usize) -> Word
     loop {
         let at = word.next;
         match lex(s, c, at) {
-            Lexed::Byte {
-                byte,
-                place: _,
-                next,
-            } => {
+            Lexed::Byte { byte, next, .. } => {
                 word = grown_by(word, byte, next);
             }
             Lexed::Separator { rank, next } => {
@@ -125,14 +119,8 @@ fn begins_as_user(s: &[u8], c: Characters, at: usize) -> bool
     ensures { result ≡ true → User ≡ kind_of (segment_at c s.now at) }
 {
     match lex(s, c, at) {
-        Lexed::Byte {
-            byte,
-            place: _,
-            next: _,
-        } => byte != b'U',
-        Lexed::Separator { rank: _, next: _ } => false,
-        Lexed::Stray { next: _ } => false,
-        Lexed::End => false,
+        Lexed::Byte { byte, .. } => byte != b'U',
+        _ => false,
     }
 }
 
@@ -155,45 +143,21 @@ pub fn kind_at(s: &[u8], c: Characters, at: usize) -> Kind
 fn tag_byte(b: u8) -> bool
     ensures { result ≡ (upper b || digit b) }
 {
-    if b < b'0' {
-        return false;
-    }
-    if b <= b'9' {
-        return true;
-    }
-    if b < b'A' {
-        return false;
-    }
-    b <= b'Z'
+    b.is_ascii_uppercase() || b.is_ascii_digit()
 }
 
 // Three bytes that a tag may hold.
 pub fn is_tag(first: u8, second: u8, third: u8) -> bool
     ensures { result ≡ is_tag (first ∷ second ∷ third ∷ []) }
 {
-    if !tag_byte(first) {
-        return false;
-    }
-    if !tag_byte(second) {
-        return false;
-    }
-    tag_byte(third)
+    tag_byte(first) && tag_byte(second) && tag_byte(third)
 }
 
 // No service segment.
 fn is_user(kind: Kind) -> bool
     ensures { result ≡ is_user kind }
 {
-    match kind {
-        Kind::Unb => false,
-        Kind::Ung => false,
-        Kind::Unh => false,
-        Kind::Uns => false,
-        Kind::Unt => false,
-        Kind::Une => false,
-        Kind::Unz => false,
-        Kind::User => true,
-    }
+    matches!(kind, Kind::User)
 }
 
 // The rule for a tag of three bytes that a separator of this rank ends.
@@ -222,11 +186,7 @@ fn ends_unrepeated(s: &[u8], c: Characters, from: usize) -> bool
     let mut at = from;
     loop {
         match lex(s, c, at) {
-            Lexed::Byte {
-                byte: _,
-                place: _,
-                next,
-            } => {
+            Lexed::Byte { next, .. } => {
                 at = next;
             }
             Lexed::Separator { rank, next } => {

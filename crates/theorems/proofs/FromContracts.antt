@@ -1,5 +1,5 @@
 -- The round trips follow from the contracts: each answer gives what the laws about the definitions ask for. Assumes nothing.
-use Rattle.std.specs.Prelude.{if◌then◌else◌}
+use Rattle.std.specs.Prelude.{if◌then◌else◌, Ok}
 use Prim.Native.Nat.{ℕ, ◌≤◌}
 use mathlib.Core.Path.{◌≡◌, refl, sym, ap, ap₂, subst, ◌∙◌}
 use mathlib.Core.Bool.{Bool, true, false}
@@ -20,10 +20,6 @@ use Rattle.stages.specs.Contents.{contents, normal_form}
 use Rattle.stages.specs.Stages.{stages, refusal_of}
 use Rattle.stage_walks.specs.Walks.{refuse}
 use Rattle.answers.specs.declared.Figures.{Figures}
-use Rattle.answers.specs.declared.Judged.TheVariants.{Accepted}
-use Rattle.answers.specs.declared.Stored.TheVariants.{Length}
-use Rattle.answers.specs.declared.Compared.TheVariants.{Same}
-use Rattle.answers.specs.declared.Listed.TheVariants.{Values}
 use Rattle.answers.specs.Answers.{Answer, given, accepted, told_judged, told_stored, told_compared, told_listed}
 use Rattle.operations.specs.Judge.{figures_of, judge, short_for, stored_in, unless_refused, normalise_refusal, normalise, normalise_buffer}
 use Rattle.operations.specs.Compare.{compare}
@@ -49,11 +45,11 @@ use Rattle.theorems.specs.FromContracts.{IsAccepted, AreSame, ReadAfterWrite, Wr
 
 judge_accepts : (text : List ℕ) → judge text ≡ accepted (figures_of text) → IsAccepted text
 unfolding told_judged
-judge_accepts text e r h = judged_tells r (Accepted (figures_of text)) (h ∙ e)
+judge_accepts text e r h = judged_tells r (Ok (figures_of text)) (h ∙ e)
 
 compare_same : (a b : List ℕ) → compare a b ≡ given (1 ∷ []) → AreSame a b
 unfolding told_compared
-compare_same a b e r h = compared_tells r Same (h ∙ e)
+compare_same a b e r h = compared_tells r (Ok true) (h ∙ e)
 
 -- the first and the second of an answer's values
 first : {l m : List ℕ} → l ≡ m → get_or l 0 0 ≡ get_or m 0 0
@@ -64,7 +60,7 @@ second e = ap (λ (l : List ℕ). get_or l 1 0) e
 
 -- ---- Write
 
-module _ (service bytes table output : List ℕ) (n : ℕ) (after : List ℕ) (h : Writes service bytes table output (Length n) after) where
+module _ (service bytes table output : List ℕ) (n : ℕ) (after : List ℕ) (h : Writes service bytes table output (Ok n) after) where
   abbrev text : List ℕ
   text = written_text service bytes table
 
@@ -84,7 +80,7 @@ module _ (service bytes table output : List ℕ) (n : ℕ) (after : List ℕ) (h
 -- ---- Read
 
 module _ (buffer numbers s : List ℕ) (b k : ℕ) (bytesAfter tableAfter : List ℕ)
-    (h : Reads buffer numbers s (Values b k) bytesAfter tableAfter) where
+    (h : Reads buffer numbers s (Ok (record { bytes = b; numbers = k })) bytesAfter tableAfter) where
   -- nothing was refused, and the answer is both lengths
   read_told : (read_refusal buffer numbers s ≡ none) × (b ∷ k ∷ [] ≡ length (value_bytes s) ∷ length (value_table s) ∷ [])
   unfolding read told_listed
@@ -130,7 +126,7 @@ read_short buffer numbers s a r e =
 
 -- ---- Normalise
 
-module _ (buffer s : List ℕ) (n : ℕ) (after : List ℕ) (h : Normalises buffer s (Length n) after) where
+module _ (buffer s : List ℕ) (n : ℕ) (after : List ℕ) (h : Normalises buffer s (Ok n) after) where
   -- nothing was refused, and the answer is the length
   normalise_told : (normalise_refusal buffer s ≡ none) × (n ∷ [] ≡ length (normal_form s) ∷ [])
   unfolding normalise told_stored
@@ -165,7 +161,7 @@ module _ (buffer s : List ℕ) (n : ℕ) (after : List ℕ) (h : Normalises buff
 -- ---- one after another
 
 write_read : (service bytes table output : List ℕ) (n : ℕ) (after : List ℕ)
-    → Writes service bytes table output (Length n) after → ReadAfterWrite bytes table (take n after)
+    → Writes service bytes table output (Ok n) after → ReadAfterWrite bytes table (take n after)
 unfolding read told_listed
 write_read service bytes table output n after h =
     let back = written_back service bytes table output (write_zero service bytes table output n after h) in
@@ -181,13 +177,13 @@ write_read service bytes table output n after h =
     })
 
 read_write : (buffer numbers s : List ℕ) (b k : ℕ) (bytesAfter tableAfter : List ℕ)
-    → Reads buffer numbers s (Values b k) bytesAfter tableAfter → (service output : List ℕ) (n : ℕ) (after : List ℕ)
-    → Writes service (take b bytesAfter) (take k tableAfter) output (Length n) after → WriteAfterRead s service (take n after)
+    → Reads buffer numbers s (Ok (record { bytes = b; numbers = k })) bytesAfter tableAfter → (service output : List ℕ) (n : ℕ) (after : List ℕ)
+    → Writes service (take b bytesAfter) (take k tableAfter) output (Ok n) after → WriteAfterRead s service (take n after)
 read_write buffer numbers s b k bytesAfter tableAfter r service output n after w =
     let text : List ℕ = written_text service (value_bytes s) (value_table s) in
-    let h : Writes service (value_bytes s) (value_table s) output (Length n) after =
-    subst (λ (bytes : List ℕ). Writes service bytes (value_table s) output (Length n) after) (bytes_are buffer numbers s b k bytesAfter tableAfter r)
-    (subst (λ (table : List ℕ). Writes service (take b bytesAfter) table output (Length n) after) (table_is buffer numbers s b k bytesAfter tableAfter r) w)
+    let h : Writes service (value_bytes s) (value_table s) output (Ok n) after =
+    subst (λ (bytes : List ℕ). Writes service bytes (value_table s) output (Ok n) after) (bytes_are buffer numbers s b k bytesAfter tableAfter r)
+    (subst (λ (table : List ℕ). Writes service (take b bytesAfter) table output (Ok n) after) (table_is buffer numbers s b k bytesAfter tableAfter r) w)
     in
     let zero = write_zero service (value_bytes s) (value_table s) output n after h in
     let back = read_back s buffer numbers service output (read_zero buffer numbers s b k bytesAfter tableAfter r) zero in
@@ -202,14 +198,14 @@ read_write buffer numbers s b k bytesAfter tableAfter r service output n after w
 -- ---- line breaks
 
 -- what Judge accepts, the rules allow
-judge_allows : (s : List ℕ) (i : Figures) → Judges s (Accepted i) → Allowed s
+judge_allows : (s : List ℕ) (i : Figures) → Judges s (Ok i) → Allowed s
 unfolding told_judged accepted given
 judge_allows s i h = (judged_number s).0 (sym (ap (λ (a : Answer). a.number) h))
 
-breaks_alike : (s t : List ℕ) (i : Figures) → Judges s (Accepted i) → ButForBreaks s t → length t ≤ most_bytes → AreSame s t
+breaks_alike : (s t : List ℕ) (i : Figures) → Judges s (Ok i) → ButForBreaks s t → length t ≤ most_bytes → AreSame s t
 breaks_alike s t i h alike short = compare_same s t ((compared_same s t).1 (breaks_same s t alike (judge_allows s i h) short))
 
-breaks_compare : (s gap : List ℕ) (i : Figures) → Judges s (Accepted i) → all is_break gap ≡ true → length (s ++ gap) ≤ most_bytes
+breaks_compare : (s gap : List ℕ) (i : Figures) → Judges s (Ok i) → all is_break gap ≡ true → length (s ++ gap) ≤ most_bytes
     → AreSame s (s ++ gap)
 breaks_compare s gap i h only short = breaks_alike s (s ++ gap) i h (breaks_behind s (judge_allows s i h) gap only) short
 

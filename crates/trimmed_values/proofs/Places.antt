@@ -1,5 +1,5 @@
 -- The place of a value by element, repeat and component, and that the code's tests say whether trimming leaves it. Assumes nothing.
-use Rattle.std.specs.Prelude.{if◌then◌else◌}
+use Rattle.std.specs.Prelude.{if◌then◌else◌, Option as Perhaps, Some, None}
 use Prim.Native.Nat.{ℕ, zero, suc, ◌+◌, ◌-◌, ◌≤◌, ◌<◌}
 use mathlib.Core.Path.{◌≡◌, refl, sym, ap, ap₂, subst, ◌∙◌}
 use mathlib.Core.Bool.{Bool, true, false, not, ◌&&◌, false≢true}
@@ -21,8 +21,7 @@ use Rattle.scanner.specs.Scan.{segment_at}
 use Rattle.scanner.proofs.Segments.{stands}
 use Rattle.elements.specs.Elements.{ElementAt, RepeatAt, ComponentAt, element_from, repeat_from, component_from, holds_byte}
 use Rattle.elements.specs.Values.{value_end, EndsAt}
-use Rattle.trimmed_values.specs.declared.Found.{Found}
-use Rattle.trimmed_values.specs.declared.Found.TheVariants.{At, Absent}
+use Rattle.values.specs.declared.Span.{Span}
 use Rattle.trimmed_values.specs.Trimmed.{stays_in, repeat_in, value_from, repeat_stays, value_stays, placed, Inside}
 use Rattle.trimmed_values.proofs.Ends.{Whole, from_whole, value_ended}
 use Rattle.trimmed_values.proofs.Trimmed.{trimmed_value}
@@ -82,7 +81,7 @@ module _ (c : Characters) (s : List ℕ) where
 
   module _ (at end : ℕ) (whole : Whole (tokens_at c s at)) (h : at < length s) (l : EndsAt c s at end) where
     -- a value begins where its first token stands, and ends where what ends it stands
-    value_place : At at (end - at) ≡ placed (some (value_of (through (ends 3) (tokens_at c s at))))
+    value_place : Some (record { offset = at; length = end - at }) ≡ placed (some (value_of (through (ends 3) (tokens_at c s at))))
     unfolding placed value_of start through
     value_place =
         let (t, ts, e, p) = stands c s at h in
@@ -91,7 +90,7 @@ module _ (c : Characters) (s : List ℕ) where
         let ended : end_place (through (ends 3) (tokens_at c s at)) ≡ end =
         ap (λ (m : List Token). end_place (through (ends 3) m)) e ∙ q ∙ token_place end u us (l.0 ∙ ap value_end e ∙ d)
         in
-        ap₂ (λ (o z : ℕ). At o (z - o)) (sym begun) (sym ended)
+        ap₂ (λ (o z : ℕ). Some (record { offset = o; length = z - o })) (sym begun) (sym ended)
 
     value_inside : at + (end - at) ≤ length s
     value_inside = omega (arith, l.1, l.2 (omega arith))
@@ -99,7 +98,7 @@ module _ (c : Characters) (s : List ℕ) where
 -- ---- the answer, by what stays
 
 module _ (c : Characters) (s : List ℕ) (start element repeat component : ℕ) {from : ℕ} (e : ElementAt c s start element from) where
-  abbrev answer : Found
+  abbrev answer : Perhaps Span
   answer = placed (value_at (trimmed (segment_at c s start)) element repeat component)
 
   abbrev here : List Token
@@ -115,7 +114,7 @@ module _ (c : Characters) (s : List ℕ) (start element repeat component : ℕ) 
       ∙ ap (λ (t : Bool). if t then some (value_of (through (ends 3) (value_from element repeat component here))) else none) h)
 
   -- the element does not stay
-  pub element_gone : {r : Bool} → r ≡ stays_in 0 element (tokens_at c s from) → not r ≡ true → Absent ≡ answer
+  pub element_gone : {r : Bool} → r ≡ stays_in 0 element (tokens_at c s from) → not r ≡ true → None ≡ answer
   unfolding placed
   element_gone {r} x n =
       sym
@@ -135,7 +134,7 @@ module _ (c : Characters) (s : List ℕ) (start element repeat component : ℕ) 
         ap₂ ◌&&◌ (ap (stays_in 0 element) (sym e.0) ∙ sym x ∙ not-false q y) (ap (stays_in 1 repeat) (sym repeat_place) ∙ sym z)
 
     -- the repeat does not
-    pub repeat_gone : not r ≡ true → Absent ≡ answer
+    pub repeat_gone : not r ≡ true → None ≡ answer
     unfolding placed
     repeat_gone n =
         sym
@@ -153,13 +152,13 @@ module _ (c : Characters) (s : List ℕ) (start element repeat component : ℕ) 
       value_inner = ap₂ ◌&&◌ (repeat_inner ∙ not-false r n) (ap (stays_in 2 component) (sym value_begins) ∙ sym g)
 
       -- the component does not
-      pub component_gone : not v ≡ true → Absent ≡ answer
+      pub component_gone : not v ≡ true → None ≡ answer
       unfolding placed
       component_gone m = sym (answered (value_inner ∙ not-true v m))
 
       -- it does too
       pub value_found : (end : ℕ) → Whole here → not v ≡ false → EndsAt c s at end
-          → (At at (end - at) ≡ answer) × Inside s (At at (end - at))
+          → (Some (record { offset = at; length = end - at }) ≡ answer) × Inside s (Some (record { offset = at; length = end - at }))
       value_found end w m l =
           let h = stays_inside c s at 2 component (sym g ∙ not-false v m) in
           let whole = subst Whole (sym value_begins)

@@ -1,5 +1,5 @@
 -- What trimming leaves of a segment, by number, and where it stands, over the tokens that the segment begins. Assumes nothing.
-use Rattle.std.specs.Prelude.{ℕ, zero, suc, ◌+◌, ◌≤◌, Bool, true, false, not, ◌&&◌, List, length}
+use Rattle.std.specs.Prelude.{ℕ, zero, suc, ◌+◌, ◌≤◌, Bool, true, false, not, ◌&&◌, List, length, Option as Perhaps, Some, None}
 use Rattle.std.proofs.Math.Option.{Option, none, some}
 use Rattle.lists.specs.Lists.{is_empty}
 use Rattle.values.specs.Tokens.{Token}
@@ -8,8 +8,7 @@ use Rattle.elements.specs.declared.NextByte.{NextByte}
 use Rattle.elements.specs.declared.NextByte.TheVariants.{Byte, Ended}
 use Rattle.elements.specs.Elements.{element_from, repeat_from, component_from, holds_byte}
 use Rattle.elements.specs.Values.{value_end}
-use Rattle.trimmed_values.specs.declared.Found.{Found}
-use Rattle.trimmed_values.specs.declared.Found.TheVariants.{At, Absent}
+use Rattle.values.specs.declared.Span.{Span}
 
 -- trimming keeps the piece of that number, which the tokens begin with: the first where it is there at all, any other where a byte
 -- of a value stands from it on, in what a separator of this rank ends
@@ -40,14 +39,14 @@ unfoldable pub is_alone : List Token → Bool
 is_alone ts = not (holds_byte 1 (value_end ts))
 
 -- the place of the value, if there is one
-unfoldable pub placed : Option Value → Found
-placed none = Absent
-placed (some v) = At v.offset v.spelled
+unfoldable pub placed : Option Value → Perhaps Span
+placed none = None
+placed (some v) = Some (record { offset = v.offset; length = v.spelled })
 
 -- what was found lies in the input
-abbrev pub Inside : List ℕ → Found → Type 0
-Inside s (At offset size) = offset + size ≤ length s
-Inside s Absent = Unit {0}
+abbrev pub Inside : List ℕ → Perhaps Span → Type 0
+Inside s (Some part) = part.offset + part.length ≤ length s
+Inside s None = Unit {0}
 
 -- the value has no byte more
 abbrev pub is_ended : NextByte → Bool

@@ -16,13 +16,7 @@ ghost use Rattle.trimmed_values.specs.Trimmed.{stays_in, is_unrepeated, is_alone
 
 use characters::Characters;
 use elements::{NextByte, byte_at, component_at, element_at, holds_byte, repeat_at, value_end};
-
-// Where a value stands and how long it is spelled there, or that there is none.
-#[derive(Clone, Copy)]
-pub enum Found {
-    At { offset: usize, length: usize },
-    Absent,
-}
+use values::Span;
 
 // Trimming keeps the piece of that number, which begins at `from`, of what a separator of this rank
 // ends.
@@ -35,7 +29,7 @@ fn stays(s: &[u8], c: Characters, from: usize, rank: u8, number: usize) -> bool
     holds_byte(s, c, from, rank)
 }
 
-// The value by element, repeat and component, in the contents of the segment that begins at `start`. The
+// Where the value stands and how long it is spelled there, by element, repeat and component, in the contents of the segment that begins at `start`. The
 // input may not end inside a segment: a value that nothing ends has no length.
 pub fn value_at(
     s: &[u8],
@@ -44,25 +38,27 @@ pub fn value_at(
     element: usize,
     repeat: usize,
     component: usize,
-) -> Found
+) -> Option<Span>
     requires { ends_inside (tokens_at c s.now start) ≡ false }
     ensures { (result ≡ placed (value_at (trimmed (segment_at c s.now start)) element repeat component)) × Inside s.now result }
 {
     let from = element_at(s, c, start, element);
     if !stays(s, c, from, 0, element) {
-        return Found::Absent;
+        return None;
     }
     let begins = repeat_at(s, c, from, repeat);
     if !stays(s, c, begins, 1, repeat) {
-        return Found::Absent;
+        return None;
     }
     let at = component_at(s, c, begins, component);
     if !stays(s, c, at, 2, component) {
-        return Found::Absent;
+        return None;
     }
     let end = value_end(s, c, at);
-    let length = end - at;
-    Found::At { offset: at, length }
+    Some(Span {
+        offset: at,
+        length: end - at,
+    })
 }
 
 // Only empty repeats follow the first of the element that begins at `from`.
@@ -82,10 +78,7 @@ pub fn is_alone(s: &[u8], c: Characters, from: usize) -> bool
 fn is_ended(next: NextByte) -> bool
     ensures { result ≡ is_ended next }
 {
-    match next {
-        NextByte::Byte { byte: _, next: _ } => false,
-        NextByte::Ended { place: _ } => true,
-    }
+    matches!(next, NextByte::Ended { .. })
 }
 
 // The values that begin at two places are the same.
@@ -95,26 +88,21 @@ pub fn same_value(s: &[u8], c: Characters, first: usize, second: usize) -> bool
     let mut a = first;
     let mut b = second;
     loop {
-        match byte_at(s, c, a) {
-            NextByte::Ended { place: _ } => {
-                return is_ended(byte_at(s, c, b));
-            }
-            NextByte::Byte { byte, next } => match byte_at(s, c, b) {
-                NextByte::Ended { place: _ } => {
-                    return false;
-                }
-                NextByte::Byte {
-                    byte: other,
-                    next: after,
-                } => {
-                    if byte != other {
-                        return false;
-                    }
-                    a = next;
-                    b = after;
-                }
-            },
+        let NextByte::Byte { byte, next } = byte_at(s, c, a) else {
+            return is_ended(byte_at(s, c, b));
+        };
+        let NextByte::Byte {
+            byte: other,
+            next: after,
+        } = byte_at(s, c, b)
+        else {
+            return false;
+        };
+        if byte != other {
+            return false;
         }
+        a = next;
+        b = after;
     }
 }
 
@@ -123,22 +111,14 @@ pub fn is_text(s: &[u8], c: Characters, from: usize, text: &[u8]) -> bool
     ensures { result ≡ same (value_in (tokens_at c s.now from)) text.now }
 {
     let mut at = from;
-    let mut i = 0;
-    loop {
-        match byte_at(s, c, at) {
-            NextByte::Ended { place: _ } => {
-                return i == text.len();
-            }
-            NextByte::Byte { byte, next } => {
-                if i == text.len() {
-                    return false;
-                }
-                if byte != text[i] {
-                    return false;
-                }
-                at = next;
-                i += 1;
-            }
+    for &letter in text {
+        let NextByte::Byte { byte, next } = byte_at(s, c, at) else {
+            return false;
+        };
+        if byte != letter {
+            return false;
         }
+        at = next;
     }
+    is_ended(byte_at(s, c, at))
 }

@@ -17,10 +17,8 @@ pub fn is_unbroken(s: &[u8], start: usize) -> bool
     ensures { result ≡ true → Unbroken s.now start }
 {
     let mut whole = true;
-    let mut at = start;
-    while at < s.len() {
-        whole = whole & (32 <= s[at]);
-        at += 1;
+    for at in start..s.len() {
+        whole &= 32 <= s[at];
     }
     whole
 }
@@ -36,14 +34,21 @@ pub fn length_between(s: &[u8], whole: bool, from: usize, to: usize) -> usize
     unbroken_length(&s[..to], from)
 }
 
-// Stores it from a place of the buffer on.
-pub fn put_between(buffer: &mut [u8], into: usize, s: &[u8], whole: bool, from: usize, to: usize)
+// Stores it from a place of the buffer on, and returns the place after it.
+pub fn put_between(
+    buffer: &mut [u8],
+    into: usize,
+    s: &[u8],
+    whole: bool,
+    from: usize,
+    to: usize,
+) -> usize
     requires { (into + length (unbroken (drop from (take to s.now))) ≤ length buffer.old) × (from ≤ to) × (to ≤ length s.now) × (whole ≡ true → Unbroken s.now from) }
-    ensures { buffer.new ≡ sets buffer.old into (unbroken (drop from (take to s.now))) }
+    ensures { (buffer.new ≡ sets buffer.old into (unbroken (drop from (take to s.now)))) × (result ≡ into + length (unbroken (drop from (take to s.now)))) }
 {
     if whole {
         copy(buffer, into, &s[..to], from);
-        return;
+        return into + (to - from);
     }
-    put_unbroken(buffer, into, &s[..to], from);
+    put_unbroken(buffer, into, &s[..to], from)
 }

@@ -15,7 +15,8 @@ use Rattle.emission_laws.specs.declared.Measure.{Measure}
 use Rattle.emission_laws.specs.Emission.{nothing, waiting, separated, held_next, held_after, spelled_next, emitted, after}
 use Rattle.emission_laws.proofs.Spelled.{spelled_emitted}
 use Rattle.emission_laws.proofs.Steps.{by_rank, emitted_append, after_append}
-use Rattle.storing.proofs.Stores.{Goes}
+use Rattle.storing.specs.Sinks.{SinkLaws}
+use Rattle.storing.proofs.Putting.{Going}
 use Rattle.held_separators.specs.Putting.{value_tokens, Fits, Puts}
 use Rattle.held_separators.proofs.Steps.{tokens_fit, tokens_put, all_put_lem}
 use Rattle.operations.specs.ValueList.{Item, Entry, rank_of, value_in, segments_listed, trim_list}
@@ -39,27 +40,28 @@ module _ (c : Characters) where
       ∙ ap₂ (λ (j : Measure) (b : Bytes). after c j (value_tokens b)) (k ∙ ap (λ (x : ℕ). after c m (separator x 0 ∷ [])) r) v
       ∙ sym (after_append c m (separator (rank_of l.kind) 0 ∷ []) (value_tokens l.value))
 
-  -- there is room for both, and both are stored
-  module _ (m : Measure) (l : Item) {rank : ℕ} {value : Bytes} (r : rank ≡ rank_of l.kind) (v : value ≡ l.value) (l₀ : List ℕ) (f : Fits c l₀ m (record_tokens l)) where
+  -- there is room for both, and both are put
+  module _ {holds : List ℕ → ℕ → List ℕ → List ℕ} {room : List ℕ → ℕ} (laws : SinkLaws holds room) (m : Measure) (l : Item) {rank : ℕ} {value : Bytes}
+      (r : rank ≡ rank_of l.kind) (v : value ≡ l.value) (l₀ : List ℕ) (f : Fits room c l₀ m (record_tokens l)) where
     parts : record_tokens l ≡ (separator rank 0 ∷ []) ++ value_tokens value
     parts = ap₂ (λ (x : ℕ) (b : Bytes). separator x 0 ∷ value_tokens b) (sym r) (sym v)
 
-    start : Goes l₀ l₀ m.total m.total (emitted c m.held (record_tokens l)) (emitted c m.held (record_tokens l))
-    start = record { stored = refl; fits = f; as_long = refl }
+    start : Going holds room l₀ l₀ m.total m.total (emitted c m.held (record_tokens l)) (emitted c m.held (record_tokens l))
+    start = record { put = refl; fits = f; same_room = refl }
 
-    pub separator_fits : Fits c l₀ m (separator rank 0 ∷ [])
-    separator_fits = tokens_fit c m (record_tokens l) start (separator rank 0 ∷ []) (value_tokens value) parts
+    pub separator_fits : Fits room c l₀ m (separator rank 0 ∷ [])
+    separator_fits = tokens_fit laws c m (record_tokens l) start (separator rank 0 ∷ []) (value_tokens value) parts
 
-    module _ {l₁ : List ℕ} {kept : Measure} (p : Puts c l₀ m (separator rank 0 ∷ []) l₁ kept) where
-      left : Goes l₀ l₁ m.total kept.total (emitted c m.held (record_tokens l)) (emitted c kept.held (value_tokens value))
-      left = tokens_put c m (record_tokens l) start (separator rank 0 ∷ []) (value_tokens value) parts p
+    module _ {l₁ : List ℕ} {kept : Measure} (p : Puts holds c l₀ m (separator rank 0 ∷ []) l₁ kept) where
+      left : Going holds room l₀ l₁ m.total kept.total (emitted c m.held (record_tokens l)) (emitted c kept.held (value_tokens value))
+      left = tokens_put laws c m (record_tokens l) start (separator rank 0 ∷ []) (value_tokens value) parts p
 
-      pub value_fits : Fits c l₁ kept (value_tokens value)
+      pub value_fits : Fits room c l₁ kept (value_tokens value)
       value_fits = left.fits
 
-      pub record_put : {l₂ : List ℕ} {n : Measure} → Puts c l₁ kept (value_tokens value) l₂ n → Puts c l₀ m (record_tokens l) l₂ n
+      pub record_put : {l₂ : List ℕ} {n : Measure} → Puts holds c l₁ kept (value_tokens value) l₂ n → Puts holds c l₀ m (record_tokens l) l₂ n
       record_put {n = n} q =
-          (all_put_lem c n [] (tokens_put c kept (value_tokens value) left (value_tokens value) [] (sym (append-nil (value_tokens value))) q) refl, record_passed m l r v p.1 q.1)
+          (all_put_lem laws c n [] (tokens_put laws c kept (value_tokens value) left (value_tokens value) [] (sym (append-nil (value_tokens value))) q) refl, record_passed m l r v p.1 q.1)
 
   -- it leaves at most one separator more held back
   value_holds : (h : Held) (value : Bytes) → waiting (held_after h (value_tokens value)) ≤ waiting h

@@ -4,3 +4,4 @@ pub mod Lengths
 pub mod Advancing
 pub mod Standing
 pub mod Rows
+pub mod Putting

@@ -13,7 +13,7 @@ use Rattle.emission_laws.specs.declared.Measure.{Measure}
 use Rattle.emission_laws.specs.Emission.{nothing, waiting, let_out, held_next, spelled_next, emitted, after}
 use Rattle.emission_laws.proofs.Cases.{by_spelling}
 use Rattle.emission_laws.proofs.Steps.{goes_on}
-use Rattle.held_separators.specs.Putting.{value_tokens}
+use Rattle.held_separators.specs.Putting.{value_byte, value_tokens}
 use Rattle.operations.specs.ValueList.{Item, rank_of, entries, value_in, listed_in}
 use Rattle.value_lists.specs.declared.Record.{Record}
 use Rattle.value_lists.specs.Records.{entry_of, record_at, well_listed}
@@ -45,6 +45,10 @@ record_least c m l =
     let front : List ℕ = spelled_next c m.held mark in
     let rest : List ℕ = emitted c (held_next m.held mark) (value_tokens l.value) in
     omega (arith, length-append front rest, value_least c (held_next m.held mark) l.value)
+
+-- a record is a token more than its value has bytes
+pub record_length : (l : Item) → length (record_tokens l) ≡ 1 + length l.value
+record_length l = omega (arith, length-map l.value value_byte)
 
 -- the tokens of a row that begins with a record
 pub row_next : {items : List Item} (l : Item) (ls : List Item) → items ≡ l ∷ ls → list_tokens items ≡ record_tokens l ++ list_tokens ls

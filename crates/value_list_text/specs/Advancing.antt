@@ -1,7 +1,6 @@
 -- Records passed one after the other, where what is held back may differ by what the next separator of an element or a segment drops.
 -- Assumes nothing.
 use Rattle.std.specs.Prelude.{ℕ, ◌+◌, ◌≤◌, ◌<◌, ◌≡◌, List, length}
-use Rattle.std.proofs.lemmas.List.Edits.{sets}
 use Rattle.lists.specs.Lists.{gather}
 use Rattle.characters.specs.declared.Characters.{Characters}
 use Rattle.values.specs.Tokens.{Token}
@@ -26,8 +25,9 @@ pub record Advanced (c : Characters) (m : Measure) (items : List Item) (r : Meas
   pub over : most_bytes < r.total → most_bytes < (after c m (records_tokens items)).total
   pub few : r.total ≤ most_bytes → waiting r.held ≤ waiting m.held + length items
 
--- Records stored where the text ends, and the measure past them.
-pub record Appended (c : Characters) (buffer : List ℕ) (m : Measure) (items : List Item) (after_store : List ℕ) (r : Measure) : Type 0 where
-  pub stored : after_store ≡ sets buffer m.total (emitted c m.held (records_tokens items))
+-- Records put where the text ends, and the measure past them.
+pub record Appended (holds : List ℕ → ℕ → List ℕ → List ℕ) (c : Characters) (buffer : List ℕ) (m : Measure) (items : List Item) (put : List ℕ) (r : Measure)
+    : Type 0 where
+  pub stored : put ≡ holds buffer m.total (emitted c m.held (records_tokens items))
   pub known : Alike r (after c m (records_tokens items))
   pub few : waiting r.held ≤ waiting m.held + length items

@@ -1,5 +1,5 @@
 -- The text of a value list: an advice, and what its records emit as tokens, from left to right. Assumes nothing.
-use Rattle.std.specs.Prelude.{ℕ, ◌≤◌, ◌≡◌, true, List, [], ◌∷◌, ◌++◌, ltb, length, if◌then◌else◌}
+use Rattle.std.specs.Prelude.{ℕ, ◌≤◌, ◌≡◌, min, true, List, [], ◌∷◌, ◌++◌, ltb, length, if◌then◌else◌}
 use Rattle.lists.specs.Lists.{text}
 use Rattle.characters.specs.declared.Characters.{Characters}
 use Rattle.values.specs.Tokens.{Token, separator}
@@ -49,3 +49,12 @@ pub record Storable (c : Characters) (bytes table buffer : List ℕ) : Type 0 wh
   pub numbers : length table ≤ most_numbers
   pub short : length (composed_text c (listed_in bytes table)) ≤ most_bytes
   pub room : length (composed_text c (listed_in bytes table)) ≤ length buffer
+
+-- there is room for a text, as far as a place in it fits 64 bits
+abbrev pub HasRoom : (room : List ℕ → ℕ) → List ℕ → List ℕ → Type 0
+HasRoom room composed buffer = min (length composed) 18446744073709551615 ≤ room buffer
+
+-- What is put of records behind an advice, and the length of the text: one over 32,000 bytes may be put in part.
+pub record Composes (holds : List ℕ → ℕ → List ℕ → List ℕ) (c : Characters) (items : List Item) (buffer put : List ℕ) (n : ℕ) : Type 0 where
+  pub measured : n ≡ capped (length (composed_text c items))
+  pub whole : length (composed_text c items) ≤ most_bytes → put ≡ holds buffer 8 (emitted c nothing (list_tokens items))

@@ -1,7 +1,7 @@
 -- Laws of a table's records: three numbers are the next one, the first that fails answers, and what holds of a good list.
 -- Assumes nothing.
 use Rattle.std.specs.Prelude.{if◌then◌else◌}
-use Rattle.std.proofs.Common.{◌≡◌, ℕ, suc, ◌+◌, ◌%◌, ◌<◌, ◌≤◌, Bool, true, false, not, ◌&&◌, ◌||◌, eqb, ltb, List, [], ◌∷◌, ◌++◌, length, get_or, drop, sym, refl, ap, ◌∙◌, ap₂, add-one, arith, length-drop, ltb-false, le-ltb, lt-ltb, eq-eqb, ne_eqb}
+use Rattle.std.proofs.Common.{◌≡◌, ℕ, suc, ◌+◌, ◌*◌, ◌%◌, ◌<◌, ◌≤◌, Bool, true, false, not, ◌&&◌, ◌||◌, eqb, ltb, List, [], ◌∷◌, ◌++◌, length, get_or, drop, sym, refl, ap, subst, ◌∙◌, ap₂, add-one, arith, length-drop, ltb-false, le-ltb, lt-ltb, eq-eqb, ne_eqb}
 use mathlib.Core.Option.{none, some, some-ne-none}
 use borrow.Author.Tests.{not-true}
 use Rattle.lists.specs.Lists.{all, any, at, maybe}
@@ -238,39 +238,37 @@ module _ (bytes : List ℕ) where
 
 -- ---- record by record
 
--- The records of a good list before a place of the table pass.
-pub record Asked (f : Fault) (fails : Entry → Bool) (bytes table : List ℕ) (at n : ℕ) : Type 0 where
-  pub moved : first_record f fails 0 (entries table) ≡ first_record f fails n (entries (drop at table))
-  pub good : well_listed bytes (drop at table) ≡ true
-  pub inside : at ≤ length table
-  pub few : n ≤ at
+-- The records of a good list before number n pass.
+pub record Asked (f : Fault) (fails : Entry → Bool) (bytes table : List ℕ) (n : ℕ) : Type 0 where
+  pub moved : first_record f fails 0 (entries table) ≡ first_record f fails n (entries (drop (3 * n) table))
+  pub good : well_listed bytes (drop (3 * n) table) ≡ true
 
 module _ (f : Fault) (fails : Entry → Bool) (bytes table : List ℕ) where
-  pub asked_start : well_listed bytes table ≡ true → Asked f fails bytes table 0 0
-  asked_start w = record { moved = refl; good = w; inside = omega arith; few = omega arith }
+  pub asked_start : well_listed bytes table ≡ true → Asked f fails bytes table 0
+  asked_start w = record { moved = refl; good = w }
 
-  module _ (at n : ℕ) (g : Asked f fails bytes table at n) where
+  module _ (n : ℕ) (g : Asked f fails bytes table n) where
     -- a record is read
-    module _ {e : Entry} (h : at + 3 ≤ length table) (d : e ≡ record_at table at) where
-      next : entries (drop at table) ≡ e ∷ entries (drop (at + 3) table)
-      next = read_next table at h d
+    module _ {e : Entry} (h : 3 * n + 3 ≤ length table) (d : e ≡ record_at table (3 * n)) where
+      next : entries (drop (3 * n) table) ≡ e ∷ entries (drop (3 * n + 3) table)
+      next = read_next table (3 * n) h d
 
       pub asked_value : e.start + e.size ≤ length bytes
-      asked_value = good_value bytes (drop at table) (drop (at + 3) table) next g.good
+      asked_value = good_value bytes (drop (3 * n) table) (drop (3 * n + 3) table) next g.good
 
       pub asked_fails : fails e ≡ true → first_record f fails 0 (entries table) ≡ refuse f n
       asked_fails t = g.moved ∙ first_fails f fails n next t
 
-      pub asked_passes : fails e ≡ false → Asked f fails bytes table (at + 3) (n + 1)
-      asked_passes t = record {
-        moved = g.moved ∙ first_passes f fails n next t;
-        good = good_rest bytes (drop at table) (drop (at + 3) table) next g.good;
-        inside = h;
-        few = omega (arith, g.few);
-      }
+      pub asked_passes : fails e ≡ false → Asked f fails bytes table (n + 1)
+      asked_passes t =
+          let on : 3 * n + 3 ≡ 3 * (n + 1) = omega arith in record {
+            moved = g.moved ∙ first_passes f fails n next t ∙ ap (λ (k : ℕ). first_record f fails (n + 1) (entries (drop k table))) on;
+            good = subst (λ (k : ℕ). well_listed bytes (drop k table) ≡ true) on
+                (good_rest bytes (drop (3 * n) table) (drop (3 * n + 3) table) next g.good);
+          }
 
-    pub asked_end : length table ≤ at + 2 → first_record f fails 0 (entries table) ≡ none
-    asked_end h = g.moved ∙ first_none f fails n (records_end table at h)
+    pub asked_end : length table ≤ 3 * n + 2 → first_record f fails 0 (entries table) ≡ none
+    asked_end h = g.moved ∙ first_none f fails n (records_end table (3 * n) h)
 
 -- ---- 16
 

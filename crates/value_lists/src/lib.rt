@@ -3,25 +3,27 @@
 // of the lowest record which fails. What is written of a list that passes is left to others.
 #![tactic(auto)]
 
-ghost use Rattle.std.specs.Prelude.{◌≡◌, ◌+◌, ◌≤◌, true, length};
-ghost use Rattle.lists.specs.Lists.{any};
+ghost use Rattle.std.specs.Prelude.{◌≡◌, ◌+◌, ◌≤◌, Bool, true, length};
+ghost use Rattle.std.specs.List.{list_any};
 ghost use Rattle.characters.specs.Characters.{is_service};
 ghost use Rattle.refusals.specs.declared.Fault.TheVariants.{BadList, NeedsRelease};
 ghost use Rattle.refusals.specs.Refusals.{met, lowest, outcome};
 ghost use Rattle.values.specs.Spelling.{leads_break};
 ghost use Rattle.operations.specs.ValueList.{entries, value_in};
 ghost use Rattle.operations.specs.Write.{numbers_where, bad_entry, bad_list, lacks_release, lacks_repetition, cannot_stand};
+ghost use Rattle.value_lists.specs.declared.Record.{Record};
 ghost use Rattle.service_places.specs.Places.{Noted};
 ghost use Rattle.value_lists.specs.Records.{entry_of, record_at, first_record, well_listed};
 
 use characters::Characters;
 use line_breaks::is_break;
-use refusals::{Fault, Outcome};
+use refusals::{Fault, Refusal};
 use refusing::failed;
 
 // ---- records
 
-// Three numbers of a table: the kind, the start and the length of a value.
+// Three numbers of a table: the kind, the start and the length of a value. The kind is a number, of which a caller in C may
+// lend any: refusal 15 tells those above 3.
 #[derive(Clone, Copy)]
 pub struct Record {
     pub kind: u32,
@@ -57,84 +59,56 @@ pub fn value_of(bytes: &[u8], r: Record) -> &[u8]
 fn leads_break(value: &[u8]) -> bool
     ensures { result ≡ leads_break value.now }
 {
-    if value.len() == 0 {
-        return false;
-    }
-    is_break(value[0])
+    !value.is_empty() && is_break(value[0])
 }
 
 // The kind is above 3, or the value does not end within the bytes, or it begins a segment with a break.
 fn is_bad(bytes: &[u8], r: Record) -> bool
     ensures { result ≡ bad_entry bytes.now (entry_of r) }
 {
-    if 3 < r.kind {
-        return true;
-    }
-    if bytes.len() < r.start as usize + r.size as usize {
-        return true;
-    }
-    if r.kind != 0 {
-        return false;
-    }
-    leads_break(value_of(bytes, r))
+    r.kind > 3
+        || bytes.len() < r.start as usize + r.size as usize
+        || (r.kind == 0 && leads_break(value_of(bytes, r)))
 }
 
-fn check_records(bytes: &[u8], table: &[u32]) -> Outcome
+fn check_records(bytes: &[u8], table: &[u32]) -> Result<(), Refusal>
     ensures { result ≡ outcome (first_record BadList (bad_entry bytes.now) 0 (entries table.now)) }
 {
-    let mut at = 0;
-    let mut n = 0;
-    while 2 < table.len() - at {
-        if is_bad(bytes, record_at(table, at)) {
+    for n in 0..table.len() / 3 {
+        if is_bad(bytes, record_at(table, 3 * n)) {
             return failed(Fault::BadList, n);
         }
-        at += 3;
-        n += 1;
     }
-    Outcome::Passed
+    Ok(())
 }
 
-// What refusal 15 answers.
-pub fn check_list(bytes: &[u8], table: &[u32]) -> Outcome
+// What refusal 15 answers. (A struct of the two slices was tried, here and below: an `ensures` would have to name each part as
+// `list.entry.bytes.now`, so that the contracts were no plainer.)
+pub fn check_list(bytes: &[u8], table: &[u32]) -> Result<(), Refusal>
     ensures { result ≡ outcome (lowest (met BadList (bad_list bytes.now table.now))) }
 {
-    if refusals::MOST_NUMBERS < table.len() {
+    if refusals::MOST_NUMBERS < table.len() || table.len() % 3 != 0 {
         return failed(Fault::BadList, 0);
     }
-    if table.len() % 3 != 0 {
-        return failed(Fault::BadList, 0);
+    match table.first() {
+        None => Ok(()),
+        Some(0) => check_records(bytes, table),
+        Some(_) => failed(Fault::BadList, 0),
     }
-    if table.len() == 0 {
-        return Outcome::Passed;
-    }
-    if table[0] != 0 {
-        return failed(Fault::BadList, 0);
-    }
-    check_records(bytes, table)
 }
 
 // ---- 16
 
 fn holds_service(c: Characters, value: &[u8]) -> bool
-    ensures { result ≡ any (is_service c) value.now }
+    ensures { result ≡ list_any (is_service c) value.now }
 {
-    let mut i = 0;
-    while i < value.len() {
-        if storing::is_service(c, value[i]) {
-            return true;
-        }
-        i += 1;
-    }
-    false
+    value.iter().any(|b| storing::is_service(c, *b))
 }
 
 pub fn lacks_release(c: Characters, value: &[u8]) -> bool
     ensures { result ≡ lacks_release c value.now }
 {
-    if c.release != b' ' {
-        return false;
-    }
-    holds_service(c, value)
+    c.release == b' ' && holds_service(c, value)
 }
 
 // The record begins a repeat, and nothing separates repeats.
@@ -151,21 +125,24 @@ fn cannot_stand(c: Characters, bytes: &[u8], r: Record) -> bool
     lacks_release(c, value_of(bytes, r)) | lacks_repetition(c, r.kind)
 }
 
-// Each record and each byte of its value is asked.
-fn check_each(c: Characters, bytes: &[u8], table: &[u32]) -> Outcome
-    requires { well_listed bytes.now table.now ≡ true }
+// The first record of which the test says that it cannot stand.
+fn check_each<F: Fn(Characters, &[u8], Record) -> bool>(
+    c: Characters,
+    bytes: &[u8],
+    table: &[u32],
+    fails: F,
+) -> Result<(), Refusal>
+    requires good { well_listed bytes.now table.now ≡ true }
+    requires callable { (r : Record) → r.start + r.size ≤ length bytes.now → F.pre fails c bytes r }
+    requires tests { (r : Record) (t : Bool) → F.post fails c bytes r t → t ≡ cannot_stand c bytes.now (entry_of r) }
     ensures { result ≡ outcome (first_record NeedsRelease (cannot_stand c bytes.now) 0 (entries table.now)) }
 {
-    let mut at = 0;
-    let mut n = 0;
-    while 2 < table.len() - at {
-        if cannot_stand(c, bytes, record_at(table, at)) {
+    for n in 0..table.len() / 3 {
+        if fails(c, bytes, record_at(table, 3 * n)) {
             return failed(Fault::NeedsRelease, n);
         }
-        at += 3;
-        n += 1;
     }
-    Outcome::Passed
+    Ok(())
 }
 
 // The same test where there is no release character, by the places of the service characters.
@@ -184,60 +161,35 @@ fn cannot_stand_there(
     service_places::holds_between(c, bytes, size, places, start, end) | lacks_repetition(c, r.kind)
 }
 
-fn check_there(
-    c: Characters,
-    bytes: &[u8],
-    table: &[u32],
-    size: usize,
-    places: &[usize; service_places::BLOCKS],
-) -> Outcome
-    requires { (c.release ≡ 32) × (well_listed bytes.now table.now ≡ true) × Noted (is_service c) bytes.now size places.now }
-    ensures { result ≡ outcome (first_record NeedsRelease (cannot_stand c bytes.now) 0 (entries table.now)) }
-{
-    let mut at = 0;
-    let mut n = 0;
-    while 2 < table.len() - at {
-        if cannot_stand_there(c, bytes, size, places, record_at(table, at)) {
-            return failed(Fault::NeedsRelease, n);
-        }
-        at += 3;
-        n += 1;
-    }
-    Outcome::Passed
-}
-
 // The places of the service characters are stored first, so that a record costs a few steps however long its value is.
-fn check_by_places(c: Characters, bytes: &[u8], table: &[u32]) -> Outcome
+fn check_by_places(c: Characters, bytes: &[u8], table: &[u32]) -> Result<(), Refusal>
     requires { (c.release ≡ 32) × (well_listed bytes.now table.now ≡ true) }
     ensures { result ≡ outcome (first_record NeedsRelease (cannot_stand c bytes.now) 0 (entries table.now)) }
 {
     let mut places = [0usize; service_places::BLOCKS];
     let size = service_places::store_places(c, bytes, &mut places);
-    check_there(c, bytes, table, size, &places)
+    check_each(c, bytes, table, |c, bytes, r| {
+        cannot_stand_there(c, bytes, size, &places, r)
+    })
 }
 
 // The lengths of all records are above four times the number of bytes: many values overlap. Any answer
 // is right, also where a sum wraps; this one says which way is the shorter.
 fn overlaps(bytes: &[u8], table: &[u32]) -> bool {
     let mut sum: u64 = 0;
-    let mut at = 0;
-    while 2 < table.len() - at {
-        sum = std::num::wrapping_add_u64(sum, table[at + 2] as u64);
-        at += 3;
+    for k in 0..table.len() / 3 {
+        sum = sum.wrapping_add(u64::from(table[3 * k + 2]));
     }
     bytes.len() < (sum / 4) as usize
 }
 
 // What refusal 16 answers, for a list that refusal 15 does not refuse.
-pub fn check_release(c: Characters, bytes: &[u8], table: &[u32]) -> Outcome
+pub fn check_release(c: Characters, bytes: &[u8], table: &[u32]) -> Result<(), Refusal>
     requires { well_listed bytes.now table.now ≡ true }
     ensures { result ≡ outcome (lowest (met NeedsRelease (numbers_where (cannot_stand c bytes.now) 0 (entries table.now)))) }
 {
-    if c.release != b' ' {
-        return check_each(c, bytes, table);
-    }
-    if overlaps(bytes, table) {
+    if c.release == b' ' && overlaps(bytes, table) {
         return check_by_places(c, bytes, table);
     }
-    check_each(c, bytes, table)
+    check_each(c, bytes, table, cannot_stand)
 }

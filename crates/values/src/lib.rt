@@ -3,3 +3,10 @@
 // list of segments. An element of the older versions is one repeat.
 // The definitions are in specs/. Which segments are allowed is left to `segments`.
 #![tactic(auto)]
+
+// A part of lent bytes: where it begins, and how long it is.
+#[derive(Clone, Copy)]
+pub struct Span {
+    pub offset: usize,
+    pub length: usize,
+}

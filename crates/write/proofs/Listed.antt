@@ -1,5 +1,7 @@
 -- Write of records, wherever their values stand: what is asked, measured and stored of them answers as Write does for the bytes and the table
 -- of their list. Assumes nothing.
+use Rattle.answers.specs.Answers.{Stored}
+use Rattle.std.specs.Prelude.{Ok, Err}
 use Prim.Native.Nat.{ℕ, ◌≤◌, ◌<◌}
 use mathlib.Core.Path.{◌≡◌, sym, ap, ◌∙◌}
 use mathlib.Core.Bool.{true}
@@ -12,13 +14,10 @@ use Rattle.characters.specs.declared.Characters.{Characters}
 use Rattle.characters.specs.Characters.{six_bytes, usable}
 use Rattle.refusals.specs.declared.Fault.TheVariants.{TooLong, BufferShort, BadList, NeedsRelease}
 use Rattle.refusals.specs.declared.Refusal.{Refusal}
-use Rattle.refusals.specs.declared.Outcome.{Outcome}
-use Rattle.refusals.specs.declared.Outcome.TheVariants as outcome_as
-use Rattle.refusals.specs.Refusals.{met, lowest, or_else, outcome}
+use Rattle.refusals.specs.Refusals.{met, lowest, or_else, outcome, Outcome}
 use Rattle.refusals.specs.Limits.{most_bytes}
 use Rattle.refusals.proofs.Stages.{failed_is, passed_is}
 use Rattle.stages.specs.Stages.{refusal_of}
-use Rattle.answers.specs.declared.Stored.{Stored}
 use Rattle.operations.specs.ValueList.{Item, list_bytes, list_table, listed_in}
 use Rattle.operations.specs.Write.{bad_list, needs_release}
 use Rattle.trimming_laws.proofs.Tables.{listed_table, list_table_length}
@@ -68,11 +67,11 @@ module _ (service : List ℕ) (items : List Item) (output : List ℕ) where
           release_asked service bytes table output six
           (e ∙ ap outcome (sym (table_bare c bytes table ∙ ap (first_bare c 0) (listed_table items))))
 
-      pub bare_refused : {q : Refusal} → o ≡ outcome_as.Failed q → {r : Stored} {after : List ℕ} → Refuses q output r after → After 2 r after
+      pub bare_refused : {q : Refusal} → o ≡ Err q → {r : Stored} {after : List ℕ} → Refuses q output r after → After 2 r after
       unfolding or_else
       bare_refused d w = refuses service bytes table output 2 (release_answers service bytes table output (failed_is _ _ (sym asked ∙ d))) w
 
-      pub bare_passed : o ≡ outcome_as.Passed → {r : Stored} {after : List ℕ} → After 3 r after → After 2 r after
+      pub bare_passed : o ≡ Ok tt → {r : Stored} {after : List ℕ} → After 3 r after → After 2 r after
       unfolding or_else
       bare_passed d w = passes service bytes table output 2 3 (release_answers service bytes table output (passed_is _ (sym asked ∙ d))) w
 

@@ -1,6 +1,6 @@
 -- One stage of Write after the other, and what the output is left with. Assumes nothing.
-use Rattle.std.specs.Prelude.{if◌then◌else◌}
-use Prim.Native.Nat.{ℕ, ◌+◌, ◌%◌, ◌≤◌, ◌<◌}
+use Rattle.std.specs.Prelude.{if◌then◌else◌, Ok, Err}
+use Prim.Native.Nat.{ℕ, ◌%◌, ◌≤◌, ◌<◌}
 use mathlib.Core.Path.{◌≡◌, refl, sym, ap, ap₂, subst, ◌∙◌}
 use mathlib.Core.Bool.{Bool, true, false, not, ◌&&◌, ◌||◌}
 use mathlib.Core.List.{List, [], ◌∷◌, ◌++◌, append-nil}
@@ -16,8 +16,7 @@ use Rattle.characters.specs.declared.Characters.{Characters}
 use Rattle.characters.specs.Characters.{six_bytes, usable, bad_advice}
 use Rattle.refusals.specs.declared.Fault.TheVariants.{TooLong, UnusableAdvice, BufferShort, BadList, NeedsRelease}
 use Rattle.refusals.specs.declared.Refusal.{Refusal}
-use Rattle.refusals.specs.declared.Outcome.{Outcome}
-use Rattle.refusals.specs.Refusals.{met, lowest, or_else, answering, outcome}
+use Rattle.refusals.specs.Refusals.{met, lowest, or_else, answering, outcome, Outcome}
 use Rattle.refusals.proofs.Stages.{place_none, one_place, answering_first}
 use Rattle.stage_walks.specs.Walks.{refuse}
 use Rattle.stages.specs.Contents.{interchange}
@@ -27,11 +26,7 @@ use Rattle.stages.proofs.Over.{within}
 use Rattle.stages.proofs.Stages.{later_answers}
 use Rattle.values.specs.Spelling.{spell}
 use Rattle.answers.specs.declared.Figures.{Figures}
-use Rattle.answers.specs.declared.Judged.{Judged}
-use Rattle.answers.specs.declared.Judged.TheVariants as judged_as
-use Rattle.answers.specs.declared.Stored.{Stored}
-use Rattle.answers.specs.declared.Stored.TheVariants.{Length, Refused}
-use Rattle.answers.specs.Answers.{given, refused, told_stored}
+use Rattle.answers.specs.Answers.{given, refused, told_stored, Stored, Judged}
 use Rattle.operations.specs.Judge.{short_for, stored_in, unless_refused}
 use Rattle.operations.specs.ValueList.{Entry, entries, listed_in, segments_listed, trim_list}
 use Rattle.operations.specs.Write.{numbers_where, bad_table, bad_list, unusable_bytes, cannot_stand, needs_release, written_text, write_stages, write_refusal, write, write_output}
@@ -64,7 +59,7 @@ all_zero l =
 
 -- a refusal that answers, and an output that is left zero
 pub refused_written : {o : Option Refusal} (size : ℕ) (text before : List ℕ) {r : Refusal} {s : Stored} {after : List ℕ} → o ≡ some r
-    → s ≡ Refused r → after ≡ replicate (length before) 0 → Written o size text before s after
+    → s ≡ Err r → after ≡ replicate (length before) 0 → Written o size text before s after
 unfolding told_stored maybe unless_refused
 refused_written size text before e d z =
     record {
@@ -101,12 +96,12 @@ list_passed bytes table h = step (bad_table table) refl
 
 module _ (s : List ℕ) (n : ℕ) (kept before : List ℕ) {j : Judged} (e : Judges s j) where
   -- Judge refuses
-  pub judged_refused : {q : Refusal} {r : Stored} {after : List ℕ} → j ≡ judged_as.Refused q → r ≡ Refused q
+  pub judged_refused : {q : Refusal} {r : Stored} {after : List ℕ} → j ≡ Err q → r ≡ Err q
       → after ≡ replicate (length before) 0 → Written (refusal_of s) n kept before r after
   judged_refused d t z = refused_written n kept before (told_refused s e d) t z
 
   -- Judge accepts
-  pub judged_accepted : {i : Figures} → j ≡ judged_as.Accepted i → Written (refusal_of s) n kept before (Length n) kept
+  pub judged_accepted : {i : Figures} → j ≡ Ok i → Written (refusal_of s) n kept before (Ok n) kept
   unfolding told_stored maybe unless_refused
   judged_accepted d =
       let passed = (told_accepted s e d).0 in

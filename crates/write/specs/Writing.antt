@@ -1,13 +1,11 @@
 -- "Writer: 15, 2, 16, 1, 14, then 3 to 13 as Judge would answer for the text": what is answered from each stage on, and what an answer
 -- leaves in the output. Assumes nothing.
-use Rattle.std.specs.Prelude.{ℕ, ◌≤◌, ◌≡◌, true, List, [], ◌∷◌, length, drop, replicate}
+use Rattle.std.specs.Prelude.{ℕ, ◌≤◌, ◌≡◌, true, List, [], ◌∷◌, length, drop, replicate, Err}
 use Rattle.std.proofs.Math.Option.{Option}
 use Rattle.lists.specs.Lists.{maybe}
 use Rattle.refusals.specs.declared.Refusal.{Refusal}
 use Rattle.refusals.specs.Refusals.{answering}
-use Rattle.answers.specs.declared.Stored.{Stored}
-use Rattle.answers.specs.declared.Stored.TheVariants.{Refused}
-use Rattle.answers.specs.Answers.{given, refused, told_stored}
+use Rattle.answers.specs.Answers.{given, refused, told_stored, Stored}
 use Rattle.operations.specs.Judge.{stored_in, unless_refused}
 use Rattle.operations.specs.ValueList.{listed_in}
 use Rattle.operations.specs.Write.{written_text, write_stages}
@@ -22,7 +20,7 @@ pub record Written (o : Option Refusal) (size : ℕ) (text before : List ℕ) (r
 
 -- a refusal, and an output that is left zero
 abbrev pub Refuses : Refusal → (output : List ℕ) → Stored → (after : List ℕ) → Type 0
-Refuses q output r after = (r ≡ Refused q) × (after ≡ replicate (length output) 0)
+Refuses q output r after = (r ≡ Err q) × (after ≡ replicate (length output) 0)
 
 -- what Write answers and leaves where so many of its stages are passed
 abbrev pub WritesAfter : ℕ → (service bytes table output : List ℕ) → Stored → (after : List ℕ) → Type 0

@@ -9,27 +9,33 @@ ghost use Rattle.stages.specs.Stages.{refusal_of};
 ghost use Rattle.contracts.specs.Promises.{Writes};
 ghost use Rattle.write.specs.Writing.{Written, Refuses, WritesAfter, Passed};
 
-use answers::{Judged, Stored};
 use characters::Characters;
-use refusals::{Fault, Outcome, Refusal};
+use refusals::{Fault, Refusal};
 
 // Leaves the whole output zero, "so that no half text is sent".
-pub fn refuse(output: &mut [u8], r: Refusal) -> Stored
+pub fn refuse(output: &mut [u8], r: Refusal) -> Result<usize, Refusal>
     ensures { Refuses r output.old result output.new }
 {
     let n = output.len();
     storing::fill(output, 0, n, 0);
-    Stored::Refused(r)
+    Err(r)
+}
+
+// The same, by a fault and the place at which it is met.
+pub fn refuse_at(output: &mut [u8], fault: Fault, place: usize) -> Result<usize, Refusal>
+    ensures { Refuses (record { fault = fault; place = place }) output.old result output.new }
+{
+    refuse(output, Refusal { fault, place })
 }
 
 // 3 to 13, as Judge answers for the text that stands in front.
-pub fn write_judged(output: &mut [u8], n: usize) -> Stored
+pub fn write_judged(output: &mut [u8], n: usize) -> Result<usize, Refusal>
     requires { n ≤ length output.old }
     ensures { Written (refusal_of (take n output.old)) n output.old output.old result output.new }
 {
     match judge::judge(&output[..n]) {
-        Judged::Refused(r) => refuse(output, r),
-        Judged::Accepted(_) => Stored::Length(n),
+        Err(r) => refuse(output, r),
+        Ok(_) => Ok(n),
     }
 }
 
@@ -40,28 +46,16 @@ fn write_text(
     bytes: &[u8],
     table: &[u32],
     output: &mut [u8],
-) -> Stored
+) -> Result<usize, Refusal>
     requires { (c ≡ six_bytes service.now) × (usable c ≡ true) × Passed bytes.now table.now }
     ensures { WritesAfter 3 service.now bytes.now table.now output.old result output.new }
 {
     let n = value_list_text::text_length(c, bytes, table);
     if refusals::MOST_BYTES < n {
-        return refuse(
-            output,
-            Refusal {
-                fault: Fault::TooLong,
-                place: 0,
-            },
-        );
+        return refuse_at(output, Fault::TooLong, 0);
     }
     if output.len() < n {
-        return refuse(
-            output,
-            Refusal {
-                fault: Fault::BufferShort,
-                place: n,
-            },
-        );
+        return refuse_at(output, Fault::BufferShort, n);
     }
     value_list_text::put_text(output, c, bytes, table);
     write_judged(output, n)
@@ -74,13 +68,13 @@ fn write_released(
     bytes: &[u8],
     table: &[u32],
     output: &mut [u8],
-) -> Stored
+) -> Result<usize, Refusal>
     requires { (c ≡ six_bytes service.now) × (usable c ≡ true) × Passed bytes.now table.now }
     ensures { WritesAfter 2 service.now bytes.now table.now output.old result output.new }
 {
     match value_lists::check_release(c, bytes, table) {
-        Outcome::Failed(r) => refuse(output, r),
-        Outcome::Passed => write_text(service, c, bytes, table, output),
+        Err(r) => refuse(output, r),
+        Ok(()) => write_text(service, c, bytes, table, output),
     }
 }
 
@@ -100,30 +94,36 @@ pub fn characters_of(service: &[u8]) -> Characters
 }
 
 // 2, and what follows it.
-fn write_listed(service: &[u8], bytes: &[u8], table: &[u32], output: &mut [u8]) -> Stored
+fn write_listed(
+    service: &[u8],
+    bytes: &[u8],
+    table: &[u32],
+    output: &mut [u8],
+) -> Result<usize, Refusal>
     requires { Passed bytes.now table.now }
     ensures { WritesAfter 1 service.now bytes.now table.now output.old result output.new }
 {
-    let unusable = Refusal {
-        fault: Fault::UnusableAdvice,
-        place: 0,
-    };
     if service.len() != 6 {
-        return refuse(output, unusable);
+        return refuse_at(output, Fault::UnusableAdvice, 0);
     }
     let c = characters_of(service);
     if stage_opening::is_usable(c) {
         return write_released(service, c, bytes, table, output);
     }
-    refuse(output, unusable)
+    refuse_at(output, Fault::UnusableAdvice, 0)
 }
 
 // Writes the interchange that the value list and the service bytes say: any slices.
-pub fn write(service: &[u8], bytes: &[u8], table: &[u32], output: &mut [u8]) -> Stored
+pub fn write(
+    service: &[u8],
+    bytes: &[u8],
+    table: &[u32],
+    output: &mut [u8],
+) -> Result<usize, Refusal>
     ensures { Writes service.now bytes.now table.now output.old result output.new }
 {
     match value_lists::check_list(bytes, table) {
-        Outcome::Failed(r) => refuse(output, r),
-        Outcome::Passed => write_listed(service, bytes, table, output),
+        Err(r) => refuse(output, r),
+        Ok(()) => write_listed(service, bytes, table, output),
     }
 }

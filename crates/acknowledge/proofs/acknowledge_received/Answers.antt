@@ -3,7 +3,7 @@
 use mathlib.Core.Path.{ap, ◌∙◌}
 use native.Mathlib.Omega.{arith}
 use Rattle.characters.specs.Characters.{usable}
-use Rattle.acknowledgement_parts.specs.Parts.{lent_by}
+use Rattle.acknowledgement_parts.specs.Parts.{lent_in}
 use Rattle.acknowledge.specs.Rows.{row}
 use Rattle.acknowledge.proofs.Taken.{form_is, form_usable}
 use Rattle.acknowledge.proofs.Listed.{all_ready, all_stand, row_is, row_sound}
@@ -14,24 +14,24 @@ pub record_count-requires : goal.record_count-requires
 record_count-requires c =
     let x = c.args in
     let known = c.requires in
-    let l = lent_by x.date.now x.datetable.now x.reference.now x.referencetable.now x.message.now x.messagetable.now in
+    let l = lent_in x.lent.now in
     all_ready x.s.now l x.r known.0 known.1 known.2
 
 pub returns-then-record_count-gt-MOST_BYTES : goal.returns-then-record_count-gt-MOST_BYTES
 returns-then-record_count-gt-MOST_BYTES c =
     let x = c.args in
     let known = c.requires in
-    let l = lent_by x.date.now x.datetable.now x.reference.now x.referencetable.now x.message.now x.messagetable.now in
+    let l = lent_in x.lent.now in
     let items = row x.s.now l x.r in
     let form = form_is x.s.now known.0 known.1.characters c.body_start.ensures c.normal_repetition-repetition.ensures c.normal_characters-c.ensures in
     as_written x.s.now l x.output.now form (row_is x.s.now l x.r known.0 known.1 known.2)
-    (many_answer c.normal_characters-c.result items x.output.now (omega (arith, c.record_count.ensures, c.if-record_count-gt-MOST_BYTES.true)) c.refuse.ensures)
+    (many_answer c.normal_characters-c.result items x.output.now (omega (arith, c.record_count.ensures, c.if-record_count-gt-MOST_BYTES.true)) c.refuse_at.ensures)
 
 pub check_parts-requires : goal.check_parts-requires
 check_parts-requires c =
     let x = c.args in
     let known = c.requires in
-    let l = lent_by x.date.now x.datetable.now x.reference.now x.referencetable.now x.message.now x.messagetable.now in
+    let l = lent_in x.lent.now in
     let form = form_is x.s.now known.0 known.1.characters c.body_start.ensures c.normal_repetition-repetition.ensures c.normal_characters-c.ensures in
     (all_ready x.s.now l x.r known.0 known.1 known.2, all_stand x.s.now l x.r known.0 known.1 form)
 
@@ -39,33 +39,33 @@ pub acknowledge_text-requires : goal.acknowledge_text-requires
 acknowledge_text-requires c =
     let x = c.args in
     let known = c.requires in
-    let l = lent_by x.date.now x.datetable.now x.reference.now x.referencetable.now x.message.now x.messagetable.now in
+    let l = lent_in x.lent.now in
     let items = row x.s.now l x.r in
     let form = form_is x.s.now known.0 known.1.characters c.body_start.ensures c.normal_repetition-repetition.ensures c.normal_characters-c.ensures in
     let fit = ap usable form ∙ form_usable x.s.now known.0 in
     let good = row_sound x.s.now l x.r known.0 known.1 known.2 (omega (arith, c.record_count.ensures, c.if-record_count-gt-MOST_BYTES.false)) in
     (all_ready x.s.now l x.r known.0 known.1 known.2, fit, all_passed c.normal_characters-c.result items x.output.now good fit)
 
-pub returns-in-Failed : goal.returns-in-Failed
-returns-in-Failed c =
+pub returns-in-Err : goal.returns-in-Err
+returns-in-Err c =
     let x = c.args in
     let known = c.requires in
-    let l = lent_by x.date.now x.datetable.now x.reference.now x.referencetable.now x.message.now x.messagetable.now in
+    let l = lent_in x.lent.now in
     let items = row x.s.now l x.r in
     let form = form_is x.s.now known.0 known.1.characters c.body_start.ensures c.normal_repetition-repetition.ensures c.normal_characters-c.ensures in
     let fit = ap usable form ∙ form_usable x.s.now known.0 in
     let good = row_sound x.s.now l x.r known.0 known.1 known.2 (omega (arith, c.record_count.ensures, c.if-record_count-gt-MOST_BYTES.false)) in
     as_written x.s.now l x.output.now form (row_is x.s.now l x.r known.0 known.1 known.2)
-    (bare_answers c.normal_characters-c.result items x.output.now good fit c.check_parts.ensures c.in-Failed.is c.refuse-in-Failed.ensures)
+    (bare_answers c.normal_characters-c.result items x.output.now good fit c.check_parts.ensures c.in-Err.is c.refuse.ensures)
 
-pub returns-in-Passed : goal.returns-in-Passed
-returns-in-Passed c =
+pub returns-in-Ok : goal.returns-in-Ok
+returns-in-Ok c =
     let x = c.args in
     let known = c.requires in
-    let l = lent_by x.date.now x.datetable.now x.reference.now x.referencetable.now x.message.now x.messagetable.now in
+    let l = lent_in x.lent.now in
     let items = row x.s.now l x.r in
     let form = form_is x.s.now known.0 known.1.characters c.body_start.ensures c.normal_repetition-repetition.ensures c.normal_characters-c.ensures in
     let fit = ap usable form ∙ form_usable x.s.now known.0 in
     let good = row_sound x.s.now l x.r known.0 known.1 known.2 (omega (arith, c.record_count.ensures, c.if-record_count-gt-MOST_BYTES.false)) in
     as_written x.s.now l x.output.now form (row_is x.s.now l x.r known.0 known.1 known.2)
-    (rest_answers c.normal_characters-c.result items x.output.now good fit c.check_parts.ensures c.in-Passed.is c.acknowledge_text.ensures)
+    (rest_answers c.normal_characters-c.result items x.output.now good fit c.check_parts.ensures c.in-Ok.is c.acknowledge_text.ensures)

@@ -1,61 +1,55 @@
--- `acknowledge::check_parts` meets its contract. The loop's invariant: the first record that cannot stand is the first of the parts from `i` on. The parts that are left fall. Assumes nothing.
+-- `acknowledge::check_parts` meets its contract. The loop's invariant: the first record that cannot stand is the first of the parts from `i` on. Assumes nothing.
 use mathlib.Core.Path.{refl, sym, ap, subst, ◌∙◌}
 use lib.ListN.{length}
 use native.Mathlib.Omega.{arith}
 use Rattle.acknowledgement_parts.specs.declared.Part.{Part}
-use Rattle.acknowledgement_parts.specs.Parts.{lent_by, part_items, Fine, Stands, first_bare}
+use Rattle.acknowledgement_parts.specs.Parts.{lent_in, part_items, Fine, Stands, first_bare}
 use Rattle.refusals.specs.Refusals.{outcome}
 use Rattle.acknowledge.proofs.Rows.{part_bare, part_stands, none_left}
 use Rattle.acknowledge.proofs.check_parts.Goals as goal
 
 pub loop-i-init : goal.loop-i-init
-loop-i-init c = (refl, omega arith, omega arith)
+loop-i-init c = (refl, omega arith)
 
 pub records_in-k-requires : goal.records_in-k-requires
 records_in-k-requires c =
     let x = c.args in
     let known = c.requires.0 in
-    (subst (λ (p : Part). Fine x.s.now x.r.characters (lent_by x.date.now x.datetable.now x.reference.now x.referencetable.now x.message.now x.messagetable.now) p) (sym c.part_at-part.ensures) (known.fine c.loop-i.i c.loop-i-test.true), known.short)
+    (subst (λ (p : Part). Fine x.s.now x.r.characters (lent_in x.lent.now) p) (sym c.part_at-part.ensures) (known.fine c.loop-i.i c.loop-i-test.true), known.short)
 
 pub check_part-requires : goal.check_part-requires
 check_part-requires c =
     let x = c.args in
     let known = c.requires in
-    (subst (λ (p : Part). Fine x.s.now x.r.characters (lent_by x.date.now x.datetable.now x.reference.now x.referencetable.now x.message.now x.messagetable.now) p) (sym c.part_at-part.ensures) (known.0.fine c.loop-i.i c.loop-i-test.true), subst (λ (p : Part). Stands x.c x.s.now x.r.characters p) (sym c.part_at-part.ensures) (known.1 c.loop-i.i c.loop-i-test.true))
+    (subst (λ (p : Part). Fine x.s.now x.r.characters (lent_in x.lent.now) p) (sym c.part_at-part.ensures) (known.0.fine c.loop-i.i c.loop-i-test.true), subst (λ (p : Part). Stands x.c x.s.now x.r.characters p) (sym c.part_at-part.ensures) (known.1 c.loop-i.i c.loop-i-test.true))
 
 pub overflow_add-n : goal.overflow_add-n
 overflow_add-n c =
     let x = c.args in
     let inv = c.loop-i.invariant in
-    let asked = c.check_part.ensures ∙ ap (λ (p : Part). outcome (first_bare x.c 0 (part_items x.s.now x.r.characters (lent_by x.date.now x.datetable.now x.reference.now x.referencetable.now x.message.now x.messagetable.now) p))) c.part_at-part.ensures in
-    let counted = c.records_in-k.ensures.0 ∙ ap (λ (p : Part). length (part_items x.s.now x.r.characters (lent_by x.date.now x.datetable.now x.reference.now x.referencetable.now x.message.now x.messagetable.now) p)) c.part_at-part.ensures in
-    omega (arith, inv.1, inv.2, counted, c.records_in-k.ensures.1, (part_bare x.c x.s.now (lent_by x.date.now x.datetable.now x.reference.now x.referencetable.now x.message.now x.messagetable.now) x.r c.loop-i.n c.loop-i.i c.loop-i-test.true inv.0 asked c.in-Failed.is).1)
+    let asked = c.check_part.ensures ∙ ap (λ (p : Part). outcome (first_bare x.c 0 (part_items x.s.now x.r.characters (lent_in x.lent.now) p))) c.part_at-part.ensures in
+    let counted = c.records_in-k.ensures.0 ∙ ap (λ (p : Part). length (part_items x.s.now x.r.characters (lent_in x.lent.now) p)) c.part_at-part.ensures in
+    omega (arith, inv.1, counted, c.records_in-k.ensures.1, (part_bare x.c x.s.now (lent_in x.lent.now) x.r c.loop-i.n c.loop-i.i c.loop-i-test.true inv.0 asked c.in-Err.is).1)
 
-pub returns-in-Failed : goal.returns-in-Failed
-returns-in-Failed c =
+pub returns-in-Err : goal.returns-in-Err
+returns-in-Err c =
     let x = c.args in
     let inv = c.loop-i.invariant in
-    let asked = c.check_part.ensures ∙ ap (λ (p : Part). outcome (first_bare x.c 0 (part_items x.s.now x.r.characters (lent_by x.date.now x.datetable.now x.reference.now x.referencetable.now x.message.now x.messagetable.now) p))) c.part_at-part.ensures in
-    c.failed.ensures ∙ (part_bare x.c x.s.now (lent_by x.date.now x.datetable.now x.reference.now x.referencetable.now x.message.now x.messagetable.now) x.r c.loop-i.n c.loop-i.i c.loop-i-test.true inv.0 asked c.in-Failed.is).0
+    let asked = c.check_part.ensures ∙ ap (λ (p : Part). outcome (first_bare x.c 0 (part_items x.s.now x.r.characters (lent_in x.lent.now) p))) c.part_at-part.ensures in
+    c.failed.ensures ∙ (part_bare x.c x.s.now (lent_in x.lent.now) x.r c.loop-i.n c.loop-i.i c.loop-i-test.true inv.0 asked c.in-Err.is).0
 
-pub overflow_add-n-in-Passed : goal.overflow_add-n-in-Passed
-overflow_add-n-in-Passed c = omega (arith, c.loop-i.invariant.1, c.loop-i.invariant.2, c.records_in-k.ensures.1)
-
-pub overflow_add-i : goal.overflow_add-i
-overflow_add-i c = omega (arith, c.loop-i.invariant.2)
-
-pub loop-i-smaller : goal.loop-i-smaller
-loop-i-smaller c = omega (arith, c.loop-i-test.true)
+pub overflow_add-n-in-Ok : goal.overflow_add-n-in-Ok
+overflow_add-n-in-Ok c = omega (arith, c.loop-i.invariant.1, c.records_in-k.ensures.1)
 
 pub loop-i-preserved : goal.loop-i-preserved
 loop-i-preserved c =
     let x = c.args in
     let inv = c.loop-i.invariant in
-    let asked = c.check_part.ensures ∙ ap (λ (p : Part). outcome (first_bare x.c 0 (part_items x.s.now x.r.characters (lent_by x.date.now x.datetable.now x.reference.now x.referencetable.now x.message.now x.messagetable.now) p))) c.part_at-part.ensures in
-    let counted = c.records_in-k.ensures.0 ∙ ap (λ (p : Part). length (part_items x.s.now x.r.characters (lent_by x.date.now x.datetable.now x.reference.now x.referencetable.now x.message.now x.messagetable.now) p)) c.part_at-part.ensures in
-    (part_stands x.c x.s.now (lent_by x.date.now x.datetable.now x.reference.now x.referencetable.now x.message.now x.messagetable.now) x.r c.loop-i.n c.loop-i.i c.loop-i-test.true inv.0 asked c.in-Passed.is counted, omega (arith, inv.1, c.records_in-k.ensures.1), omega (arith, c.loop-i-test.true))
+    let asked = c.check_part.ensures ∙ ap (λ (p : Part). outcome (first_bare x.c 0 (part_items x.s.now x.r.characters (lent_in x.lent.now) p))) c.part_at-part.ensures in
+    let counted = c.records_in-k.ensures.0 ∙ ap (λ (p : Part). length (part_items x.s.now x.r.characters (lent_in x.lent.now) p)) c.part_at-part.ensures in
+    (part_stands x.c x.s.now (lent_in x.lent.now) x.r c.loop-i.n c.loop-i.i c.loop-i-test.true inv.0 asked c.in-Ok.is counted, omega (arith, inv.1, c.records_in-k.ensures.1))
 
 pub returns : goal.returns
 returns c =
     let x = c.args in
-    none_left x.c x.s.now (lent_by x.date.now x.datetable.now x.reference.now x.referencetable.now x.message.now x.messagetable.now) x.r c.loop-i.n c.loop-i.i c.loop-i-test.false c.loop-i.invariant.0
+    none_left x.c x.s.now (lent_in x.lent.now) x.r c.loop-i.n c.loop-i.i c.loop-i-test.false c.loop-i.invariant.0

@@ -1,112 +1,90 @@
 -- `acknowledgement_parts::put_part` meets its contract: one case for each kind of part. Assumes nothing.
 use native.Mathlib.Omega.{arith}
 use Rattle.emission_laws.specs.Emission.{waiting}
-use Rattle.operations.specs.ValueList.{listed_in}
-use Rattle.value_list_text.specs.Advancing.{records_tokens}
-use Rattle.lent_elements.proofs.Records.{most_start}
-use Rattle.acknowledgement_parts.specs.Parts.{lent_by, part_items}
-use Rattle.acknowledgement_parts.proofs.Parts.{one_fits, one_appended, appended_length}
-use Rattle.acknowledgement_parts.proofs.Cases.{fine_as, few_as, short_as, fits_as, appended_as, leading_length}
+use Rattle.value_list_text.specs.Composing.{record_tokens, item_of}
+use Rattle.value_lists.specs.declared.Record.{Record}
+use Rattle.lent_elements.proofs.Records.{record_most}
+use Rattle.acknowledgement_parts.specs.Parts.{words, lent_in}
+use Rattle.acknowledgement_parts.proofs.Parts.{advances_by, room_for, one_reaches, one_appended}
+use Rattle.acknowledgement_parts.proofs.Cases.{fine_as, few_as, reaches_as, advances_as}
 use Rattle.acknowledgement_parts.proofs.put_part.Goals as goal
 
 pub put_record-requires : goal.put_record-requires
-put_record-requires c =
+put_record-requires g c =
     let x = c.args in
     let known = c.requires in
     let e = c.in-Word.is in
-    ((fine_as x.s.now x.d (lent_by x.date.now x.datetable.now x.reference.now x.referencetable.now x.message.now x.messagetable.now) e known.0).1, omega (arith, known.1, known.3, most_start x.c x.m (records_tokens (part_items x.s.now x.d (lent_by x.date.now x.datetable.now x.reference.now x.referencetable.now x.message.now x.messagetable.now) x.part))), one_fits x.c x.m _ x.buffer.now (fits_as x.s.now x.d (lent_by x.date.now x.datetable.now x.reference.now x.referencetable.now x.message.now x.messagetable.now) e x.c x.m x.buffer.now known.4))
+    let fine = fine_as x.s.now x.d (lent_in x.lent.now) e known.0 in
+    let word : Record = record { kind = c.in-Word.kind; start = c.in-Word.start; size = c.in-Word.size } in (
+      fine.1,
+      omega (arith, known.1, known.2),
+      room_for g.S.Sink.room x.c x.m (record_tokens (item_of words word)) x.buffer.now (one_reaches g.S.Sink.room x.c x.m (item_of words word) x.buffer.now (reaches_as x.s.now x.d (lent_in x.lent.now) e g.S.Sink.room x.c x.m x.buffer.now known.4))
+          (omega (arith, known.1, known.2, fine.1, record_most x.c x.m words word)),
+    )
 
 pub put_syntax-requires : goal.put_syntax-requires
-put_syntax-requires c =
+put_syntax-requires g c =
     let x = c.args in
     let known = c.requires in
-    (omega (arith, known.3, most_start x.c x.m (records_tokens (part_items x.s.now x.d (lent_by x.date.now x.datetable.now x.reference.now x.referencetable.now x.message.now x.messagetable.now) x.part))), omega (arith, known.1), known.2, fits_as x.s.now x.d (lent_by x.date.now x.datetable.now x.reference.now x.referencetable.now x.message.now x.messagetable.now) c.in-Syntax.is x.c x.m x.buffer.now known.4)
+    (known.1, omega (arith, known.2), known.3, reaches_as x.s.now x.d (lent_in x.lent.now) c.in-Syntax.is g.S.Sink.room x.c x.m x.buffer.now known.4)
 
 pub put_element-requires : goal.put_element-requires
-put_element-requires c =
+put_element-requires g c =
     let x = c.args in
     let known = c.requires in
     let e = c.in-Element.is in
-    (omega (arith, known.3, most_start x.c x.m (records_tokens (part_items x.s.now x.d (lent_by x.date.now x.datetable.now x.reference.now x.referencetable.now x.message.now x.messagetable.now) x.part))), omega (arith, known.1), known.2, fine_as x.s.now x.d (lent_by x.date.now x.datetable.now x.reference.now x.referencetable.now x.message.now x.messagetable.now) e known.0, fits_as x.s.now x.d (lent_by x.date.now x.datetable.now x.reference.now x.referencetable.now x.message.now x.messagetable.now) e x.c x.m x.buffer.now known.4)
+    (known.1, omega (arith, known.2), known.3, fine_as x.s.now x.d (lent_in x.lent.now) e known.0, reaches_as x.s.now x.d (lent_in x.lent.now) e g.S.Sink.room x.c x.m x.buffer.now known.4)
 
 pub put_list-requires : goal.put_list-requires
-put_list-requires c =
+put_list-requires g c =
     let x = c.args in
     let known = c.requires in
     let e = c.in-Date.is in
-    let fine = fine_as x.s.now x.d (lent_by x.date.now x.datetable.now x.reference.now x.referencetable.now x.message.now x.messagetable.now) e known.0 in
-    let few = few_as x.s.now x.d (lent_by x.date.now x.datetable.now x.reference.now x.referencetable.now x.message.now x.messagetable.now) e (waiting x.m.held) known.1 in
-    (fine.good, fine.some, fine.short, omega (arith, few, leading_length (listed_in x.date.now x.datetable.now)), short_as x.s.now x.d (lent_by x.date.now x.datetable.now x.reference.now x.referencetable.now x.message.now x.messagetable.now) e x.c x.m known.3, fits_as x.s.now x.d (lent_by x.date.now x.datetable.now x.reference.now x.referencetable.now x.message.now x.messagetable.now) e x.c x.m x.buffer.now known.4)
+    let fine = fine_as x.s.now x.d (lent_in x.lent.now) e known.0 in
+    (fine.good, fine.some, fine.short, known.1, few_as x.s.now x.d (lent_in x.lent.now) e (waiting x.m.held) known.2, reaches_as x.s.now x.d (lent_in x.lent.now) e g.S.Sink.room x.c x.m x.buffer.now known.4)
 
 pub put_list-requires-in-Reference : goal.put_list-requires-in-Reference
-put_list-requires-in-Reference c =
+put_list-requires-in-Reference g c =
     let x = c.args in
     let known = c.requires in
     let e = c.in-Reference.is in
-    let fine = fine_as x.s.now x.d (lent_by x.date.now x.datetable.now x.reference.now x.referencetable.now x.message.now x.messagetable.now) e known.0 in
-    let few = few_as x.s.now x.d (lent_by x.date.now x.datetable.now x.reference.now x.referencetable.now x.message.now x.messagetable.now) e (waiting x.m.held) known.1 in
-    (fine.good, fine.some, fine.short, omega (arith, few, leading_length (listed_in x.reference.now x.referencetable.now)), short_as x.s.now x.d (lent_by x.date.now x.datetable.now x.reference.now x.referencetable.now x.message.now x.messagetable.now) e x.c x.m known.3, fits_as x.s.now x.d (lent_by x.date.now x.datetable.now x.reference.now x.referencetable.now x.message.now x.messagetable.now) e x.c x.m x.buffer.now known.4)
+    let fine = fine_as x.s.now x.d (lent_in x.lent.now) e known.0 in
+    (fine.good, fine.some, fine.short, known.1, few_as x.s.now x.d (lent_in x.lent.now) e (waiting x.m.held) known.2, reaches_as x.s.now x.d (lent_in x.lent.now) e g.S.Sink.room x.c x.m x.buffer.now known.4)
 
 pub put_list-requires-in-Message : goal.put_list-requires-in-Message
-put_list-requires-in-Message c =
+put_list-requires-in-Message g c =
     let x = c.args in
     let known = c.requires in
     let e = c.in-Message.is in
-    let fine = fine_as x.s.now x.d (lent_by x.date.now x.datetable.now x.reference.now x.referencetable.now x.message.now x.messagetable.now) e known.0 in
-    let few = few_as x.s.now x.d (lent_by x.date.now x.datetable.now x.reference.now x.referencetable.now x.message.now x.messagetable.now) e (waiting x.m.held) known.1 in
-    (fine.good, fine.some, fine.short, omega (arith, few, leading_length (listed_in x.message.now x.messagetable.now)), short_as x.s.now x.d (lent_by x.date.now x.datetable.now x.reference.now x.referencetable.now x.message.now x.messagetable.now) e x.c x.m known.3, fits_as x.s.now x.d (lent_by x.date.now x.datetable.now x.reference.now x.referencetable.now x.message.now x.messagetable.now) e x.c x.m x.buffer.now known.4)
+    let fine = fine_as x.s.now x.d (lent_in x.lent.now) e known.0 in
+    (fine.good, fine.some, fine.short, known.1, few_as x.s.now x.d (lent_in x.lent.now) e (waiting x.m.held) known.2, reaches_as x.s.now x.d (lent_in x.lent.now) e g.S.Sink.room x.c x.m x.buffer.now known.4)
 
 pub returns-in-Word : goal.returns-in-Word
-returns-in-Word c =
+returns-in-Word g c =
     let x = c.args in
-    appended_as x.s.now x.d (lent_by x.date.now x.datetable.now x.reference.now x.referencetable.now x.message.now x.messagetable.now) c.in-Word.is x.c x.m x.buffer.now (one_appended x.c x.m _ x.buffer.now c.put_record.ensures)
-
-pub shape_of-buffer-in-Syntax : goal.shape_of-buffer-in-Syntax
-shape_of-buffer-in-Syntax c =
-    let x = c.args in
-    appended_length c.put_syntax.ensures
+    advances_as x.s.now x.d (lent_in x.lent.now) c.in-Word.is x.c x.m (advances_by x.c x.m _ (one_appended x.c x.m _ c.put_record.ensures))
 
 pub returns-in-Syntax : goal.returns-in-Syntax
-returns-in-Syntax c =
+returns-in-Syntax g c =
     let x = c.args in
-    appended_as x.s.now x.d (lent_by x.date.now x.datetable.now x.reference.now x.referencetable.now x.message.now x.messagetable.now) c.in-Syntax.is x.c x.m x.buffer.now c.put_syntax.ensures
-
-pub shape_of-buffer-in-Element : goal.shape_of-buffer-in-Element
-shape_of-buffer-in-Element c =
-    let x = c.args in
-    appended_length c.put_element.ensures
+    advances_as x.s.now x.d (lent_in x.lent.now) c.in-Syntax.is x.c x.m (advances_by x.c x.m _ c.put_syntax.ensures)
 
 pub returns-in-Element : goal.returns-in-Element
-returns-in-Element c =
+returns-in-Element g c =
     let x = c.args in
-    appended_as x.s.now x.d (lent_by x.date.now x.datetable.now x.reference.now x.referencetable.now x.message.now x.messagetable.now) c.in-Element.is x.c x.m x.buffer.now c.put_element.ensures
-
-pub shape_of-buffer-in-Date : goal.shape_of-buffer-in-Date
-shape_of-buffer-in-Date c =
-    let x = c.args in
-    appended_length c.put_list.ensures
+    advances_as x.s.now x.d (lent_in x.lent.now) c.in-Element.is x.c x.m (advances_by x.c x.m _ c.put_element.ensures)
 
 pub returns-in-Date : goal.returns-in-Date
-returns-in-Date c =
+returns-in-Date g c =
     let x = c.args in
-    appended_as x.s.now x.d (lent_by x.date.now x.datetable.now x.reference.now x.referencetable.now x.message.now x.messagetable.now) c.in-Date.is x.c x.m x.buffer.now c.put_list.ensures
-
-pub shape_of-buffer-in-Reference : goal.shape_of-buffer-in-Reference
-shape_of-buffer-in-Reference c =
-    let x = c.args in
-    appended_length c.put_list-in-Reference.ensures
+    advances_as x.s.now x.d (lent_in x.lent.now) c.in-Date.is x.c x.m c.put_list.ensures
 
 pub returns-in-Reference : goal.returns-in-Reference
-returns-in-Reference c =
+returns-in-Reference g c =
     let x = c.args in
-    appended_as x.s.now x.d (lent_by x.date.now x.datetable.now x.reference.now x.referencetable.now x.message.now x.messagetable.now) c.in-Reference.is x.c x.m x.buffer.now c.put_list-in-Reference.ensures
-
-pub shape_of-buffer-in-Message : goal.shape_of-buffer-in-Message
-shape_of-buffer-in-Message c =
-    let x = c.args in
-    appended_length c.put_list-in-Message.ensures
+    advances_as x.s.now x.d (lent_in x.lent.now) c.in-Reference.is x.c x.m c.put_list-in-Reference.ensures
 
 pub returns-in-Message : goal.returns-in-Message
-returns-in-Message c =
+returns-in-Message g c =
     let x = c.args in
-    appended_as x.s.now x.d (lent_by x.date.now x.datetable.now x.reference.now x.referencetable.now x.message.now x.messagetable.now) c.in-Message.is x.c x.m x.buffer.now c.put_list-in-Message.ensures
+    advances_as x.s.now x.d (lent_in x.lent.now) c.in-Message.is x.c x.m c.put_list-in-Message.ensures

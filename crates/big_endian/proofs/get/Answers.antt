@@ -1,51 +1,47 @@
--- `big_endian::get` meets its contract. The loop's invariant: the number is what was read so far, and reading goes on from it. What is left
--- falls. Assumes nothing.
-use native.Mathlib.Omega.{arith}
-use Prim.Native.Nat.{ℕ, ◌+◌, ◌*◌}
+-- `big_endian::get` meets its contract. The loop's invariant: the number is what was read so far, and reading goes on from it. Assumes nothing.
+use Prim.Native.Nat.{ℕ, ◌+◌, ◌*◌, ◌-◌}
 use mathlib.Core.Path.{sym, ap, ◌∙◌}
-use Rattle.numbers.specs.Numbers.{read_on, number_at}
-use Rattle.big_endian.proofs.Steps.{left_over, none_read, one_read, all_read, digit_more, digit_room}
+use native.Mathlib.Omega.{arith}
+use lib.ListN.{take, drop}
+use Rattle.numbers.specs.Numbers.{read_on}
+use Rattle.big_endian.proofs.Steps.{part_length, part_byte, none_read, one_read, all_read, digit_more, digit_room}
 use Rattle.big_endian.proofs.get.Goals as goal
 
-pub loop-i-init : goal.loop-i-init
-unfolding number_at
-loop-i-init c = (omega arith, omega arith, ap (read_on 0) (sym (none_read c.args.s.now c.args.at c.args.width)))
+pub loop-b-init : goal.loop-b-init
+loop-b-init c = let x = c.args in (omega arith, none_read x.s.now x.at x.width (x.at + x.width - x.at) (omega arith))
 
 pub overflow_mul-number : goal.overflow_mul-number
-overflow_mul-number c = record { fits = omega (arith, digit_room c.loop-i.number c.loop-i.i c.loop-i.invariant.1 (omega arith)) }
-
-pub overflow_add-at : goal.overflow_add-at
-overflow_add-at c = omega arith
-
-pub bounds-s-at : goal.bounds-s-at
-bounds-s-at c = omega arith
+overflow_mul-number c =
+    let x = c.args in
+    let loop = c.loop-b in
+    let few = part_length x.s.now x.at x.width (x.at + x.width - x.at) (omega arith) (omega arith) in
+    record { fits = omega (arith, digit_room loop.number loop.b-index loop.invariant.0 (omega (arith, few))) }
 
 pub overflow_add-number : goal.overflow_add-number
 overflow_add-number c =
-    let state = c.loop-i in
-    let byte = c.type_inv.s (c.args.at + state.i) in
-    record { fits = omega (arith, digit_room state.number state.i state.invariant.1 (omega arith), byte, c.wide.ensures) }
-
-pub overflow_add-i : goal.overflow_add-i
-overflow_add-i c = omega arith
-
-pub loop-i-smaller : goal.loop-i-smaller
-loop-i-smaller c = omega arith
-
-pub loop-i-preserved : goal.loop-i-preserved
-loop-i-preserved c =
     let x = c.args in
-    let state = c.loop-i in
-    let byte = c.type_inv.s (x.at + state.i) in (
-      omega arith,
-      digit_more state.number c.wide.result state.i state.invariant.1 (omega (arith, byte, c.wide.ensures)),
-      state.invariant.2
-          ∙ one_read x.s.now x.at x.width state.i state.number (omega arith) (omega arith)
-          ∙ ap (λ (b : ℕ). read_on (state.number * 256 + b) (left_over x.s.now x.at x.width (state.i + 1))) (sym c.wide.ensures),
+    let loop = c.loop-b in
+    let few = part_length x.s.now x.at x.width (x.at + x.width - x.at) (omega arith) (omega arith) in
+    let room = digit_room loop.number loop.b-index loop.invariant.0 (omega (arith, few)) in
+    let byte = part_byte x.s.now x.at (x.at + x.width - x.at) loop.b-index (omega (arith, few)) in
+    record { fits = omega (arith, room, byte, c.from.ensures, c.type_inv.s (x.at + loop.b-index)) }
+
+pub loop-b-preserved : goal.loop-b-preserved
+loop-b-preserved c =
+    let x = c.args in
+    let loop = c.loop-b in
+    let part = x.at + x.width - x.at in
+    let bytes = take part (drop x.at x.s.now) in
+    let few = part_length x.s.now x.at x.width part (omega arith) (omega arith) in
+    let byte = part_byte x.s.now x.at part loop.b-index (omega (arith, few)) in (
+      digit_more loop.number c.from.result loop.b-index loop.invariant.0 (omega (arith, byte, c.from.ensures, c.type_inv.s (x.at + loop.b-index))),
+      loop.invariant.1
+          ∙ one_read bytes loop.b-index loop.number c.loop-b-test.true
+          ∙ ap (λ (b : ℕ). read_on (loop.number * 256 + b) (drop (loop.b-index + 1) bytes)) (sym c.from.ensures),
     )
 
 pub returns : goal.returns
 returns c =
     let x = c.args in
-    let state = c.loop-i in
-    sym (state.invariant.2 ∙ all_read x.s.now x.at x.width state.i state.number c.loop-i-test.false)
+    let loop = c.loop-b in
+    sym (loop.invariant.1 ∙ all_read (take (x.at + x.width - x.at) (drop x.at x.s.now)) loop.b-index loop.number c.loop-b-test.false)

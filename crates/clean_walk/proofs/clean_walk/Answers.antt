@@ -8,7 +8,7 @@ use Rattle.clean_walk.proofs.Going.{going_begun, going_within, going_next, going
 use Rattle.clean_walk.proofs.clean_walk.Goals as goal
 
 pub loop-at-init : goal.loop-at-init
-loop-at-init c = let args = c.args in going_begun args.c args.s.now args.start c.beginning-walk.ensures
+loop-at-init c = let args = c.args in going_begun args.c args.s.now args.start c.beginning.ensures
 
 pub segment_ended-requires : goal.segment_ended-requires
 segment_ended-requires c = c.releasing-release.ensures
@@ -37,7 +37,7 @@ loop-at-preserved c =
     let args = c.args in
     going_next args.c args.s.now args.start state.invariant c.loop-at-test.true
     (scans_as _ _ _ c.segment_ended.ensures c.in-Ended.is)
-    (subst (Steps args.c args.s.now state.at state.walk state.headers) c.in-Next.is c.step_at.ensures)
+    (subst (Steps args.c args.s.now state.at state.kept.walk state.kept.headers) c.in-Some.is c.step_at.ensures)
 
 pub returns-then-is_complete : goal.returns-then-is_complete
 returns-then-is_complete c =

@@ -6,7 +6,7 @@ use Rattle.clean_walk.proofs.Going.{Going}
 use Rattle.clean_walk.proofs.clean_walk.Given as goal
 
 abbrev pub invariant-loop-at : goal.invariant-loop-at
-invariant-loop-at l = Going l.c l.s l.start l.walk l.headers l.at
+invariant-loop-at l = Going l.c l.s l.start l.kept.walk l.kept.headers l.at
 
 abbrev pub decreases-loop-at : goal.decreases-loop-at
 decreases-loop-at l = length l.s - l.at

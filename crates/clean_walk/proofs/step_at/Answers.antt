@@ -5,5 +5,4 @@ use Rattle.clean_walk.proofs.step_at.Goals as goal
 pub returns-then-is_user : goal.returns-then-is_user
 returns-then-is_user c =
     let args = c.args in
-    user_steps args.c args.s.now args.at args.walk args.headers (c.is_user.ensures c.if-is_user.true)
-    c.user_step.ensures
+    user_steps args.c args.s.now args.at args.kept (c.is_user.ensures c.if-is_user.true) c.user_step.ensures

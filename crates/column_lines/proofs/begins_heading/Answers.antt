@@ -1,5 +1,4 @@
 -- `column_lines::begins_heading` meets its contract: the line that is asked for is the heading. Assumes nothing.
-use borrow.Author.Rules.{rules}
 use Rattle.columns.specs.Lines.{heading, line}
 use Rattle.column_lines.proofs.begins_heading.Goals as goal
 

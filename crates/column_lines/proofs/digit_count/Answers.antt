@@ -1,10 +1,6 @@
 -- `column_lines::digit_count` meets its contract. The loop's invariant: the digits counted and those of what is left are those of the number,
 -- and one more. What is left falls. Assumes nothing.
-use Prim.Native.Nat.{◌+◌, ◌≤◌}
-use mathlib.Core.Path.{◌≡◌}
 use native.Mathlib.Omega.{arith}
-use lib.ListN.{length}
-use Rattle.columns.specs.Lines.{in_decimal}
 use Rattle.column_laws.proofs.Decimals.{one_digit, more_digits, few_digits}
 use Rattle.column_lines.proofs.digit_count.Goals as goal
 

@@ -2,10 +2,8 @@
 -- and one more. What is left falls. Assumes nothing.
 use Prim.Native.Nat.{◌+◌, ◌≤◌}
 use mathlib.Core.Path.{◌≡◌}
-use native.Mathlib.Omega.{arith}
 use lib.ListN.{length}
 use Rattle.columns.specs.Lines.{in_decimal}
-use Rattle.column_laws.proofs.Decimals.{one_digit, more_digits, few_digits}
 use Rattle.column_lines.proofs.digit_count.Given as goal
 
 abbrev pub invariant-loop-left : goal.invariant-loop-left

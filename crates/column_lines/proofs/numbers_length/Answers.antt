@@ -1,6 +1,5 @@
 -- `column_lines::numbers_length` meets its contract: each number has at most twenty digits. Assumes nothing.
 use native.Mathlib.Omega.{arith}
-use borrow.Author.Rules.{rules}
 use Rattle.column_lines.proofs.Numbers.{numbers_length}
 use Rattle.column_lines.proofs.numbers_length.Goals as goal
 

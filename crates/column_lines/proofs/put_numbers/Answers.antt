@@ -1,6 +1,5 @@
 -- `column_lines::put_numbers` meets its contract: each number is stored after the one before it. Assumes nothing.
 use native.Mathlib.Omega.{arith}
-use borrow.Author.Rules.{rules}
 use Rattle.column_lines.proofs.Numbers.{numbers_cells, numbers_put}
 use Rattle.column_lines.proofs.put_numbers.Goals as goal
 

@@ -1,10 +1,6 @@
--- `column_lines::starts_with` meets its contract. The loop's invariant: the text begins with the line exactly where what is left of the text
--- begins with what is left of the line. What is left of the line falls. Assumes nothing.
-use Prim.Native.Nat.{◌-◌, ◌≤◌}
-use mathlib.Core.Path.{◌≡◌, refl, sym, ◌∙◌}
+-- `column_lines::starts_with` meets its contract: byte by byte, one differs, or the others are left, or none is left. Assumes nothing.
+use mathlib.Core.Path.{refl, sym, ◌∙◌}
 use native.Mathlib.Omega.{arith}
-use lib.ListN.{length, drop}
-use Rattle.lists.specs.Lists.{begins}
 use Rattle.column_lines.proofs.Numbers.{begins_short, begins_differs, begins_next, begins_done}
 use Rattle.column_lines.proofs.starts_with.Goals as goal
 
@@ -12,13 +8,7 @@ pub returns-then-s-line : goal.returns-then-s-line
 returns-then-s-line c = sym (begins_short c.args.line.now c.args.s.now c.if-s-line.true)
 
 pub loop-i-init : goal.loop-i-init
-loop-i-init c = (c.if-s-line.false, refl)
-
-pub bounds-s-i : goal.bounds-s-i
-bounds-s-i c = omega (arith, c.loop-i.invariant.0)
-
-pub bounds-line-i : goal.bounds-line-i
-bounds-line-i c = omega arith
+loop-i-init c = (omega (arith, c.if-s-line.false), refl)
 
 pub returns-then-s-i : goal.returns-then-s-i
 returns-then-s-i c =
@@ -26,12 +16,6 @@ returns-then-s-i c =
     let loop = c.loop-i in
     let taken = c.loop-i-test.true in
     sym (loop.invariant.1 ∙ begins_differs args.line.now args.s.now loop.i taken (omega (arith, loop.invariant.0, taken)) c.if-s-i.true)
-
-pub overflow_add-i : goal.overflow_add-i
-overflow_add-i c = omega (arith, c.loop-i-test.true)
-
-pub loop-i-smaller : goal.loop-i-smaller
-loop-i-smaller c = omega (arith, c.loop-i-test.true)
 
 pub loop-i-preserved : goal.loop-i-preserved
 loop-i-preserved c =

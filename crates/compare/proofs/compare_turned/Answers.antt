@@ -1,39 +1,33 @@
 -- `compare::compare_turned` meets its contract: the answer in the other order, turned round. Assumes nothing.
-use mathlib.Core.Path.{refl}
-use borrow.Author.Rules.{rules}
+use Rattle.std.specs.Prelude.{Err}
+use mathlib.Core.Path.{refl, ap, ◌∙◌}
 use Rattle.lists.specs.Lists.{maybe}
 use Rattle.judge.proofs.Told.{told_accepted, told_refused}
 use Rattle.compare.proofs.Turned.{turned, turned_is}
 use Rattle.compare.proofs.compare_turned.Goals as goal
 
-pub returns-in-Same : goal.returns-in-Same
+pub returns-in-Ok : goal.returns-in-Ok
 unfolding turned
-returns-in-Same c =
+returns-in-Ok c =
     let x = c.args in
-    turned_is x.first.now x.second.now c.compare_in_order.ensures c.in-Same.is refl
+    turned_is x.first.now x.second.now c.compare_in_order.ensures c.in-Ok.is refl
 
-pub returns-in-Different : goal.returns-in-Different
+pub returns-in-Err-Second : goal.returns-in-Err-Second
 unfolding turned
-returns-in-Different c =
+returns-in-Err-Second c =
     let x = c.args in
-    turned_is x.first.now x.second.now c.compare_in_order.ensures c.in-Different.is refl
+    turned_is x.first.now x.second.now c.compare_in_order.ensures (c.in-Err-Second.is ∙ ap Err c.in-Err-Second.field-0-is) refl
 
-pub returns-in-SecondRefused : goal.returns-in-SecondRefused
-unfolding turned
-returns-in-SecondRefused c =
-    let x = c.args in
-    turned_is x.first.now x.second.now c.compare_in_order.ensures c.in-SecondRefused.is refl
-
-pub returns-in-Refused : goal.returns-in-Refused
+pub returns-in-Err : goal.returns-in-Err
 unfolding turned maybe
-returns-in-Refused c =
+returns-in-Err c =
     let x = c.args in
-    turned_is x.first.now x.second.now c.compare_in_order.ensures c.in-FirstRefused.is
-    (told_refused x.first.now c.judge.ensures c.in-Refused.is)
+    turned_is x.first.now x.second.now c.compare_in_order.ensures (c.in-Err-First.is ∙ ap Err c.in-Err-First.field-0-is)
+    (told_refused x.first.now c.judge.ensures c.in-Err.is)
 
-pub returns-in-Accepted : goal.returns-in-Accepted
+pub returns-in-Ok-judge : goal.returns-in-Ok-judge
 unfolding turned maybe
-returns-in-Accepted c =
+returns-in-Ok-judge c =
     let x = c.args in
-    turned_is x.first.now x.second.now c.compare_in_order.ensures c.in-FirstRefused.is
-    (told_accepted x.first.now c.judge.ensures c.in-Accepted.is).0
+    turned_is x.first.now x.second.now c.compare_in_order.ensures (c.in-Err-First.is ∙ ap Err c.in-Err-First.field-0-is)
+    (told_accepted x.first.now c.judge.ensures c.in-Ok-judge.is).0

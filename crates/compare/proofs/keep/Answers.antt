@@ -1,7 +1,6 @@
 -- `compare::keep` meets its contract: the slice that it hands back is the part that is named. Assumes nothing.
 use mathlib.Core.Path.{refl, sym}
 use lib.Seq.{length-take-le}
-use borrow.Author.Rules.{rules}
 use Rattle.compare.specs.Parts.{part_of}
 use Rattle.compare.proofs.Keeping.{kept_fits, handed_first, handed_second}
 use Rattle.compare.proofs.keep.Goals as goal

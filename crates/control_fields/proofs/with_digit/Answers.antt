@@ -1,6 +1,7 @@
--- `control_fields::with_digit` meets its contract: five bytes spell too little for the sixth to be too much. Assumes nothing.
+-- `control_fields::with_digit` meets its contract: the number stays after the sixth byte; before it there is room for a digit more.
+-- Assumes nothing.
 use native.Mathlib.Omega.{arith}
-use borrow.Author.Tests.{le-ltb, lt-ltb}
+use borrow.Author.Tests.{lt-ltb, le-ltb}
 use Rattle.control_fields.specs.Reading.{with_digit}
 use Rattle.control_fields.proofs.Bytes.{five_spell}
 use Rattle.control_fields.proofs.with_digit.Goals as goal
@@ -14,15 +15,6 @@ overflow_mul-result c =
     let h = five_spell c.args.f c.requires.1 (omega arith) in
     omega arith
 
-pub returns-then-b-lt48 : goal.returns-then-b-lt48
-unfolding with_digit
-returns-then-b-lt48 c = simp (lt-ltb _ _ c.if-f-ge6.false) (omega arith)
-
-pub overflow_mul-result-2 : goal.overflow_mul-result-2
-overflow_mul-result-2 c =
-    let h = five_spell c.args.f c.requires.1 (omega arith) in
-    omega arith
-
 pub overflow_add-result : goal.overflow_add-result
 overflow_add-result c =
     let h = five_spell c.args.f c.requires.1 (omega arith) in
@@ -30,4 +22,4 @@ overflow_add-result c =
 
 pub returns : goal.returns
 unfolding with_digit
-returns c = simp (lt-ltb _ _ c.if-f-ge6.false)
+returns c = simp (lt-ltb _ _ c.if-f-ge6.false) (omega arith)

@@ -1,7 +1,7 @@
 -- `control_positions::positions_of` meets its contract: the constant table is the paper's once its bytes are
 -- widened, and a kind's index is below 8. Assumes nothing.
 use Prim.Native.Nat.{ℕ, ◌<◌}
-use mathlib.Core.Path.{sym, ap, ◌∙◌}
+use mathlib.Core.Path.{sym, ap, ap₂, ◌∙◌}
 use mathlib.Core.List.{List, [], ◌∷◌}
 use native.Mathlib.Omega.{arith}
 use lib.Dec.{lit<}
@@ -32,8 +32,11 @@ abbrev entries : List Entry
 entries = entry 0 5 ∷ entry 0 5 ∷ entry 0 1 ∷ entry 0 0 ∷ entry 1 2 ∷ entry 1 2 ∷ entry 1 2 ∷ entry 0 0 ∷ []
 
 -- and its entries as wide as the paper's table is stated
+abbrev wide : ℕ → ℕ → Positions
+wide count reference = record { count = count; reference = reference }
+
 abbrev widened : Entry → Positions
-widened e = record { count = e.count; reference = e.reference }
+widened e = wide e.count e.reference
 
 pub offset_bounds-at : goal.offset_bounds-at
 offset_bounds-at c = record { fits = omega (arith, c.index_of-at.ensures, index_below c.args.kind) }
@@ -45,5 +48,6 @@ pub returns : goal.returns
 unfolding positions_of position_table
 returns c =
     let told = c.index_of-at in
-    sym (get_or-map widened entries told.result (entry 0 0))
+    ap₂ wide c.from.ensures c.from-2.ensures
+    ∙ sym (get_or-map widened entries told.result (entry 0 0))
     ∙ ap (λ (n : ℕ). get_or position_table n (record { count = 0; reference = 0 })) told.ensures

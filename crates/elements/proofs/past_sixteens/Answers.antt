@@ -16,8 +16,8 @@ separators-passed-requires c = omega arith
 pub returns-then-passed-ge15 : goal.returns-then-passed-ge15
 returns-then-passed-ge15 c = c.loop-at.invariant
 
-pub returns-then-left-passed : goal.returns-then-left-passed
-returns-then-left-passed c = c.loop-at.invariant
+pub returns-then-left-from : goal.returns-then-left-from
+returns-then-left-from c = c.loop-at.invariant
 
 pub overflow_add-at : goal.overflow_add-at
 overflow_add-at c = omega arith
@@ -31,7 +31,8 @@ loop-at-smaller c = omega arith
 pub loop-at-preserved : goal.loop-at-preserved
 loop-at-preserved c =
     let loop = c.loop-at in
-    (loop.invariant.0 ∙ c.separators-passed.ensures (omega arith) loop.left (omega arith), λ h. omega arith)
+    let on = c.separators-passed.ensures (omega arith) loop.left (omega arith) in
+    (loop.invariant.0 ∙ rw c.from-left.ensures on, λ h. omega arith)
 
 pub returns : goal.returns
 returns c = c.loop-at.invariant

@@ -1,6 +1,8 @@
 -- `export_columns::store_text` meets its contract: 14 answers, or the text is stored. Assumes nothing.
+use mathlib.Core.Path.{sym, subst}
 use native.Mathlib.Omega.{arith}
-use borrow.Author.Rules.{rules}
+use Rattle.answers.specs.Answers.{Stored}
+use Rattle.columns.specs.Promises.{Exports}
 use Rattle.judge.proofs.Bodies.{accepted_short}
 use Rattle.judge.proofs.Told.{characters_of_lem}
 use Rattle.export_columns.proofs.Exporting.{text_needed, text_put, lines_fit, heading_fits, short_refused, text_stored}
@@ -15,7 +17,8 @@ returns-then-buffer-n c =
     let s = args.s.now in
     let accepted = c.requires.0 in
     let needed = text_needed s accepted (characters_of_lem s c.requires.1) c.body_start-start.ensures c.text_length-n.ensures in
-    short_refused args.buffer.now s accepted needed c.if-buffer-n.true
+    subst (λ (r : Stored). Exports args.buffer.now s r args.buffer.now) (sym c.failed.ensures)
+    (short_refused args.buffer.now s accepted needed c.if-buffer-n.true)
 
 pub put_heading-requires : goal.put_heading-requires
 put_heading-requires c =
@@ -37,4 +40,4 @@ returns c =
     let d = characters_of_lem s c.requires.1 in
     let p = c.body_start-start.ensures in
     text_stored buffer s accepted (text_needed s accepted d p c.text_length-n.ensures) c.if-buffer-n.false
-    (text_put s accepted d p buffer c.put_heading.ensures c.put_lines.ensures)
+    (text_put s accepted d p buffer c.put_heading.ensures c.put_lines.ensures.0)

@@ -4,24 +4,24 @@ use borrow.Author.Tests.{le-leb, lt-leb}
 use Rattle.emission_laws.specs.Emission.{separated}
 use Rattle.held_separators.proofs.after_separator.Goals as goal
 
-pub returns-then-rank-eq0 : goal.returns-then-rank-eq0
+pub returns-in-0 : goal.returns-in-0
 unfolding separated
-returns-then-rank-eq0 c = simp (le-leb c.args.rank 0 (omega arith)) c.nothing_held.ensures
+returns-in-0 c = simp (le-leb c.args.rank 0 (omega arith)) c.nothing_held.ensures
 
-pub returns-then-rank-eq1 : goal.returns-then-rank-eq1
+pub returns-in-1 : goal.returns-in-1
 unfolding separated
-returns-then-rank-eq1 c =
+returns-in-1 c =
     let rank = c.args.rank in
     simp (lt-leb rank 0 (omega arith), le-leb rank 1 (omega arith))
 
-pub returns-then-rank-eq2 : goal.returns-then-rank-eq2
+pub returns-in-2 : goal.returns-in-2
 unfolding separated
-returns-then-rank-eq2 c =
+returns-in-2 c =
     let rank = c.args.rank in
     simp (lt-leb rank 0 (omega arith), lt-leb rank 1 (omega arith), le-leb rank 2 (omega arith))
 
-pub returns : goal.returns
+pub returns-in_default : goal.returns-in_default
 unfolding separated
-returns c =
+returns-in_default c =
     let rank = c.args.rank in
     simp (lt-leb rank 0 (omega arith), lt-leb rank 1 (omega arith), lt-leb rank 2 (omega arith))

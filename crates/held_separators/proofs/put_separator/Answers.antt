@@ -1,22 +1,32 @@
--- `held_separators::put_separator` meets its contract: a terminator is stored. Assumes nothing.
-use mathlib.Core.Path.{sym, ap}
+-- `held_separators::put_separator` meets its contract: a terminator takes a byte. Assumes nothing.
+use mathlib.Core.Path.{sym, ap, ◌∙◌}
+use mathlib.Core.List.{[], ◌∷◌}
 use native.Mathlib.Omega.{arith}
 use lib.ListN.{length}
-use lib.Seq.{sets}
-use Rattle.emission_laws.proofs.Steps.{terminator_text, no_text}
+use Rattle.values.specs.Tokens.{separator}
+use Rattle.emission_laws.specs.Emission.{held_next, held_after}
+use Rattle.emission_laws.proofs.Steps.{terminator_text, no_text, moved}
 use Rattle.held_separators.proofs.put_separator.Goals as goal
 
-pub bounds-buffer-at : goal.bounds-buffer-at
-bounds-buffer-at c = omega (arith, ap length (terminator_text c.args.c c.args.m.held c.args.rank c.if-rank-eq0.true))
+pub set-requires : goal.set-requires
+set-requires g c = omega (arith, c.requires.0, ap length (terminator_text c.args.c c.args.m.held c.args.rank c.if-rank-eq0.true))
 
 pub returns-then-rank-eq0 : goal.returns-then-rank-eq0
-returns-then-rank-eq0 c =
+unfolding held_after held_next
+returns-then-rank-eq0 g c =
     let m = c.args.m in
-    let text = terminator_text c.args.c m.held c.args.rank c.if-rank-eq0.true in
-    (ap (sets c.args.buffer.now m.total) (sym text), c.with_separator.ensures c.args.c)
+    let rank = c.args.rank in
+    let text = terminator_text c.args.c m.held rank c.if-rank-eq0.true in (
+      c.set.ensures ∙ ap (g.S.Sink.holds c.args.buffer.now m.total) (sym text),
+      moved c.args.c m (separator rank 0 ∷ []) (omega (arith, ap length text)) c.after_separator-held.ensures,
+    )
 
 pub returns : goal.returns
-returns c =
+unfolding held_after held_next
+returns g c =
     let m = c.args.m in
-    let text = no_text c.args.c m.held c.args.rank c.if-rank-eq0.false in
-    (ap (sets c.args.buffer.now m.total) (sym text), c.with_separator-2.ensures c.args.c)
+    let rank = c.args.rank in
+    let text = no_text c.args.c m.held rank c.if-rank-eq0.false in (
+      sym (g.met.S.Sink.laws.none c.args.buffer.now m.total) ∙ ap (g.S.Sink.holds c.args.buffer.now m.total) (sym text),
+      moved c.args.c m (separator rank 0 ∷ []) (omega (arith, ap length text)) c.after_separator-held.ensures,
+    )

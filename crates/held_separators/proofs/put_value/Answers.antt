@@ -1,48 +1,50 @@
--- `held_separators::put_value` meets its contract. The loop's invariant: what is left of the value, stored from here, gives what the whole,
--- stored at the start, gives; and so does the measure. What is left falls. Assumes nothing.
-use Prim.Native.Nat.{◌+◌}
-use mathlib.Core.Path.{refl}
-use mathlib.Core.List.{[], ◌∷◌}
+-- `held_separators::put_value` meets its contract: what is held back, and the value after it. Assumes nothing.
+use Prim.Native.Nat.{ℕ, ◌+◌, ◌<◌}
+use mathlib.Core.Path.{◌≡◌, ◌∙◌, sym, ap}
+use Rattle.std.proofs.Common.{rules}
 use native.Mathlib.Omega.{arith}
-use lib.ListN.{drop, get_or}
-use Rattle.emission_laws.proofs.Steps.{goes_on, goes_end}
-use Rattle.held_separators.specs.Putting.{value_byte, value_tokens}
-use Rattle.held_separators.proofs.Steps.{value_next, value_end_lem, tokens_fit, tokens_put, all_put_lem}
+use lib.ListN.{length}
+use Rattle.values.specs.Spelling.{spell_value}
+use Rattle.storing.proofs.Putting.{put_after, room_left}
+use Rattle.emission_laws.specs.Emission.{let_out}
+use Rattle.emission_laws.proofs.Steps.{moved, let_out_length}
+use Rattle.held_separators.specs.Putting.{value_tokens}
+use Rattle.held_separators.proofs.Steps.{value_none, value_empty, value_held, value_text, value_length}
 use Rattle.held_separators.proofs.put_value.Goals as goal
 
-pub loop-i-init : goal.loop-i-init
-loop-i-init c = (record { stored = refl; fits = c.requires; as_long = refl }, refl)
-
-pub put_value_byte-n-requires : goal.put_value_byte-n-requires
-put_value_byte-n-requires c =
+pub returns-then-is_empty : goal.returns-then-is_empty
+returns-then-is_empty g c =
     let value = c.args.value.now in
-    let i = c.loop-i.i in
-    tokens_fit c.args.c c.loop-i.n (value_tokens (drop i value)) c.loop-i.invariant.0 (value_byte (get_or value i 0) ∷ []) (value_tokens (drop (i + 1) value)) (value_next value i c.loop-i-test.true)
+    let e : length value ≡ 0 = search rules in
+    (sym (g.met.S.Sink.laws.none c.args.buffer.now c.args.m.total) ∙ ap (g.S.Sink.holds c.args.buffer.now c.args.m.total) (sym (value_empty c.args.c c.args.m.held value e)), value_none c.args.c c.args.m value e)
 
-pub overflow_add-i : goal.overflow_add-i
-overflow_add-i c = omega arith
+pub let_out-at-requires : goal.let_out-at-requires
+let_out-at-requires g c =
+    let some : 0 < length c.args.value.now = search rules in
+    omega (arith, c.requires, value_length c.args.c c.args.m.held c.args.value.now some)
 
-pub loop-i-smaller : goal.loop-i-smaller
-loop-i-smaller c = omega arith
-
-pub loop-i-preserved : goal.loop-i-preserved
-loop-i-preserved c =
-    let chars = c.args.c in
+pub put_value-requires : goal.put_value-requires
+put_value-requires g c =
     let value = c.args.value.now in
-    let n = c.loop-i.n in
-    let i = c.loop-i.i in
-    let put = c.put_value_byte-n.ensures in
-    let left = value_tokens (drop (i + 1) value) in
-    let next = value_next value i c.loop-i-test.true in (
-      tokens_put chars n (value_tokens (drop i value)) c.loop-i.invariant.0 (value_byte (get_or value i 0) ∷ []) left next put,
-      goes_on chars n c.loop-i.invariant.1 (value_byte (get_or value i 0) ∷ []) left next put.1,
+    let m = c.args.m in
+    let some : 0 < length value = search rules in
+    omega (
+      arith,
+      c.requires,
+      value_length c.args.c m.held value some,
+      c.let_out-at.ensures.1,
+      room_left g.met.S.Sink.laws c.args.buffer.now m.total (let_out c.args.c m.held) c.let_out-at.ensures.0,
     )
 
-pub shape_of-buffer : goal.shape_of-buffer
-shape_of-buffer c = c.loop-i.invariant.0.as_long
-
 pub returns : goal.returns
-returns c =
+returns g c =
+    let chars = c.args.c in
+    let m = c.args.m in
     let value = c.args.value.now in
-    let done = value_end_lem value c.loop-i.i c.loop-i-test.false in
-    (all_put_lem c.args.c c.loop-i.n (value_tokens (drop c.loop-i.i value)) c.loop-i.invariant.0 done, goes_end c.args.c c.loop-i.n c.loop-i.invariant.1 done)
+    let some : 0 < length value = search rules in
+    let place = c.let_out-at.ensures.1 ∙ ap (λ (n : ℕ). m.total + n) (sym (let_out_length chars m.held)) in (
+      put_after g.met.S.Sink.laws c.args.buffer.now m.total (let_out chars m.held) (spell_value chars value) c.let_out-at.ensures.0 place c.put_value.ensures.0
+          ∙ ap (g.S.Sink.holds c.args.buffer.now m.total) (sym (value_text chars m.held value some)),
+      moved chars m (value_tokens value) (omega (arith, c.put_value.ensures.1, c.let_out-at.ensures.1, value_length chars m.held value some))
+          (c.nothing_held.ensures ∙ sym (value_held m.held value some)),
+    )

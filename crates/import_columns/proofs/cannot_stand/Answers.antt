@@ -1,5 +1,4 @@
 -- `import_columns::cannot_stand` meets its contract: it makes the definition's tests. Assumes nothing.
-use borrow.Author.Rules.{rules}
 use mathlib.Core.Path.{ap₂}
 use mathlib.Core.Bool.{Bool, ◌||◌}
 use Rattle.import_columns.proofs.cannot_stand.Goals as goal

@@ -1,5 +1,4 @@
 -- `import_columns::check_columns` meets its contract: a text without the heading is any other. Assumes nothing.
-use borrow.Author.Rules.{rules}
 use mathlib.Core.Path.{sym, ◌∙◌}
 use Rattle.import_columns.proofs.Checks.{not_headed}
 use Rattle.import_columns.proofs.check_columns.Goals as goal

@@ -1,9 +1,7 @@
 -- `import_columns::check_lines` meets its contract. The loop's invariant: what the text has is what it has from here on. What is left of the text falls. Assumes nothing.
 use Prim.Native.Nat.{◌-◌}
-use native.Mathlib.Omega.{arith}
-use borrow.Author.Rules.{rules}
 use lib.ListN.{length}
-use Rattle.import_columns.proofs.Checks.{Checking, checking_start, checking_other, checking_idle, checking_ahead, checking_next, checking_done, checking_end}
+use Rattle.import_columns.proofs.Checks.{Checking}
 use Rattle.import_columns.proofs.check_lines.Given as goal
 
 abbrev pub invariant-loop-at : goal.invariant-loop-at

@@ -1,5 +1,4 @@
 -- `import_columns::import_lines` meets its contract: 15 by the number of lines, or what follows it. Assumes nothing.
-use borrow.Author.Rules.{rules}
 use Prim.Native.Nat.{◌≤◌}
 use native.Mathlib.Omega.{arith}
 use lib.ListN.{length}

@@ -1,5 +1,4 @@
 -- `import_columns::import_listed` meets its contract: 2 answers, or what follows it does. Assumes nothing.
-use borrow.Author.Rules.{rules}
 use mathlib.Core.Path.{refl, sym, ap, ◌∙◌}
 use lib.ListN.{length}
 use borrow.Author.Tests.{eq-eqb, ne_eqb}

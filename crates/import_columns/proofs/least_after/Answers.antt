@@ -1,5 +1,4 @@
 -- `import_columns::least_after` meets its contract: it makes the definition's test. Assumes nothing.
-use borrow.Author.Rules.{rules}
 use mathlib.Core.Path.{sym, ◌∙◌}
 use lib.Dec.{eqb}
 use borrow.Author.Tests.{eq-eqb, ne_eqb}

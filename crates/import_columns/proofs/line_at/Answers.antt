@@ -1,5 +1,4 @@
 -- `import_columns::line_at` meets its contract: the first line begins a segment. Assumes nothing.
-use borrow.Author.Rules.{rules}
 use mathlib.Core.Path.{sym, subst}
 use Prim.Native.Nat.{ℕ}
 use Rattle.column_laws.specs.declared.Position.{Position}
@@ -13,4 +12,4 @@ returns-then-at-eq-HEADING c =
     let l = c.line_of.result in
     let first = subst (λ (n : ℕ). Sought x.s.now n c.origin.result 0 l) c.if-at-eq-HEADING.true c.line_of.ensures in
     subst (λ (n : ℕ). Found x.s.now n x.p l) (sym c.if-at-eq-HEADING.true)
-    (found_first x.s.now x.p l (subst (λ (q : Position). Sought x.s.now first_place q 0 l) c.origin.ensures first))
+    (found_first x.s.now x.p (subst (λ (q : Position). Sought x.s.now first_place q 0 l) c.origin.ensures first))

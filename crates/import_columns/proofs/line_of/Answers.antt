@@ -1,56 +1,56 @@
 -- `import_columns::line_of` meets its contract: its numbers stand at the place, and its value goes on to the line feed. Assumes nothing.
-use borrow.Author.Rules.{rules}
 use Prim.Native.Nat.{◌<◌}
-use mathlib.Core.Path.{refl}
+use mathlib.Core.Path.{refl, sym, subst}
 use native.Mathlib.Omega.{arith}
 use lib.ListN.{length}
 use Rattle.column_walk.specs.declared.Line.{Line}
-use Rattle.import_columns.proofs.Lines.{past_none, past_some, numbers_missing, start_inside, end_inside, end_missing, feed_missing, line_stands, sought_none, sought_some}
+use Rattle.column_walk.specs.Walk.{Sought}
+use Rattle.import_columns.proofs.Lines.{numbers_missing, start_inside, end_inside, end_missing, feed_missing, line_stands, sought_none, sought_some}
 use Rattle.import_columns.proofs.line_of.Goals as goal
 
-pub past_numbers-start-requires : goal.past_numbers-start-requires
-past_numbers-start-requires c = c.requires.0
+pub numbers_end-requires : goal.numbers_end-requires
+numbers_end-requires c = c.requires
 
-pub returns-then-start-at : goal.returns-then-start-at
-returns-then-start-at c =
+pub returns-in_err-start : goal.returns-in_err-start
+returns-in_err-start c =
     let x = c.args in
-    sought_none x.s.now x.at x.position x.kind c.no_line.result c.no_line.ensures
-    (numbers_missing x.s.now x.at x.position (past_none x.s.now x.at x.position c.past_numbers-start.ensures c.if-start-at.true))
+    subst (Sought x.s.now x.at x.position x.kind) (sym c.from_residual.ensures)
+    (sought_none x.s.now x.at x.position x.kind (numbers_missing x.s.now x.at x.position c.in_err-start.ensures))
 
 pub value_end-end-requires : goal.value_end-end-requires
 value_end-end-requires c =
     let x = c.args in
-    let (there, after) = past_some x.s.now x.at x.position c.past_numbers-start.ensures c.if-start-at.false in
-    start_inside x.s.now x.at x.position there c.past_numbers-start.result after
+    let (there, after) = c.in_ok-start.ensures in
+    start_inside x.s.now x.at x.position there c.in_ok-start.start after
 
 pub returns-then-end-s : goal.returns-then-end-s
 returns-then-end-s c =
     let x = c.args in
-    let (there, after) = past_some x.s.now x.at x.position c.past_numbers-start.ensures c.if-start-at.false in
-    sought_none x.s.now x.at x.position x.kind c.no_line-then-end-s.result c.no_line-then-end-s.ensures
-    (end_missing x.s.now x.at x.position there c.past_numbers-start.result after c.value_end-end.result c.value_end-end.ensures (omega (arith, c.if-end-s.true)))
+    let (there, after) = c.in_ok-start.ensures in
+    sought_none x.s.now x.at x.position x.kind
+    (end_missing x.s.now x.at x.position there c.in_ok-start.start after c.value_end-end.result c.value_end-end.ensures (omega (arith, c.if-end-s.true)))
 
 pub bounds-s-end : goal.bounds-s-end
 bounds-s-end c =
     let x = c.args in
-    let (there, after) = past_some x.s.now x.at x.position c.past_numbers-start.ensures c.if-start-at.false in
-    omega (arith, c.if-end-s.false, end_inside x.s.now x.at x.position there c.past_numbers-start.result after c.value_end-end.result c.value_end-end.ensures)
+    let (there, after) = c.in_ok-start.ensures in
+    omega (arith, c.if-end-s.false, end_inside x.s.now x.at x.position there c.in_ok-start.start after c.value_end-end.result c.value_end-end.ensures)
 
 pub returns-then-s-end-ne10 : goal.returns-then-s-end-ne10
 returns-then-s-end-ne10 c =
     let x = c.args in
-    let (there, after) = past_some x.s.now x.at x.position c.past_numbers-start.ensures c.if-start-at.false in
-    sought_none x.s.now x.at x.position x.kind c.no_line-then-s-end-ne10.result c.no_line-then-s-end-ne10.ensures
-    (feed_missing x.s.now x.at x.position there c.past_numbers-start.result after c.value_end-end.result c.value_end-end.ensures c.if-s-end-ne10.true)
+    let (there, after) = c.in_ok-start.ensures in
+    sought_none x.s.now x.at x.position x.kind
+    (feed_missing x.s.now x.at x.position there c.in_ok-start.start after c.value_end-end.result c.value_end-end.ensures c.if-s-end-ne10.true)
 
 pub returns : goal.returns
 returns c =
     let x = c.args in
-    let start = c.past_numbers-start.result in
+    let start = c.in_ok-start.start in
     let end = c.value_end-end.result in
     let stop = c.value_end-end.ensures in
-    let (there, after) = past_some x.s.now x.at x.position c.past_numbers-start.ensures c.if-start-at.false in
+    let (there, after) = c.in_ok-start.ensures in
     let l : Line = record { kind = x.kind; position = x.position; start = start; end = end } in
     let short : end < length x.s.now = omega (arith, c.if-end-s.false, end_inside x.s.now x.at x.position there start after end stop) in
-    sought_some x.s.now x.at x.position x.kind l c.requires.1 refl
+    sought_some x.s.now x.at x.position x.kind l refl
     (line_stands x.s.now x.at x.position there start after end stop l refl refl refl short c.if-s-end-ne10.false)

@@ -1,66 +1,69 @@
--- `import_columns::put_lines` meets its contract. The loop's invariant: what is left of the values, stored from here, gives what all of them, stored at the start, give. What is left of the text falls. Assumes nothing.
-use Prim.Native.Nat.{◌-◌}
-use mathlib.Core.Path.{◌∙◌}
-use mathlib.Core.List.{[], ◌∷◌}
+-- `import_columns::put_lines` meets its contract. The loop's invariant: what is left of the values, put from here, gives what all of them, put at the start, give, and what is put is not over 32,000 bytes yet. What is left of the text falls. Assumes nothing.
 use native.Mathlib.Omega.{arith}
-use borrow.Author.Rules.{rules}
-use lib.ListN.{length}
-use Rattle.values.specs.Tokens.{separator}
-use Rattle.storing.proofs.Stores.{stored_length}
-use Rattle.emission_laws.specs.Emission.{emitted}
-use Rattle.import_columns.proofs.Passes.{line_in, line_inside, line_ahead, Storing, storing_start, storing_room, storing_fits, storing_next, storing_last, storing_done}
+use Rattle.import_columns.proofs.Passes.{line_in, line_inside, line_ahead, putting_start, putting_room, putting_long, putting_fits, putting_over, putting_next, putting_last, putting_done}
 use Rattle.import_columns.proofs.put_lines.Goals as goal
 
-pub loop-at-init : goal.loop-at-init
-loop-at-init c = storing_start c.args.c c.args.s.now c.requires.0 c.origin-p.ensures c.first_measure-m.ensures c.args.output.now c.requires.3
+pub loop-l-init : goal.loop-l-init
+loop-l-init g c = putting_start g.met.S.Sink.laws c.args.c c.args.s.now c.requires.0 c.origin-p.ensures c.first_measure-m.ensures c.args.output.now
 
-pub line_at-l-requires : goal.line_at-l-requires
-line_at-l-requires c = let g = c.loop-at.invariant.come in (g.rest.behind, c.loop-at-test.true, g.within)
+pub line_at-requires : goal.line_at-requires
+line_at-requires g c = let come = c.loop-l.invariant.come in (come.rest.behind, come.inside, come.within)
+
+pub overflow_sub-l : goal.overflow_sub-l
+overflow_sub-l g c =
+    let state = c.loop-l in
+    omega (arith, (line_in c.args.s.now state.at state.p c.in-Some.l state.invariant.come (c.line_at.ensures.some c.in-Some.l c.in-Some.is)).0)
+
+pub returns-then-l-gt-MOST_BYTES : goal.returns-then-l-gt-MOST_BYTES
+returns-then-l-gt-MOST_BYTES g c =
+    let x = c.args in
+    let state = c.loop-l in
+    putting_long g.met.S.Sink.laws x.c x.s.now c.requires.1 state.at state.p state.m state.invariant c.in-Some.l (c.line_at.ensures.some c.in-Some.l c.in-Some.is) c.if-l-gt-MOST_BYTES.true
 
 pub put_line-m-requires : goal.put_line-m-requires
-put_line-m-requires c =
+put_line-m-requires g c =
     let x = c.args in
-    let known = c.requires in
-    let state = c.loop-at in (
-      line_in x.s.now state.at state.p c.line_at-l.result state.invariant.come c.loop-at-test.true c.line_at-l.ensures,
-      storing_room x.c x.s.now known.1 known.2 state.at state.p state.m state.invariant,
-      storing_fits x.c x.s.now known.1 known.2 state.at state.p state.m state.invariant c.line_at-l.result c.loop-at-test.true c.line_at-l.ensures,
+    let state = c.loop-l in (
+      line_in x.s.now state.at state.p c.in-Some.l state.invariant.come (c.line_at.ensures.some c.in-Some.l c.in-Some.is),
+      putting_room g.met.S.Sink.laws x.c x.s.now c.requires.1 state.at state.p state.m state.invariant,
+      putting_fits g.met.S.Sink.laws x.c x.s.now c.requires.1 state.at state.p state.m state.invariant c.in-Some.l (c.line_at.ensures.some c.in-Some.l c.in-Some.is) c.requires.2
+          (omega (arith, c.if-l-gt-MOST_BYTES.false)),
     )
+
+pub returns-then-m-gt-MOST_BYTES : goal.returns-then-m-gt-MOST_BYTES
+returns-then-m-gt-MOST_BYTES g c =
+    let x = c.args in
+    let state = c.loop-l in
+    putting_over g.met.S.Sink.laws x.c x.s.now c.requires.1 state.at state.p state.m state.invariant c.in-Some.l (c.line_at.ensures.some c.in-Some.l c.in-Some.is) c.put_line-m.result c.put_line-m.ensures c.if-m-gt-MOST_BYTES.true
 
 pub overflow_add-at : goal.overflow_add-at
-overflow_add-at c =
-    let state = c.loop-at in
-    omega (arith, line_inside c.args.s.now state.at state.p c.line_at-l.result state.invariant.come c.loop-at-test.true c.line_at-l.ensures)
+overflow_add-at g c =
+    let state = c.loop-l in
+    omega (arith, line_inside c.args.s.now state.at state.p c.in-Some.l state.invariant.come (c.line_at.ensures.some c.in-Some.l c.in-Some.is))
 
-pub loop-at-smaller : goal.loop-at-smaller
-loop-at-smaller c =
-    let state = c.loop-at in
-    omega (arith, c.loop-at-test.true, line_ahead c.args.s.now state.at state.p c.line_at-l.result state.invariant.come c.loop-at-test.true c.line_at-l.ensures)
+pub loop-l-smaller : goal.loop-l-smaller
+loop-l-smaller g c =
+    let state = c.loop-l in
+    let leading = c.line_at.ensures.some c.in-Some.l c.in-Some.is in
+    omega (arith, line_ahead c.args.s.now state.at state.p c.in-Some.l state.invariant.come leading, line_inside c.args.s.now state.at state.p c.in-Some.l state.invariant.come leading)
 
-pub loop-at-preserved : goal.loop-at-preserved
-loop-at-preserved c =
+pub loop-l-preserved : goal.loop-l-preserved
+loop-l-preserved g c =
     let x = c.args in
-    let known = c.requires in
-    let state = c.loop-at in
-    storing_next x.c x.s.now known.1 known.2 state.at state.p state.m state.invariant c.line_at-l.result c.loop-at-test.true c.line_at-l.ensures c.put_line-m.result c.put_line-m.ensures
+    let state = c.loop-l in
+    putting_next g.met.S.Sink.laws x.c x.s.now c.requires.1 state.at state.p state.m state.invariant c.in-Some.l (c.line_at.ensures.some c.in-Some.l c.in-Some.is) c.put_line-m.result c.put_line-m.ensures
+    (omega (arith, c.if-m-gt-MOST_BYTES.false))
 
 pub put_separator-requires : goal.put_separator-requires
-put_separator-requires c =
+put_separator-requires g c =
     let x = c.args in
-    let known = c.requires in
-    let state = c.loop-at in (
-      storing_last x.c x.s.now known.1 known.2 state.at state.p state.m state.invariant c.loop-at-test.false,
-      omega (arith, storing_room x.c x.s.now known.1 known.2 state.at state.p state.m state.invariant),
+    let state = c.loop-l in (
+      putting_last g.met.S.Sink.laws x.c x.s.now c.requires.1 state.at state.p state.m state.invariant c.line_at.ensures c.in_default.is c.requires.2,
+      omega (arith, putting_room g.met.S.Sink.laws x.c x.s.now c.requires.1 state.at state.p state.m state.invariant),
     )
 
-pub shape_of-output : goal.shape_of-output
-shape_of-output c =
-    let state = c.loop-at in
-    stored_length state.output state.m.total (emitted c.args.c state.m.held (separator 0 0 ∷ [])) c.put_separator.ensures.0 ∙ state.invariant.goes.as_long
-
 pub returns : goal.returns
-returns c =
+returns g c =
     let x = c.args in
-    let known = c.requires in
-    let state = c.loop-at in
-    storing_done x.c x.s.now known.1 known.2 state.at state.p state.m state.invariant c.loop-at-test.false c.put_separator.ensures
+    let state = c.loop-l in
+    putting_done g.met.S.Sink.laws x.c x.s.now c.requires.1 state.at state.p state.m state.invariant c.line_at.ensures c.in_default.is c.put_separator.ensures

@@ -3,7 +3,6 @@
 use native.Mathlib.Omega.{arith}
 use Rattle.length_bound.proofs.Bound.{most_low}
 use Rattle.judge.proofs.Stages.{begins_in, form_most}
-use borrow.Author.Rules.{rules}
 use Rattle.judge.proofs.most_length.Goals as goal
 
 pub overflow_sub-twice : goal.overflow_sub-twice

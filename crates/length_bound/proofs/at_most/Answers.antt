@@ -1,7 +1,9 @@
 -- `length_bound::at_most` meets its contract: where the characters are the normal form's nothing is counted. Assumes nothing.
 use native.Mathlib.Omega.{arith}
 use mathlib.Core.Path.{sym, ◌∙◌}
-use lib.ListN.{drop, length-drop}
+use Prim.Native.Nat.{◌-◌}
+use lib.ListN.{length, drop, length-drop}
+use lib.Seq.{take_all}
 use Rattle.length_bound.specs.Unshared.{is_unshared}
 use Rattle.length_bound.proofs.Counted.{counted_most}
 use Rattle.length_bound.proofs.Bound.{most_normal, most_counted}
@@ -24,7 +26,7 @@ overflow_add-result c =
     let n = c.normal_characters-n.result in
     omega (
       arith,
-      c.count_unshared.ensures,
+      rw (take_all (length x.s.now - x.start) body (omega (arith, length-drop x.start x.s.now))) at c.count_unshared.ensures,
       counted_most (is_unshared n c.unshared_of.result) body,
       length-drop x.start x.s.now,
     )
@@ -36,5 +38,6 @@ returns c =
     omega (
       arith,
       length-drop x.start x.s.now,
-      most_counted x.c x.repetition body c.normal_characters-n.ensures c.unshared_of.ensures c.count_unshared.ensures,
+      most_counted x.c x.repetition body c.normal_characters-n.ensures c.unshared_of.ensures
+          (rw (take_all (length x.s.now - x.start) body (omega (arith, length-drop x.start x.s.now))) at c.count_unshared.ensures),
     )

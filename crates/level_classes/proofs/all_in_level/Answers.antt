@@ -1,5 +1,5 @@
 -- `level_classes::all_in_level` meets its contract. The loop's invariant: all bytes from the start are in the level just where those so far
--- were and all from `at` are. What is left of the input falls. Assumes nothing.
+-- were and all from `at` are. Assumes nothing.
 use Rattle.std.proofs.Common.{sym, refl, ◌∙◌, arith}
 use Rattle.levels.specs.Levels.{in_level}
 use Rattle.level_classes.proofs.Bytes.{gathered_next, gathered_end}
@@ -7,9 +7,6 @@ use Rattle.level_classes.proofs.all_in_level.Goals as goal
 
 pub loop-at-init : goal.loop-at-init
 loop-at-init c = refl
-
-pub loop-at-smaller : goal.loop-at-smaller
-loop-at-smaller c = omega arith
 
 pub loop-at-preserved : goal.loop-at-preserved
 loop-at-preserved c =

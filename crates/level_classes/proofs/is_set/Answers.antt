@@ -1,5 +1,5 @@
 -- `level_classes::is_set` meets its contract: a byte's number in the mask is counted round after 255. Assumes nothing.
-use Rattle.std.proofs.Common.{arith}
+use Rattle.std.proofs.Common.{◌+◌, ◌-◌, ◌%◌, arith}
 use Rattle.level_classes.specs.Masks.{bit_set}
 use Rattle.level_classes.proofs.Classes.{set_counted}
 use Rattle.level_classes.proofs.is_set.Goals as goal
@@ -8,5 +8,4 @@ pub returns : goal.returns
 unfolding bit_set
 returns c =
     let args = c.args in
-    let k = c.wrapping_sub_u8-k.result in
-    set_counted args.mask args.first args.b k (omega arith) c.requires (omega arith) c.wrapping_sub_u8-k.ensures.value
+    set_counted args.mask args.first args.b ((args.b + (256 - args.first)) % 256) (omega arith) c.requires (omega arith) (omega arith)

@@ -1,10 +1,10 @@
 -- `line_breaks::copy_unbroken` meets its contract. The loop's invariant: what is left of the text, stored from here, gives what the whole,
 -- stored at the start, gives; and it ends where the whole ends. What is left of the input falls. Assumes nothing.
-use Prim.Native.Nat.{ℕ}
+use Prim.Native.Nat.{ℕ, ◌+◌}
 use mathlib.Core.Path.{◌≡◌, refl, sym, ap, ◌∙◌}
 use mathlib.Core.List.{List, [], ◌∷◌}
 use native.Mathlib.Omega.{arith}
-use lib.ListN.{length, get_or, drop, length-set}
+use lib.ListN.{length, set, get_or, drop, length-set}
 use lib.Seq.{sets}
 use Rattle.line_breaks.specs.Unbroken.{unbroken}
 use Rattle.line_breaks.proofs.Unbroken.{unbroken_inside, unbroken_next, stored_next}
@@ -38,7 +38,9 @@ loop-to-preserved c =
     let s = c.args.s.now in
     let loop = c.loop-to in
     let inside = unbroken_inside c.args.s.now c.loop-to.at (omega arith) in (
-      loop.invariant.0 ∙ stored_next s loop.at loop.buffer loop.to inside (omega arith),
+      loop.invariant.0
+          ∙ stored_next s loop.at loop.buffer loop.to inside (omega arith)
+          ∙ ap (λ (n : ℕ). sets (set loop.buffer loop.to (get_or s loop.at 0)) (loop.to + n) (unbroken (drop (loop.at + 1) s))) (sym c.from-to.ensures),
       length-set loop.buffer loop.to (get_or s loop.at 0) ∙ loop.invariant.1,
       omega (arith, unbroken_next s loop.at inside),
       loop.invariant.3,

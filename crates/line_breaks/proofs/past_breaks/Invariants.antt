@@ -1,13 +1,8 @@
 -- `line_breaks::past_breaks` meets its contract. The loop's invariant: the place after the breaks from the start is the one after the breaks
--- from `at`. What is left of the input falls. Assumes nothing.
-use Prim.Native.Nat.{◌-◌}
+-- from `at`. Assumes nothing.
 use mathlib.Core.Path.{◌≡◌}
-use lib.ListN.{length}
 use Rattle.characters.specs.Characters.{after_breaks}
 use Rattle.line_breaks.proofs.past_breaks.Given as goal
 
 abbrev pub invariant-loop-at : goal.invariant-loop-at
 invariant-loop-at l = after_breaks l.s l.from ≡ after_breaks l.s l.at
-
-abbrev pub decreases-loop-at : goal.decreases-loop-at
-decreases-loop-at l = length l.s - l.at

@@ -1,30 +1,24 @@
--- `line_breaks::unbroken_length` meets its contract. The loop's invariant: what is counted, and what is left from `at`, is what was there from
--- the start. What is left of the input falls. Assumes nothing.
+-- `line_breaks::unbroken_length` meets its contract. The loop's invariant: what is counted, and what is left, is what was there from the
+-- start. What is left falls. Assumes nothing.
+use mathlib.Core.Path.{ap, ◌∙◌}
 use native.Mathlib.Omega.{arith}
-use lib.ListN.{drop, length-drop}
-use Rattle.line_breaks.proofs.Unbroken.{unbroken_most, unbroken_end}
+use lib.ListN.{length, drop, length-drop}
+use Rattle.line_breaks.specs.Unbroken.{unbroken}
+use Rattle.line_breaks.proofs.Unbroken.{unbroken_append, unbroken_most}
 use Rattle.line_breaks.proofs.unbroken_length.Goals as goal
-
-pub loop-at-init : goal.loop-at-init
-loop-at-init c = omega arith
-
-pub part_end-end-requires : goal.part_end-end-requires
-part_end-end-requires c = omega arith
-
-pub part_length-requires : goal.part_length-requires
-part_length-requires c = (c.part_end-end.ensures.0, c.part_end-end.ensures.1, c.part_end-end.ensures.2)
 
 pub overflow_add-count : goal.overflow_add-count
 overflow_add-count c =
-    let s = c.args.s.now in
-    let start = c.args.start in
-    omega (arith, c.part_length.ensures, unbroken_most (drop start s), length-drop start s)
+    let (part, after) = c.split_at.result in
+    let split = ap (λ (l : _). length (unbroken l)) c.split_at.ensures.by_index.0 ∙ unbroken_append part.now after.now in
+    omega (arith, c.part_length.ensures, unbroken_most (drop c.args.start c.args.s.now), length-drop c.args.start c.args.s.now)
 
-pub loop-at-smaller : goal.loop-at-smaller
-loop-at-smaller c = omega (arith, c.part_end-end.ensures.3 (omega arith))
+pub loop-rest-preserved : goal.loop-rest-preserved
+loop-rest-preserved c =
+    let (part, after) = c.split_at.result in
+    let split = ap (λ (l : _). length (unbroken l)) c.split_at.ensures.by_index.0 ∙ unbroken_append part.now after.now in
+    omega (arith, c.part_length.ensures)
 
-pub loop-at-preserved : goal.loop-at-preserved
-loop-at-preserved c = omega (arith, c.part_length.ensures)
-
-pub returns : goal.returns
-returns c = omega (arith, unbroken_end c.args.s.now c.loop-at.at (omega arith))
+pub overflow_add-result : goal.overflow_add-result
+overflow_add-result c =
+    omega (arith, c.part_length-2.ensures, unbroken_most (drop c.args.start c.args.s.now), length-drop c.args.start c.args.s.now)

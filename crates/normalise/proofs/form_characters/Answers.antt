@@ -1,5 +1,4 @@
 -- `normalise::form_characters` meets its contract: Judge said which characters the interchange uses. Assumes nothing.
-use borrow.Author.Rules.{rules}
 use Rattle.judge.proofs.Told.{characters_of_lem}
 use Rattle.normalise.proofs.form_characters.Goals as goal
 

@@ -1,6 +1,5 @@
 -- `normalise::spelled_with` meets its contract: the mark is the input's, and its header gives the fifth byte. Assumes nothing.
 use mathlib.Core.Path.{◌∙◌}
-use borrow.Author.Rules.{rules}
 use Rattle.normalise.proofs.Storing.{characters_are}
 use Rattle.normalise.proofs.spelled_with.Goals as goal
 

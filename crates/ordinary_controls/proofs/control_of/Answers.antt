@@ -2,13 +2,12 @@
 use Rattle.ordinary_controls.proofs.Standing.{header_controls, trailer_controls}
 use Rattle.ordinary_controls.proofs.control_of.Goals as goal
 
-pub returns-then-p-eq0 : goal.returns-then-p-eq0
-returns-then-p-eq0 c =
+pub returns-in-0-default : goal.returns-in-0-default
+returns-in-0-default c =
     let x = c.args in
-    header_controls x.c x.s.now x.at x.p x.header x.count c.header_control.result c.if-p-eq0.true c.header_control.ensures
+    header_controls x.c x.s.now x.at x.p x.header x.count c.header_control.result c.in-0-default.is-0 c.header_control.ensures
 
-pub returns : goal.returns
-returns c =
+pub returns-in-1-eq2 : goal.returns-in-1-eq2
+returns-in-1-eq2 c =
     let x = c.args in
-    trailer_controls x.c x.s.now x.at x.p x.header x.count c.trailer_control.result c.if-p-ne1.false
-    c.if-p-ne2.false c.trailer_control.ensures
+    trailer_controls x.c x.s.now x.at x.p x.header x.count c.trailer_control.result c.in-1-eq2.is-0 c.in-1-eq2.is-1 c.trailer_control.ensures

@@ -3,7 +3,6 @@ use Prim.Native.Nat.{◌-◌}
 use mathlib.Core.Path.{sym, ◌∙◌}
 use mathlib.Core.Bool.{false≢true}
 use native.Mathlib.Omega.{arith}
-use borrow.Author.Tests.{not-false}
 use Rattle.ordinary_controls.proofs.Standing.{repeats_is}
 use Rattle.ordinary_controls.proofs.repeats.Goals as goal
 
@@ -12,18 +11,15 @@ returns-then-not-refers c e = absurd (false≢true e)
 
 pub overflow_add-other : goal.overflow_add-other
 overflow_add-other c =
-    let r = c.refers.ensures (not-false _ c.if-not-refers.false-raw) in
+    let r = c.refers.ensures c.if-not-refers.false in
     let found = c.same_run-end in
     let from = c.args.from in
     let last = found.ensures.1 (found.result - from - 1) (omega (arith, r.some)) in
     omega (arith, r.some, last.0)
 
-pub returns-then-s-other : goal.returns-then-s-other
-returns-then-s-other c e = absurd (false≢true e)
-
-pub returns : goal.returns
-returns c e =
+pub returns-then-other-s : goal.returns-then-other-s
+returns-then-other-s c e =
     let found = c.same_run-end in
     let x = c.args in
-    repeats_is x.c x.s.now c.requires x.from x.header found.result found.ensures
-    (c.refers.ensures (not-false _ c.if-not-refers.false-raw)) (omega arith) (sym c.ends_element.ensures ∙ e)
+    repeats_is x.c x.s.now c.requires.0 x.from x.header found.result found.ensures
+    (c.refers.ensures c.if-not-refers.false) (omega arith) (sym c.ends_element.ensures ∙ e)

@@ -1,72 +1,34 @@
--- `ordinary_runs::put_run` meets its contract. The loop's invariant: the bytes before `at` are a run, and are stored. What is left of the input
--- falls. Assumes nothing.
+-- `ordinary_runs::put_run` meets its contract. The loop's invariant: the bytes before `at` are a run, and are put. Assumes nothing.
 use Prim.Native.Nat.{◌-◌}
-use mathlib.Core.Path.{sym, ◌∙◌}
+use mathlib.Core.Path.{refl, sym, ◌∙◌}
 use native.Mathlib.Omega.{arith}
-use lib.ListN.{length, take, drop}
-use borrow.Author.Tests.{not-false}
-use Rattle.storing.proofs.Stores.{stored_length}
-use Rattle.ordinary_runs.proofs.Runs.{run_none, run_next_lem, none_stored, run_room, run_stored}
+use lib.ListN.{take, drop}
+use Rattle.storing.proofs.Putting.{room_left}
+use Rattle.ordinary_runs.proofs.Runs.{run_none, run_next_lem, run_room, empty_run_put, longer_run_put}
 use Rattle.ordinary_runs.proofs.put_run.Goals as goal
 
-pub returns-then-not-calm : goal.returns-then-not-calm
-returns-then-not-calm c =
-    let x = c.args in
-    (run_none x.s.now x.from, none_stored x.s.now x.from x.into x.buffer.now)
-
 pub loop-at-init : goal.loop-at-init
-loop-at-init c =
+loop-at-init g c =
     let x = c.args in
-    (run_none x.s.now x.from, none_stored x.s.now x.from x.into x.buffer.now, omega arith)
+    (run_none x.s.now x.from, empty_run_put g.met.S.Sink.laws x.s.now x.from x.into x.buffer.now, omega arith)
 
-pub shape_of-buffer-then-not-is_ordinary : goal.shape_of-buffer-then-not-is_ordinary
-shape_of-buffer-then-not-is_ordinary c =
-    let x = c.args in
-    let state = c.loop-at in
-    stored_length x.buffer.now x.into (take (state.at - x.from) (drop x.from x.s.now)) state.invariant.1
-
-pub returns-then-not-is_ordinary : goal.returns-then-not-is_ordinary
-returns-then-not-is_ordinary c = let state = c.loop-at in (state.invariant.0, state.invariant.1)
-
-pub bounds-buffer-to : goal.bounds-buffer-to
-bounds-buffer-to c =
+pub set-requires : goal.set-requires
+set-requires g c =
     let x = c.args in
     let state = c.loop-at in
     let o = c.is_ordinary in
-    let calm = not-false x.calm c.if-not-calm.false-raw in
-    let run = run_next_lem x.s.now x.from calm state.invariant.0 (omega arith) (sym o.ensures ∙ not-false o.result c.if-not-is_ordinary.false-raw) in
-    let room = run_room x.s.now state.invariant.0.0 x.into (length x.buffer.now) c.requires run in
-    omega (arith, room, state.invariant.2, stored_length x.buffer.now x.into (take (state.at - x.from) (drop x.from x.s.now)) state.invariant.1)
-
-pub overflow_add-to : goal.overflow_add-to
-overflow_add-to c =
-    let x = c.args in
-    let state = c.loop-at in
-    let o = c.is_ordinary in
-    let calm = not-false x.calm c.if-not-calm.false-raw in
-    let run = run_next_lem x.s.now x.from calm state.invariant.0 (omega arith) (sym o.ensures ∙ not-false o.result c.if-not-is_ordinary.false-raw) in
-    let room = run_room x.s.now state.invariant.0.0 x.into (length x.buffer.now) c.requires run in
-    omega (arith, room, state.invariant.2)
-
-pub loop-at-smaller : goal.loop-at-smaller
-loop-at-smaller c = omega arith
+    let calm = c.if-not-calm.false in
+    let run = run_next_lem x.s.now x.from calm state.invariant.0 (omega arith) (sym o.ensures ∙ c.if-not-is_ordinary.false) in
+    let room = run_room x.s.now state.invariant.0.0 x.into (g.S.Sink.room x.buffer.now) c.requires run in
+    omega (arith, room, room_left g.met.S.Sink.laws x.buffer.now x.into (take (state.at - x.from) (drop x.from x.s.now)) state.invariant.1)
 
 pub loop-at-preserved : goal.loop-at-preserved
-loop-at-preserved c =
+loop-at-preserved g c =
     let x = c.args in
     let state = c.loop-at in
     let o = c.is_ordinary in
-    let calm = not-false x.calm c.if-not-calm.false-raw in (
-      run_next_lem x.s.now x.from calm state.invariant.0 (omega arith) (sym o.ensures ∙ not-false o.result c.if-not-is_ordinary.false-raw),
-      run_stored x.s.now state.invariant.0.0 x.buffer.now x.into (omega arith) state.invariant.1 state.invariant.2,
-      omega (arith, state.invariant.0.0, state.invariant.2),
+    let calm = c.if-not-calm.false in (
+      run_next_lem x.s.now x.from calm state.invariant.0 (omega arith) (sym o.ensures ∙ c.if-not-is_ordinary.false),
+      longer_run_put g.met.S.Sink.laws x.s.now state.invariant.0.0 x.buffer.now x.into (omega arith) state.invariant.1 refl c.set.ensures,
+      omega arith,
     )
-
-pub shape_of-buffer : goal.shape_of-buffer
-shape_of-buffer c =
-    let x = c.args in
-    let state = c.loop-at in
-    stored_length x.buffer.now x.into (take (state.at - x.from) (drop x.from x.s.now)) state.invariant.1
-
-pub returns : goal.returns
-returns c = let state = c.loop-at in (state.invariant.0, state.invariant.1)

@@ -21,11 +21,7 @@ pub use Rattle.segments.specs.Tags.{kind_of}
 pub use Rattle.control_elements.specs.Control.{control_rule, reference_differs, decimal, count_wrong}
 pub use Rattle.stages.specs.Contents.{body_tokens, segments_of, contents, normal_form}
 pub use Rattle.answers.specs.declared.Figures.{Figures}
-pub use Rattle.answers.specs.declared.Judged.TheVariants as judged
-pub use Rattle.answers.specs.declared.Stored.TheVariants as stored
-pub use Rattle.answers.specs.declared.Compared.TheVariants as compared
-pub use Rattle.answers.specs.declared.Located.TheVariants as located
-pub use Rattle.answers.specs.declared.Listed.TheVariants as listed
+pub use Rattle.answers.specs.declared.Unaccepted.TheVariants.{First, Second}
 pub use Rattle.answers.specs.Answers.{Answer, told_judged, told_stored, told_compared, told_located, told_listed}
 pub use Rattle.operations.specs.Judge.{judge}
 pub use Rattle.operations.specs.ValueList.{Item, list_of, list_bytes, list_table, listed_in, segments_listed, trim_list}

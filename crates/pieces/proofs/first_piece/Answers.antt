@@ -7,10 +7,10 @@ use Rattle.pieces.proofs.first_piece.Goals as goal
 pub returns-then-rest-eq0 : goal.returns-then-rest-eq0
 returns-then-rest-eq0 c = ending_none _ c.if-rest-eq0.true
 
-pub returns-in-Refused : goal.returns-in-Refused
-returns-in-Refused c = ending_unopened _ c.if-rest-eq0.false c.opening_of.ensures c.in-Refused.is
+pub returns-in-Err : goal.returns-in-Err
+returns-in-Err c = ending_unopened _ c.if-rest-eq0.false c.opening_of.ensures c.in-Err.is
 
-pub returns-in-Passed : goal.returns-in-Passed
-returns-in-Passed c =
+pub returns-in-Ok : goal.returns-in-Ok
+returns-in-Ok c =
     c.unz_ending.ensures
-    ∙ ending_opened _ c.if-rest-eq0.false c.opening_of.ensures c.in-Passed.is
+    ∙ ending_opened _ c.if-rest-eq0.false c.opening_of.ensures c.in-Ok.is

@@ -18,7 +18,7 @@ returns-then-buffer-tally c =
     let d = characters_of_lem s c.requires.1 in
     let p = c.body_start-start.ensures in
     let n = bytes_refused c.args.buffer.now c.args.table.now s a (bytes_needed s a d p c.tally_of-tally.ensures.0) c.if-buffer-tally.true in
-    (ap told_listed c.too_short.ensures ∙ n.0, n.1, n.2)
+    (ap told_listed c.failed.ensures ∙ n.0, n.1, n.2)
 
 pub returns-then-table-tally : goal.returns-then-table-tally
 returns-then-table-tally c =
@@ -30,7 +30,7 @@ returns-then-table-tally c =
     let n =
     table_refused c.args.buffer.now c.args.table.now s a (bytes_needed s a d p t.0) c.if-buffer-tally.false
     (numbers_needed s a d p t.1) c.if-table-tally.true in
-    (ap told_listed c.too_short-then-table-tally.ensures ∙ n.0, n.1, n.2)
+    (ap told_listed c.failed-then-table-tally.ensures ∙ n.0, n.1, n.2)
 
 pub put_values-requires : goal.put_values-requires
 put_values-requires c =
@@ -47,6 +47,6 @@ returns c =
     let d = characters_of_lem s c.requires.1 in
     let p = c.body_start-start.ensures in
     let t = c.tally_of-tally.ensures in
-    let e = c.put_values.ensures in
+    let e = c.put_values.ensures.0 in
     list_stored buffer table s a (bytes_needed s a d p t.0) c.if-buffer-tally.false (numbers_needed s a d p t.1) c.if-table-tally.false
     (bytes_are s a d p) (table_is s a d p) e.0 e.1

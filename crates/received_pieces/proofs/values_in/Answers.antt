@@ -5,7 +5,6 @@ use Prim.Native.Nat.{◌+◌, ◌-◌}
 use mathlib.Core.Path.{refl, sym, ap, subst}
 use native.Mathlib.Omega.{arith}
 use lib.ListN.{length}
-use borrow.Author.Rules.{rules}
 use Rattle.values.specs.Tokens.{tokens_at}
 use Rattle.read_counts.specs.declared.Listing.{Listing}
 use Rattle.read_counts.proofs.Steps.{Tallied, tallied_start, tallied_byte, tallied_separator, tallied_end}

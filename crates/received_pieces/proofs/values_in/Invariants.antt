@@ -2,15 +2,10 @@
 -- a terminator that ends it, are the whole; and there is at most a value and a byte of a value for each byte passed. What is left of the
 -- input falls. Assumes nothing.
 use Prim.Native.Nat.{◌+◌, ◌-◌}
-use mathlib.Core.Path.{refl, sym, ap, subst}
-use native.Mathlib.Omega.{arith}
 use lib.ListN.{length}
-use borrow.Author.Rules.{rules}
 use Rattle.values.specs.Tokens.{tokens_at}
-use Rattle.read_counts.specs.declared.Listing.{Listing}
-use Rattle.read_counts.proofs.Steps.{Tallied, tallied_start, tallied_byte, tallied_separator, tallied_end}
+use Rattle.read_counts.proofs.Steps.{Tallied}
 use Rattle.received_pieces.specs.Pieces.{piece_of, ended}
-use Rattle.received_pieces.proofs.Steps.{next_as}
 use Rattle.received_pieces.proofs.values_in.Given as goal
 
 abbrev pub invariant-loop-next : goal.invariant-loop-next

@@ -1,10 +1,8 @@
 -- `report::figures_of` meets its contract. The loop's invariant: the pieces that ended before `at` are counted, and the others are those of
 -- what is left. What is left of the file falls. Assumes nothing.
-use Prim.Native.Nat.{◌+◌, ◌-◌}
+use Prim.Native.Nat.{◌+◌}
 use mathlib.Core.Path.{sym, subst}
 use native.Mathlib.Omega.{arith}
-use lib.ListN.{length}
-use borrow.Author.Rules.{rules}
 use Rattle.report.proofs.Going.{UpTo, countable, up_to_start, up_to_within, up_to_end, next_above, next_within, up_to_next}
 use Rattle.report.proofs.figures_of.Goals as goal
 

@@ -20,14 +20,14 @@ unfolding found_by
 standing_passed-requires c =
     let s = c.args.s.now in
     let known = c.requires in
-    (through_twelve s known.0 (passed_is (answering (stages_in s 10 12)) (sym (control_answer s known.1 c.check.ensures) ∙ c.in-Passed.is)), known.1)
+    (through_twelve s known.0 (passed_is (answering (stages_in s 10 12)) (sym (control_answer s known.1 c.check.ensures) ∙ c.in-Ok.is)), known.1)
 
-pub returns-in-Failed : goal.returns-in-Failed
-returns-in-Failed c =
+pub returns-in-Err : goal.returns-in-Err
+returns-in-Err c =
     let s = c.args.s.now in
     let known = c.requires in
     reported_found s known.1 17
-    ∙ control_refused s known.0 (failed_is (answering (stages_in s 10 12)) c.in-Failed.field-0 (sym (control_answer s known.1 c.check.ensures) ∙ c.in-Failed.is))
+    ∙ control_refused s known.0 (failed_is (answering (stages_in s 10 12)) c.in-Err.field-0 (sym (control_answer s known.1 c.check.ensures) ∙ c.in-Err.is))
 
-pub returns-in-Passed : goal.returns-in-Passed
-returns-in-Passed c = c.standing_passed.ensures
+pub returns-in-Ok : goal.returns-in-Ok
+returns-in-Ok c = c.standing_passed.ensures

@@ -5,8 +5,8 @@ use Rattle.run_respell.proofs.Fits.{form_within}
 use Rattle.run_respell.proofs.compare_in_place.Goals as goal
 
 pub slice_bounds-compare_text-end : goal.slice_bounds-compare_text-end
-slice_bounds-compare_text-end c = form_within _ _ c.normalise.ensures.0 c.in-Length.is c.normalise.ensures.1
+slice_bounds-compare_text-end c = form_within _ _ c.normalise.ensures.0 c.in-Ok.is c.normalise.ensures.1
 
-pub slice_bounds-compare_text-end-in-Length : goal.slice_bounds-compare_text-end-in-Length
-slice_bounds-compare_text-end-in-Length c =
-    sym (length-take-le _ _ (form_within _ _ c.normalise.ensures.0 c.in-Length.is c.normalise.ensures.1))
+pub slice_bounds-compare_text-end-in-Ok : goal.slice_bounds-compare_text-end-in-Ok
+slice_bounds-compare_text-end-in-Ok c =
+    sym (length-take-le _ _ (form_within _ _ c.normalise.ensures.0 c.in-Ok.is c.normalise.ensures.1))

@@ -4,9 +4,9 @@ use Rattle.std.proofs.lemmas.List.{length-take-le}
 use Rattle.run_respell.proofs.Fits.{form_within}
 use Rattle.run_respell.proofs.compare_text.Goals as goal
 
-pub slice_bounds-same_forms-end : goal.slice_bounds-same_forms-end
-slice_bounds-same_forms-end c = form_within _ _ c.normalise.ensures.0 c.in-Length.is c.normalise.ensures.1
+pub slice_bounds-equal-end : goal.slice_bounds-equal-end
+slice_bounds-equal-end c = form_within _ _ c.normalise.ensures.0 c.in-Ok.is c.normalise.ensures.1
 
-pub slice_bounds-same_forms-end-in-Length : goal.slice_bounds-same_forms-end-in-Length
-slice_bounds-same_forms-end-in-Length c =
-    sym (length-take-le _ _ (form_within _ _ c.normalise.ensures.0 c.in-Length.is c.normalise.ensures.1))
+pub slice_bounds-equal-end-in-Ok : goal.slice_bounds-equal-end-in-Ok
+slice_bounds-equal-end-in-Ok c =
+    sym (length-take-le _ _ (form_within _ _ c.normalise.ensures.0 c.in-Ok.is c.normalise.ensures.1))

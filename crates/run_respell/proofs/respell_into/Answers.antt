@@ -5,15 +5,15 @@ use Rattle.run_respell.proofs.Fits.{bytes_within, numbers_within}
 use Rattle.run_respell.proofs.respell_into.Goals as goal
 
 pub slice_bounds-write_values-end : goal.slice_bounds-write_values-end
-slice_bounds-write_values-end c = bytes_within _ _ _ c.read.ensures.0 c.in-Values.is c.read.ensures.1
+slice_bounds-write_values-end c = bytes_within _ _ _ c.read.ensures.0 c.in-Ok.is c.read.ensures.1
 
-pub slice_bounds-write_values-end-in-Values : goal.slice_bounds-write_values-end-in-Values
-slice_bounds-write_values-end-in-Values c =
-    sym (length-take-le _ _ (bytes_within _ _ _ c.read.ensures.0 c.in-Values.is c.read.ensures.1))
+pub slice_bounds-write_values-end-in-Ok : goal.slice_bounds-write_values-end-in-Ok
+slice_bounds-write_values-end-in-Ok c =
+    sym (length-take-le _ _ (bytes_within _ _ _ c.read.ensures.0 c.in-Ok.is c.read.ensures.1))
 
 pub slice_bounds-table-end : goal.slice_bounds-table-end
-slice_bounds-table-end c = numbers_within _ _ _ c.read.ensures.0 c.in-Values.is c.read.ensures.2
+slice_bounds-table-end c = numbers_within _ _ _ c.read.ensures.0 c.in-Ok.is c.read.ensures.2
 
-pub slice_bounds-write_values-end-in-Values-2 : goal.slice_bounds-write_values-end-in-Values-2
-slice_bounds-write_values-end-in-Values-2 c =
-    sym (length-take-le _ _ (numbers_within _ _ _ c.read.ensures.0 c.in-Values.is c.read.ensures.2))
+pub slice_bounds-write_values-end-in-Ok-2 : goal.slice_bounds-write_values-end-in-Ok-2
+slice_bounds-write_values-end-in-Ok-2 c =
+    sym (length-take-le _ _ (numbers_within _ _ _ c.read.ensures.0 c.in-Ok.is c.read.ensures.2))

@@ -2,5 +2,5 @@
 use Rattle.run_respell.proofs.Fits.{text_within}
 use Rattle.run_respell.proofs.write_values.Goals as goal
 
-pub returns-in-Length : goal.returns-in-Length
-returns-in-Length c = text_within _ _ _ _ c.write.ensures.0 c.in-Length.is c.write.ensures.1
+pub returns-in-Ok : goal.returns-in-Ok
+returns-in-Ok c = text_within _ _ _ _ c.write.ensures.0 c.in-Ok.is c.write.ensures.1

@@ -1,13 +1,8 @@
--- `scanner::holds_either` meets its contract. The loop's invariant: where nothing was found so far, the bytes before `at` are others. What is
--- left up to the end falls. Assumes nothing.
-use Prim.Native.Nat.{◌+◌, ◌≤◌, ◌-◌}
+-- `scanner::holds_either` meets its contract. The loop's invariant: where nothing was found so far, the bytes before `at` are others. Assumes nothing.
 use mathlib.Core.Path.{◌≡◌}
 use mathlib.Core.Bool.{false}
 use Rattle.scanner.specs.Scan.{Others}
 use Rattle.scanner.proofs.holds_either.Given as goal
 
 abbrev pub invariant-loop-at : goal.invariant-loop-at
-invariant-loop-at l = (l.at ≤ l.from + 16) × (l.found ≡ false → Others l.a l.b l.s l.from l.at)
-
-abbrev pub decreases-loop-at : goal.decreases-loop-at
-decreases-loop-at l = l.from + 16 - l.at
+invariant-loop-at l = l.found ≡ false → Others l.a l.b l.s l.from l.at

@@ -1,20 +1,8 @@
--- `segment_ends::first_stop` meets its contract. The loop's invariant: each byte up to the `k`th that comes before the first stop is reached, and
--- the five places stand side by side. What is left of thirty-two falls. Assumes nothing.
-use Prim.Native.Nat.{◌+◌, ◌≤◌, ◌-◌}
-use mathlib.Core.Path.{◌≡◌}
+-- `segment_ends::first_stop` meets its contract. The loop's invariant: each byte up to the `k`th that comes before the first stop is reached. Assumes nothing.
+use Prim.Native.Nat.{◌+◌, ◌≤◌}
 use Rattle.release_marks.proofs.Reaching.{Stopping}
 use Rattle.segment_ends.specs.Releases.{Told}
 use Rattle.segment_ends.proofs.first_stop.Given as goal
 
 abbrev pub invariant-loop-k : goal.invariant-loop-k
-invariant-loop-k l = (l.k ≤ 32)
-    × (l.w ≡ l.from + l.k)
-    × (l.x ≡ l.w + 1)
-    × (l.y ≡ l.w + 1 + 1)
-    × (l.z ≡ l.w + 1 + 1 + 1)
-    × (l.a ≡ l.w + 1 + 1 + 1 + 1)
-    × (l.first ≤ 32)
-    × Stopping (Told l.c l.s (l.from + 4)) l.c l.s l.from l.k l.first
-
-abbrev pub decreases-loop-k : goal.decreases-loop-k
-decreases-loop-k l = 32 - l.k
+invariant-loop-k l = (l.first ≤ 32) × Stopping (Told l.c l.s (l.from + 4)) l.c l.s l.from l.k l.first

@@ -5,7 +5,7 @@ use mathlib.Core.Path.{refl, sym, ap, ◌∙◌}
 use native.Mathlib.Omega.{arith}
 use lib.ListN.{length}
 use lib.Dec.{ltb}
-use borrow.Author.Tests.{ltb-false, not-false}
+use borrow.Author.Tests.{ltb-false}
 use Rattle.lists.proofs.Texts.{or_none_left, or_none_right}
 use Rattle.scanner.specs.Scan.{releasing}
 use Rattle.segment_ends.proofs.Passing.{goes_far, moves_from, told_here, told_more}
@@ -25,8 +25,8 @@ returns-then-at-s c =
     let far = goes_far x.c x.s.now loop.at (sym (ap (releasing x.c) c.requires)) others.0 others.1 in
     moves_from x.c x.s.now x.from (omega (arith, loop.invariant.0, others.0)) (loop.invariant.1 ∙ far) c.pass_token.result c.pass_token.ensures
 
-pub past_block-r-requires : goal.past_block-r-requires
-past_block-r-requires c =
+pub past_block-requires : goal.past_block-requires
+past_block-requires c =
     let x = c.args in
     let at = c.loop-at.at in
     let near = ltb at 4 in
@@ -36,24 +36,23 @@ past_block-r-requires c =
       c.requires,
     )
 
-pub pass_token-requires-then-not-r : goal.pass_token-requires-then-not-r
-pass_token-requires-then-not-r c =
+pub pass_token-requires-in-Stop : goal.pass_token-requires-in-Stop
+pass_token-requires-in-Stop c =
     sym (ap (releasing c.args.c) c.requires)
 
-pub returns-then-not-r : goal.returns-then-not-r
-returns-then-not-r c =
+pub returns-in-Stop : goal.returns-in-Stop
+returns-in-Stop c =
     let x = c.args in
-    let inv = c.loop-at.invariant in
-    let told = told_more x.c x.s.now inv c.past_block-r.ensures.0 in
-    moves_from x.c x.s.now x.from told.0 told.1 c.pass_token-then-not-r.result c.pass_token-then-not-r.ensures
+    let told = told_more x.c x.s.now c.loop-at.invariant c.in-Stop.ensures in
+    moves_from x.c x.s.now x.from told.0 told.1 c.pass_token-in-Stop.result c.pass_token-in-Stop.ensures
 
 pub loop-at-smaller : goal.loop-at-smaller
-loop-at-smaller c = omega (arith, c.past_block-r.ensures.1 (not-false _ c.if-not-r.false))
+loop-at-smaller c = omega (arith, c.in-On.ensures.1)
 
 pub loop-at-preserved : goal.loop-at-preserved
 loop-at-preserved c =
     let x = c.args in
-    told_more x.c x.s.now c.loop-at.invariant c.past_block-r.ensures.0
+    told_more x.c x.s.now c.loop-at.invariant c.in-On.ensures.0
 
 pub returns : goal.returns
 returns c = tt

@@ -1,25 +1,13 @@
 -- `service_places::store_places` meets its contract. The loop's invariant: the places of the blocks before `start` are stored, and the place
--- at hand, unless it is passed, is that of the next block. The number of blocks that are left falls. Assumes nothing.
+-- at hand, unless it is passed, is that of the next block. Assumes nothing.
 use Prim.Native.Nat.{◌+◌, ◌/◌}
-use mathlib.Core.Path.{refl, sym, ◌∙◌}
-use native.Mathlib.Nat.{zero-mul, mul-le-mul_right}
+use mathlib.Core.Path.{refl, ◌∙◌}
 use native.Mathlib.Omega.{arith}
 use lib.ListN.{length, length-set}
 use Rattle.characters.specs.Characters.{is_service}
 use Rattle.service_places.specs.Places.{blocks}
-use Rattle.service_places.proofs.Blocks.{enough, block_more, stored_none, stored_more, stored_all, still_next}
+use Rattle.service_places.proofs.Blocks.{enough, block_more, stored_more, stored_all, still_next}
 use Rattle.service_places.proofs.store_places.Goals as goal
-
-pub loop-k-init : goal.loop-k-init
-loop-k-init c =
-    let x = c.args in
-    (c.requires, sym (zero-mul (length x.s.now / blocks + 1)), omega arith, λ h. c.next_place-place.ensures, stored_none (is_service x.c) x.s.now (length x.s.now / blocks + 1) x.places.now)
-
-pub place_from-place-requires : goal.place_from-place-requires
-place_from-place-requires c = c.loop-k.invariant.3
-
-pub overflow_sub-s : goal.overflow_sub-s
-overflow_sub-s c = omega (arith, c.loop-k.invariant.2)
 
 pub returns-then-s-start : goal.returns-then-s-start
 returns-then-s-start c =
@@ -30,12 +18,6 @@ returns-then-s-start c =
     stored_all (is_service x.c) s size (state.k + 1) (omega arith) (enough (length s) size refl)
     (omega (arith, state.invariant.1, block_more state.k size, c.if-s-start.true))
     (stored_more (is_service x.c) s size state.k state.places (omega (arith, state.invariant.0, c.loop-k-test.true)) state.invariant.1 c.place_from-place.ensures state.invariant.4)
-
-pub overflow_add-start : goal.overflow_add-start
-overflow_add-start c = omega (arith, c.if-s-start.false)
-
-pub loop-k-smaller : goal.loop-k-smaller
-loop-k-smaller c = omega (arith, c.loop-k-test.true)
 
 pub loop-k-preserved : goal.loop-k-preserved
 loop-k-preserved c =
@@ -49,13 +31,3 @@ loop-k-preserved c =
       still_next (is_service x.c) s size state.start c.place_from-place.result c.place_from-place.ensures,
       stored_more (is_service x.c) s size state.k state.places (omega (arith, state.invariant.0, c.loop-k-test.true)) state.invariant.1 c.place_from-place.ensures state.invariant.4,
     )
-
-pub returns : goal.returns
-returns c =
-    let x = c.args in
-    let state = c.loop-k in
-    let s = x.s.now in
-    let size = length s / blocks + 1 in
-    stored_all (is_service x.c) s size state.k (omega arith) (enough (length s) size refl)
-    (omega (arith, enough (length s) size refl, mul-le-mul_right size c.loop-k-test.false))
-    state.invariant.4

@@ -1,6 +1,6 @@
 -- `service_places::store_places` meets its contract. The loop's invariant: the places of the blocks before `start` are stored, and the place
--- at hand, unless it is passed, is that of the next block. The number of blocks that are left falls. Assumes nothing.
-use Prim.Native.Nat.{◌-◌, ◌*◌, ◌≤◌}
+-- at hand, unless it is passed, is that of the next block. Assumes nothing.
+use Prim.Native.Nat.{◌*◌, ◌≤◌}
 use mathlib.Core.Path.{◌≡◌}
 use lib.ListN.{length}
 use Rattle.characters.specs.Characters.{is_service}
@@ -14,6 +14,3 @@ invariant-loop-k l = (length l.places ≡ blocks)
     × (l.start ≤ length l.s)
     × (l.start ≤ l.place → l.place ≡ next_place (is_service l.c) l.s l.start)
     × Stored (is_service l.c) l.s l.size l.k l.places
-
-abbrev pub decreases-loop-k : goal.decreases-loop-k
-decreases-loop-k l = blocks - l.k

@@ -1,8 +1,7 @@
 -- `shelf::get` meets its contract: the part that `got` names. Assumes nothing.
-use mathlib.Core.Path.{◌≡◌, refl, sym, ap, ap₂, subst, ◌∙◌}
+use mathlib.Core.Path.{refl}
 use Rattle.shelves.specs.Layout.{version_two}
 use Rattle.shelf.proofs.Spans.{handed}
-use borrow.Author.Rules.{rules}
 use Rattle.shelf.proofs.get.Goals as goal
 
 pub returns : goal.returns

@@ -1,10 +1,8 @@
 -- `shelf::got` meets its contract: `got_from` in the layout of version 2. Assumes nothing.
 use native.Mathlib.Omega.{arith}
-use Prim.Native.Nat.{ℕ, ◌+◌, ◌-◌, ◌*◌, ◌^◌, ◌≤◌, ◌<◌}
-use mathlib.Core.Path.{◌≡◌, refl, sym, ap, ap₂, subst, ◌∙◌}
+use mathlib.Core.Path.{ap, ◌∙◌}
 use Rattle.shelves.specs.Layout.{Layout}
 use Rattle.shelf.specs.Parts.{got_span}
-use borrow.Author.Rules.{rules}
 use Rattle.shelf.proofs.got.Goals as goal
 
 pub got_from-requires : goal.got_from-requires

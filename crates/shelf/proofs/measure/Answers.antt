@@ -1,10 +1,8 @@
 -- `shelf::measure` meets its contract: `measure_in` in the layout of version 2. Assumes nothing.
 use native.Mathlib.Omega.{arith}
-use Prim.Native.Nat.{ℕ, ◌+◌, ◌-◌, ◌*◌, ◌^◌, ◌≤◌, ◌<◌}
-use mathlib.Core.Path.{◌≡◌, refl, sym, ap, ap₂, subst, ◌∙◌}
+use mathlib.Core.Path.{ap, subst}
 use Rattle.shelves.specs.Layout.{Layout}
 use Rattle.shelf_contracts.specs.Promises.{Measures}
-use borrow.Author.Rules.{rules}
 use Rattle.shelf.proofs.measure.Goals as goal
 
 pub measure_in-requires : goal.measure_in-requires

@@ -1,14 +1,15 @@
 -- `shelf::put` meets its contract: 19, or the summary is read from the head and lent. Assumes nothing.
+use Rattle.refusals.specs.declared.Refusal.{Refusal}
+use Rattle.std.specs.Prelude.{Result}
 use native.Mathlib.Omega.{arith}
-use mathlib.Core.Path.{◌≡◌, refl, sym, ap, subst, ◌∙◌}
+use mathlib.Core.Path.{refl, sym, ap, subst}
 use borrow.Author.Tests.{not-true, not-false}
 use Rattle.shelves.specs.Layout.{Layout, version_two}
-use Rattle.shelves.proofs.Sound.{Sound, says_sound}
+use Rattle.shelves.proofs.Sound.{says_sound}
 use Rattle.shelves.specs.declared.Shelved.{Shelved}
 use Rattle.shelf_contracts.specs.Promises.{Puts}
 use Rattle.shelf.proofs.Lent.{as_two}
 use Rattle.shelf.proofs.Puts.{puts_unsound}
-use borrow.Author.Rules.{rules}
 use Rattle.shelf.proofs.put.Goals as goal
 
 pub is_sound-requires : goal.is_sound-requires
@@ -18,7 +19,8 @@ pub returns-then-not-is_sound : goal.returns-then-not-is_sound
 returns-then-not-is_sound c =
     let x = c.args in
     let s = x.s.now in
-    puts_unsound version_two s x.input.now refl (as_two s c.version_two.ensures c.is_sound.ensures (not-true c.is_sound.result c.if-not-is_sound.true-raw))
+    subst (λ (r : Result Shelved Refusal). Puts version_two s x.input.now r s) (sym c.failed.ensures)
+    (puts_unsound version_two s x.input.now refl (as_two s c.version_two.ensures c.is_sound.ensures (not-true c.is_sound.result c.if-not-is_sound.true-raw)))
 
 pub head_of-head-requires : goal.head_of-head-requires
 head_of-head-requires c = let s = c.args.s.now in omega (arith, ((says_sound version_two s).0 (as_two s c.version_two.ensures c.is_sound.ensures (not-false c.is_sound.result c.if-not-is_sound.false-raw))).least)
@@ -30,4 +32,4 @@ pub returns : goal.returns
 returns c =
     let x = c.args in
     let on = c.put_on in
-    subst (λ (r : Shelved). Puts version_two x.s.now x.input.now r on.new.s) (sym c.shelved_of.ensures) on.ensures
+    subst (λ (r : Result Shelved Refusal). Puts version_two x.s.now x.input.now r on.new.s) (sym c.shelved_of.ensures) on.ensures

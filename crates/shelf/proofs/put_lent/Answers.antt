@@ -1,5 +1,4 @@
 -- `shelf::put_lent` meets its contract: the text is put, and the step over the summary that is lent is the step of Put. Assumes nothing.
-use Rattle.std.proofs.Common.{rules}
 use Rattle.shelf.proofs.Lent.{lent_puts, lent_fits}
 use Rattle.shelf.proofs.put_lent.Goals as goal
 

@@ -1,5 +1,4 @@
 -- `shelf::remove_lent` meets its contract: the text is taken out, and the step over the summary that is lent is the step of Remove. Assumes nothing.
-use Rattle.std.proofs.Common.{rules}
 use Rattle.shelf.proofs.Lent.{lent_removes, lent_takes}
 use Rattle.shelf.proofs.remove_lent.Goals as goal
 

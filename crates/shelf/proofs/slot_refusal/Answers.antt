@@ -1,12 +1,11 @@
 -- `shelf::slot_refusal` meets its contract: 19, then 20. Assumes nothing.
 use native.Mathlib.Omega.{arith}
-use mathlib.Core.Path.{◌≡◌, refl, sym, ap, ap₂, subst, ◌∙◌}
+use mathlib.Core.Path.{sym, ◌∙◌}
 use borrow.Author.Tests.{not-true, not-false}
 use Rattle.shelf_layout.specs.Laid.{laid}
 use Rattle.shelf_layout.proofs.Readings.{occupied_by}
-use Rattle.shelves.proofs.Sound.{Sound, says_sound}
+use Rattle.shelves.proofs.Sound.{says_sound}
 use Rattle.shelf.proofs.Refusing.{outcome_unsound, outcome_above, outcome_empty, outcome_kept}
-use borrow.Author.Rules.{rules}
 use Rattle.shelf.proofs.slot_refusal.Goals as goal
 
 pub returns-then-not-is_sound : goal.returns-then-not-is_sound

@@ -1,10 +1,8 @@
 -- `shelf::slots` meets its contract: `slots_of` in the layout of version 2. Assumes nothing.
 use native.Mathlib.Omega.{arith}
-use Prim.Native.Nat.{ℕ, ◌+◌, ◌-◌, ◌*◌, ◌^◌, ◌≤◌, ◌<◌}
-use mathlib.Core.Path.{◌≡◌, refl, sym, ap, ap₂, subst, ◌∙◌}
+use mathlib.Core.Path.{ap, subst}
 use Rattle.shelves.specs.Layout.{Layout}
 use Rattle.shelf_contracts.specs.Promises.{Counts}
-use borrow.Author.Rules.{rules}
 use Rattle.shelf.proofs.slots.Goals as goal
 
 pub slots_of-requires : goal.slots_of-requires

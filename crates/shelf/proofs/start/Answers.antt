@@ -1,10 +1,8 @@
 -- `shelf::start` meets its contract: `start_as` in the layout of version 2. Assumes nothing.
 use native.Mathlib.Omega.{arith}
-use Prim.Native.Nat.{ℕ, ◌+◌, ◌-◌, ◌*◌, ◌^◌, ◌≤◌, ◌<◌}
-use mathlib.Core.Path.{◌≡◌, refl, sym, ap, ap₂, subst, ◌∙◌}
+use mathlib.Core.Path.{ap, subst}
 use Rattle.shelves.specs.Layout.{Layout}
 use Rattle.shelf_contracts.specs.Promises.{Starts}
-use borrow.Author.Rules.{rules}
 use Rattle.shelf.proofs.start.Goals as goal
 
 pub start_as-requires : goal.start_as-requires

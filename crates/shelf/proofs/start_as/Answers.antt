@@ -1,16 +1,14 @@
 -- `shelf::start_as` meets its contract: 19, or zeros and the heading. Assumes nothing.
+use Rattle.refusals.specs.Refusals.{Outcome}
 use native.Mathlib.Omega.{arith}
-use Prim.Native.Nat.{ℕ, ◌+◌, ◌-◌, ◌*◌, ◌^◌, ◌≤◌, ◌<◌}
-use mathlib.Core.Path.{◌≡◌, refl, sym, ap, ap₂, subst, ◌∙◌}
+use mathlib.Core.Path.{sym, ap, subst, ◌∙◌}
 use borrow.Author.Tests.{not-true, not-false}
 use Rattle.shelf_layout.specs.Laid.{laid}
 use lib.ListN.{length, replicate}
 use lib.Seq.{length-sets}
-use Rattle.refusals.specs.declared.Outcome.{Outcome}
 use Rattle.shelves.proofs.Sound.{says_sized}
 use Rattle.shelf_contracts.specs.Promises.{Starts}
 use Rattle.shelf.proofs.Empty.{starts_refused, starts_empty}
-use borrow.Author.Rules.{rules}
 use Rattle.shelf.proofs.start_as.Goals as goal
 
 pub returns-then-not-is_sized : goal.returns-then-not-is_sized

@@ -1,6 +1,5 @@
 -- `shelf_carrying::carry_back` meets its contract: 19, or the shelf is carried back. Assumes nothing.
 use native.Mathlib.Omega.{arith}
-use borrow.Author.Rules.{rules}
 use mathlib.Core.Path.{ap}
 use borrow.Author.Tests.{not-true, not-false}
 use Rattle.shelves.specs.Layout.{Layout, version_two}

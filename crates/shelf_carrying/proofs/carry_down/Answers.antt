@@ -1,6 +1,5 @@
 -- `shelf_carrying::carry_down` meets its contract: the move, the pairs and the heading. Assumes nothing.
 use native.Mathlib.Omega.{arith}
-use borrow.Author.Rules.{rules}
 use mathlib.Core.Path.{ap}
 use Rattle.shelves.specs.Layout.{Layout, version_one, version_two}
 use Rattle.shelves.proofs.Sound.{says_sound}

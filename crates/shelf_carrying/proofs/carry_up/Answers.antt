@@ -1,7 +1,6 @@
 -- `shelf_carrying::carry_up` meets its contract: the move, the pairs, the heading and the two sums. Assumes nothing.
 -- eight free bytes and the least size make the other version's least size
 use native.Mathlib.Omega.{arith}
-use borrow.Author.Rules.{rules}
 use Prim.Native.Nat.{ℕ, ◌+◌, ◌≤◌}
 use mathlib.Core.Path.{◌≡◌, ap, ◌∙◌}
 use mathlib.Core.List.{List}

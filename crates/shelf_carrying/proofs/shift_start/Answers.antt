@@ -1,10 +1,9 @@
 -- `shelf_carrying::shift_start` meets its contract: one of two pairs. Assumes nothing.
 use native.Mathlib.Omega.{arith}
-use borrow.Author.Rules.{rules}
 use Prim.Native.Nat.{ℕ, ◌+◌, ◌-◌}
-use mathlib.Core.Path.{◌≡◌, sym, ap, ap₂, ◌∙◌}
+use mathlib.Core.Path.{sym, ap, ap₂, ◌∙◌}
 use lib.Seq.{sets}
-use Rattle.shelves.specs.Layout.{pair_place, base, start_of}
+use Rattle.shelves.specs.Layout.{pair_place}
 use Rattle.shelves.specs.Operations.{pair_of}
 use Rattle.shelf_layout.specs.Laid.{laid}
 use Rattle.shelf_carrying.proofs.Pairs.{shifted_kept, shifted_free}

@@ -1,7 +1,7 @@
--- `shelf_carrying::shift_starts` meets its contract. The loop's invariant: the pairs of the slots passed are stored. What is left falls.
+-- `shelf_carrying::shift_starts` meets its contract. The loop's invariant: the pairs of the slots passed are stored.
 -- Assumes nothing.
 use native.Mathlib.Omega.{arith}
-use Prim.Native.Nat.{ℕ, ◌+◌, ◌-◌, ◌≤◌}
+use Prim.Native.Nat.{ℕ, ◌+◌}
 use mathlib.Core.Path.{◌≡◌, refl, ap, ◌∙◌}
 use lib.ListN.{length}
 use lib.Seq.{sets, length-sets}
@@ -14,21 +14,15 @@ use Rattle.shelf_carrying.proofs.shift_starts.Goals as goal
 
 pub loop-slot-init : goal.loop-slot-init
 unfolding shifted_pairs below gather
-loop-slot-init c = (omega arith, refl, refl)
+loop-slot-init c = (refl, refl)
 
 pub shift_start-requires : goal.shift_start-requires
 shift_start-requires c =
     let x = c.args in
     let known = c.requires in
     let state = c.loop-slot in
-    let stays = start_stays (laid x.from) (laid x.to) x.map x.s.now state.slot state.invariant.2 in
+    let stays = start_stays (laid x.from) (laid x.to) x.map x.s.now state.slot state.invariant.1 in
     (omega arith, (known.1.0, known.1.1), omega arith, λ e. omega (arith, stays, known.2 state.slot (omega arith) e))
-
-pub overflow_add-slot : goal.overflow_add-slot
-overflow_add-slot c = omega arith
-
-pub loop-slot-smaller : goal.loop-slot-smaller
-loop-slot-smaller c = omega arith
 
 pub loop-slot-preserved : goal.loop-slot-preserved
 loop-slot-preserved c =
@@ -36,15 +30,15 @@ loop-slot-preserved c =
     let state = c.loop-slot in
     let from = laid x.from in
     let to = laid x.to in
-    let stored = pair_stored from to x.map x.s.now state.slot state.invariant.2 c.shift_start.ensures in
-    (omega arith, ap length stored ∙ length-sets x.s.now x.to.pairs (shifted_pairs from to x.map x.s.now (state.slot + 1)), stored)
+    let stored = pair_stored from to x.map x.s.now state.slot state.invariant.1 c.shift_start.ensures in
+    (ap length stored ∙ length-sets x.s.now x.to.pairs (shifted_pairs from to x.map x.s.now (state.slot + 1)), stored)
 
 pub shape_of-s : goal.shape_of-s
-shape_of-s c = c.loop-slot.invariant.1
+shape_of-s c = c.loop-slot.invariant.0
 
 pub returns : goal.returns
 returns c =
     let x = c.args in
     let state = c.loop-slot in
     let all : state.slot ≡ 64 = omega arith in
-    state.invariant.2 ∙ ap (λ (n : ℕ). sets x.s.now x.to.pairs (shifted_pairs (laid x.from) (laid x.to) x.map x.s.now n)) all
+    state.invariant.1 ∙ ap (λ (n : ℕ). sets x.s.now x.to.pairs (shifted_pairs (laid x.from) (laid x.to) x.map x.s.now n)) all

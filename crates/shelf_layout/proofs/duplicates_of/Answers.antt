@@ -2,7 +2,6 @@
 use native.Mathlib.Omega.{arith}
 use Rattle.shelves.specs.Layout.{duplicates_of}
 use Rattle.numbers.proofs.Numbers.{number_below}
-use borrow.Author.Rules.{rules}
 use Rattle.shelf_layout.proofs.duplicates_of.Goals as goal
 
 pub overflow_cast-result : goal.overflow_cast-result

@@ -1,7 +1,6 @@
 -- `shelf_layout::end_of` meets its contract. Assumes nothing.
 use native.Mathlib.Omega.{arith}
 use Rattle.shelves.specs.Layout.{end_of}
-use borrow.Author.Rules.{rules}
 use Rattle.shelf_layout.proofs.end_of.Goals as goal
 
 pub returns : goal.returns

@@ -1,6 +1,5 @@
 -- `shelf_layout::map_of` meets its contract. Assumes nothing.
 use Rattle.shelves.specs.Layout.{map_of}
-use borrow.Author.Rules.{rules}
 use Rattle.shelf_layout.proofs.map_of.Goals as goal
 
 pub returns : goal.returns

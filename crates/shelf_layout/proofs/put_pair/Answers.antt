@@ -1,13 +1,11 @@
 -- `shelf_layout::put_pair` meets its contract: two numbers, one after the other. Assumes nothing.
 use native.Mathlib.Omega.{arith}
 use Prim.Native.Nat.{◌+◌, ◌*◌}
-use mathlib.Core.Path.{ap, sym}
 use Rattle.numbers.specs.Numbers.{in_bytes}
 use Rattle.numbers.proofs.Numbers.{in_bytes_length}
 use Rattle.shelves.specs.Layout.{pair_place}
 use Rattle.shelves.specs.Operations.{pair_of}
 use Rattle.storing.proofs.Stores.{stored_after}
-use borrow.Author.Rules.{rules}
 use Rattle.shelf_layout.proofs.put_pair.Goals as goal
 
 pub returns : goal.returns

@@ -3,7 +3,6 @@ use native.Mathlib.Omega.{arith}
 use Prim.Native.Nat.{◌+◌, ◌*◌}
 use Rattle.shelves.specs.Layout.{pair_place, start_of}
 use Rattle.numbers.proofs.Numbers.{number_below}
-use borrow.Author.Rules.{rules}
 use Rattle.shelf_layout.proofs.start_of.Goals as goal
 
 pub returns : goal.returns

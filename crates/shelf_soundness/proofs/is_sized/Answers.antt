@@ -1,11 +1,10 @@
 -- `shelf_soundness::is_sized` meets its contract. Assumes nothing.
-use Prim.Native.Nat.{ℕ, ◌+◌, ◌-◌, ◌*◌, ◌≤◌, ◌<◌}
-use mathlib.Core.Path.{◌≡◌, refl, sym, ap, ap₂, subst, ◌∙◌}
-use mathlib.Core.Bool.{Bool, true, false, ◌&&◌, ◌||◌, false≢true}
+use Prim.Native.Nat.{ℕ}
+use mathlib.Core.Path.{ap}
+use mathlib.Core.Bool.{◌&&◌}
 use lib.Dec.{leb}
 use lib.ListN.{length}
 use Rattle.shelves.specs.Soundness.{is_sized}
-use borrow.Author.Rules.{rules}
 use Rattle.shelf_soundness.proofs.is_sized.Goals as goal
 
 pub returns : goal.returns

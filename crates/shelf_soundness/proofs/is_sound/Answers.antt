@@ -1,16 +1,11 @@
 -- `shelf_soundness::is_sound` meets its contract: one clause after another, and the last ones decide. Assumes nothing.
 use native.Mathlib.Omega.{arith}
-use Prim.Native.Nat.{ℕ, ◌+◌, ◌-◌, ◌*◌, ◌≤◌, ◌<◌}
-use mathlib.Core.Path.{◌≡◌, refl, sym, ap, ap₂, subst, ◌∙◌}
-use mathlib.Core.Bool.{Bool, true, false, ◌&&◌, ◌||◌, false≢true}
+use mathlib.Core.Path.{refl, sym, ◌∙◌}
 use borrow.Author.Tests.{not-true, not-false}
-use lib.ListN.{length}
-use Rattle.shelves.specs.Layout.{end_of}
 use Rattle.shelf_layout.specs.Laid.{laid}
 use Rattle.shelf_soundness.proofs.Loops.{not_passed}
 use Rattle.shelves.proofs.Sound.{says_sized, says_summed}
 use Rattle.shelf_soundness.proofs.Whole.{sound_placed, ranged, not_sound, sound_by}
-use borrow.Author.Rules.{rules}
 use Rattle.shelf_soundness.proofs.is_sound.Goals as goal
 
 pub returns-then-not-is_sized : goal.returns-then-not-is_sized
@@ -61,7 +56,7 @@ is_kept_well-requires c =
     let x = c.args in
     let size = (says_sized (laid x.l) x.s.now).0 (sym c.is_sized.ensures ∙ not-false c.is_sized.result c.if-not-is_sized.false-raw) in
     let places = c.are_placed.ensures.0 (not-false c.are_placed.result c.if-not-are_placed.false-raw) in
-    (ranged (laid x.l) x.s.now places size (omega (arith, c.end_of-end.ensures, c.if-s-end.false)), c.map_of-map.ensures, c.end_of-end.ensures)
+    (ranged (laid x.l) x.s.now places size (omega (arith, c.end_of-end.ensures, c.if-s-end.false)), c.map_of-map.ensures, c.end_of-end.ensures, c.if-s-end.false)
 
 pub returns : goal.returns
 returns c =

@@ -1,6 +1,5 @@
 -- `shelf_summary::head_of` meets its contract: three numbers, which are spelled there. Assumes nothing.
 -- the summary of the three numbers
-use native.Mathlib.Omega.{arith}
 use Prim.Native.Nat.{ℕ}
 use mathlib.Core.Path.{◌≡◌, ap, ◌∙◌}
 use mathlib.Core.List.{List}
@@ -8,7 +7,6 @@ use Rattle.shelves.specs.declared.Summary.{Summary}
 use Rattle.shelves.specs.Summary.{summary_of}
 use Rattle.shelves.specs.Layout.{map_of, held_figure, duplicates_of}
 use Rattle.shelf_summary.proofs.Backs.{heads}
-use borrow.Author.Rules.{rules}
 use Rattle.shelf_summary.proofs.head_of.Goals as goal
 
 made : (s : List ℕ) {m h d : ℕ} → m ≡ map_of s → h ≡ held_figure s → d ≡ duplicates_of s

@@ -1,11 +1,10 @@
 -- `shelf_summary::put_copy` meets its contract: at the ceiling it stays. Assumes nothing.
+use mathlib.Core.Path.{ap}
 use native.Mathlib.Omega.{arith}
-use Rattle.shelf_summary.proofs.Cores.{copy_full, copy_more}
-use borrow.Author.Rules.{rules}
+use Rattle.shelf_summary.proofs.Cores.{counted}
+use Rattle.shelves.specs.Summary.{put_copy}
 use Rattle.shelf_summary.proofs.put_copy.Goals as goal
 
-pub returns-then-u-eq4294967295 : goal.returns-then-u-eq4294967295
-returns-then-u-eq4294967295 c = copy_full c.args.u c.if-u-eq4294967295.true
-
 pub returns : goal.returns
-returns c = copy_more c.args.u c.if-u-eq4294967295.false (omega arith)
+unfolding put_copy
+returns c = ap (counted c.args.u) (omega arith)

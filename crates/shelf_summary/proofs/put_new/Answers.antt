@@ -1,6 +1,5 @@
 -- `shelf_summary::put_new` meets its contract: its bit and its bytes. Assumes nothing.
 use Rattle.shelf_summary.proofs.Cores.{new_is}
-use borrow.Author.Rules.{rules}
 use Rattle.shelf_summary.proofs.put_new.Goals as goal
 
 pub returns : goal.returns

@@ -1,5 +1,5 @@
 -- `shelf_summary::put_step` meets its contract: what `after_put` makes of the summary, of which the other fields stay. Assumes nothing.
-use Rattle.std.proofs.Common.{◌≡◌, sym, subst}
+use Rattle.std.proofs.Common.{sym, subst}
 use Rattle.shelves.specs.declared.Summary.{Summary}
 use Rattle.shelf_summary.specs.Steps.{PutStays}
 use Rattle.shelf_summary.proofs.Cores.{put_stays}

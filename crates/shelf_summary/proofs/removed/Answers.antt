@@ -1,6 +1,5 @@
 -- `shelf_summary::removed` meets its contract. Assumes nothing.
 use Rattle.shelf_summary.proofs.Cores.{removed_is}
-use borrow.Author.Rules.{rules}
 use Rattle.shelf_summary.proofs.removed.Goals as goal
 
 pub returns : goal.returns

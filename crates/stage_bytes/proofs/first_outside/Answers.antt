@@ -15,7 +15,7 @@ pub returns-then-not-is_in_level : goal.returns-then-not-is_in_level
 unfolding outcome
 returns-then-not-is_in_level c =
     let l = lexes_as c.args.c c.args.s.now c.loop-byte.at c.lex.ensures c.in-Byte.is in
-    ap outcome (sym (c.loop-byte.invariant ∙ level_byte _ l.0 (sym c.is_in_level.ensures ∙ not-true c.is_in_level.result c.if-not-is_in_level.true-raw)))
+    c.failed.ensures ∙ ap outcome (sym (c.loop-byte.invariant ∙ level_byte _ l.0 (sym c.is_in_level.ensures ∙ not-true c.is_in_level.result c.if-not-is_in_level.true-raw)))
 
 pub loop-byte-smaller-in-Byte : goal.loop-byte-smaller-in-Byte
 loop-byte-smaller-in-Byte c = let l = lexes_as c.args.c c.args.s.now c.loop-byte.at c.lex.ensures c.in-Byte.is in omega arith

@@ -1,6 +1,8 @@
 -- `stage_control::check` meets its contract. The loop's invariant: some segments passed, of which the walk and the headers keep what
 -- the next one is judged by, and the stage answers what it answers from `at` on. What is left of the input falls. Assumes nothing.
-use mathlib.Core.Path.{sym}
+use Rattle.std.specs.Prelude.{Err}
+use borrow.Author.Rules.{rules}
+use mathlib.Core.Path.{◌≡◌, ◌∙◌, sym}
 use native.Mathlib.Omega.{arith}
 use Rattle.stage_control.proofs.Stage.{falls, passing_begun, passing_within, passing_end, passing_failed, passing_next}
 use Rattle.stage_control.proofs.check.Goals as goal
@@ -12,12 +14,13 @@ pub true_count-requires : goal.true_count-requires
 true_count-requires c =
     passing_within _ _ c.loop-at.invariant (omega arith)
 
-pub returns-in-Failed : goal.returns-in-Failed
-returns-in-Failed c =
-    sym (passing_failed _ _ c.loop-at.invariant c.loop-at-test.true c.kind_at-kind.ensures
+pub returns-in_err-segment_control : goal.returns-in_err-segment_control
+returns-in_err-segment_control c =
+    let e : c.from_residual.result ≡ Err c.in_err-segment_control.field-0.0 = search rules in
+    e ∙ sym (passing_failed _ _ c.loop-at.invariant c.loop-at-test.true c.kind_at-kind.ensures
     c.positions_of-p.ensures c.element_at-reference.ensures c.segment_end-next.ensures
     c.header_of-header.ensures c.true_count.ensures c.segment_control.ensures
-    c.in-Failed.is)
+    c.in_err-segment_control.was)
 
 pub stepped-walk-requires : goal.stepped-walk-requires
 stepped-walk-requires c =
@@ -33,7 +36,7 @@ loop-at-preserved c =
     passing_next _ _ c.loop-at.invariant c.loop-at-test.true c.kind_at-kind.ensures
     c.positions_of-p.ensures c.element_at-reference.ensures c.segment_end-next.ensures
     c.header_of-header.ensures c.true_count.ensures c.segment_control.ensures
-    c.in-Passed.is c.stepped-walk.ensures c.passed_header-headers.ensures
+    c.in_ok-segment_control.was c.stepped-walk.ensures c.passed_header-headers.ensures
 
 pub returns : goal.returns
 returns c = sym (passing_end _ _ c.loop-at.invariant c.loop-at-test.false)

@@ -4,7 +4,7 @@ use Rattle.stage_opening.proofs.Openings.{opening_unusable, opening_missing, ope
 use Rattle.stage_opening.proofs.opening_of.Goals as goal
 
 pub returns-then-has_bad_advice : goal.returns-then-has_bad_advice
-returns-then-has_bad_advice c = c.refused.ensures ∙ opening_unusable _ (sym c.has_bad_advice.ensures ∙ c.if-has_bad_advice.true)
+returns-then-has_bad_advice c = c.failed.ensures ∙ opening_unusable _ (sym c.has_bad_advice.ensures ∙ c.if-has_bad_advice.true)
 
 pub returns-then-is_opening : goal.returns-then-is_opening
 returns-then-is_opening c =
@@ -16,7 +16,7 @@ returns-then-is_opening c =
 
 pub returns : goal.returns
 returns c =
-    c.refused-2.ensures
+    c.failed-2.ensures
     ∙ opening_missing _ (sym c.has_bad_advice.ensures ∙ c.if-has_bad_advice.false)
     (sym c.is_opening.ensures ∙ c.if-is_opening.false)
     c.body_start-start.ensures

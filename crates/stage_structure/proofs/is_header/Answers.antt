@@ -1,37 +1,25 @@
 -- `stage_structure::is_header` meets its contract, kind by kind. Assumes nothing.
-use mathlib.Core.Path.{sym, ap}
-use Rattle.segments.specs.declared.Kind.TheVariants.{Unh}
+use mathlib.Core.Path.{◌≡◌, refl, sym, ap}
+use mathlib.Core.Bool.{false}
+use Rattle.segments.specs.declared.Kind.{Kind}
+use Rattle.segments.specs.declared.Kind.TheVariants.{Unb, Ung, Unh, Uns, Unt, Une, Unz, User}
 use Rattle.segments.specs.Kinds.{is}
 use Rattle.stage_structure.proofs.is_header.Goals as goal
 
-pub returns-in-Unb : goal.returns-in-Unb
+other : (kind : Kind) → (kind ≡ Unh → ⊥) → false ≡ is Unh kind
 unfolding is
-returns-in-Unb c = sym (ap (is Unh) c.in-Unb.is)
-
-pub returns-in-Ung : goal.returns-in-Ung
-unfolding is
-returns-in-Ung c = sym (ap (is Unh) c.in-Ung.is)
+other Unb h = refl
+other Ung h = refl
+other Unh h = absurd (h refl)
+other Uns h = refl
+other Unt h = refl
+other Une h = refl
+other Unz h = refl
+other User h = refl
 
 pub returns-in-Unh : goal.returns-in-Unh
 unfolding is
 returns-in-Unh c = sym (ap (is Unh) c.in-Unh.is)
 
-pub returns-in-Uns : goal.returns-in-Uns
-unfolding is
-returns-in-Uns c = sym (ap (is Unh) c.in-Uns.is)
-
-pub returns-in-Unt : goal.returns-in-Unt
-unfolding is
-returns-in-Unt c = sym (ap (is Unh) c.in-Unt.is)
-
-pub returns-in-Une : goal.returns-in-Une
-unfolding is
-returns-in-Une c = sym (ap (is Unh) c.in-Une.is)
-
-pub returns-in-Unz : goal.returns-in-Unz
-unfolding is
-returns-in-Unz c = sym (ap (is Unh) c.in-Unz.is)
-
-pub returns-in-User : goal.returns-in-User
-unfolding is
-returns-in-User c = sym (ap (is Unh) c.in-User.is)
+pub returns-in_default : goal.returns-in_default
+returns-in_default c = other c.args.kind c.in_default.not-Unh

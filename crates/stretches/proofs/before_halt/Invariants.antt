@@ -1,7 +1,6 @@
--- `stretches::before_halt` meets its contract. The loop's invariant: the stretch halts at none of the bytes up to `at`, unless `first` bytes
--- were passed before that. What is left of thirty-two falls. Assumes nothing.
--- a byte follows, and the stretch does not halt there
-use Prim.Native.Nat.{ℕ, ◌+◌, ◌-◌, ◌≤◌, ◌<◌}
+-- `stretches::before_halt` meets its contract. The loop's invariant: the stretch halts at none of the bytes up to the `k`th, unless `first`
+-- bytes were passed before that. Assumes nothing.
+use Prim.Native.Nat.{ℕ, ◌+◌, ◌≤◌, ◌<◌}
 use mathlib.Core.Path.{◌≡◌}
 use mathlib.Core.Bool.{false}
 use mathlib.Core.List.{List}
@@ -11,11 +10,9 @@ use Rattle.first_found.specs.First.{Upto}
 use Rattle.stretches.specs.Stretches.{halts}
 use Rattle.stretches.proofs.before_halt.Given as goal
 
+-- a byte follows, and the stretch does not halt there
 abbrev pub Passed : Characters → Characters → List ℕ → ℕ → Type 0
 Passed c n s p = (p + 1 < length s) × (halts c n (get_or s p 0) (get_or s (p + 1) 0) ≡ false)
 
 abbrev pub invariant-loop-k : goal.invariant-loop-k
-invariant-loop-k l = (l.k ≤ 32) × (l.at ≡ l.from + l.k) × (l.first ≤ 32) × Upto (Passed l.c l.n l.s) l.from l.at l.first
-
-abbrev pub decreases-loop-k : goal.decreases-loop-k
-decreases-loop-k l = 32 - l.k
+invariant-loop-k l = (l.first ≤ 32) × Upto (Passed l.c l.n l.s) l.from (l.from + l.k) l.first

@@ -7,9 +7,6 @@ use Rattle.stretches.proofs.past_blocks.Goals as goal
 pub loop-at-init : goal.loop-at-init
 loop-at-init c = let x = c.args in (omega arith, goes_none x.c x.n x.s.now x.from)
 
-pub returns-then-s-at-le32 : goal.returns-then-s-at-le32
-returns-then-s-at-le32 c = c.loop-at.invariant
-
 pub before_halt-count-requires : goal.before_halt-count-requires
 before_halt-count-requires c = (omega arith, c.requires)
 
@@ -27,6 +24,3 @@ loop-at-preserved c =
     let x = c.args in
     let inv = c.loop-at.invariant in
     (omega arith, goes_block x.c x.n x.s.now inv.1 c.before_halt-count.ensures.1 (omega arith))
-
-pub returns : goal.returns
-returns c = c.loop-at.invariant

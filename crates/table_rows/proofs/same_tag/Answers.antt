@@ -1,17 +1,16 @@
--- `table_rows::same_tag` meets its contract, byte by byte. Assumes nothing.
-use borrow.Author.Tests.{ne_eqb, eq-eqb}
+-- `table_rows::same_tag` meets its contract: its three bytes are the same. Assumes nothing.
+use mathlib.Core.Path.{◌≡◌, refl, ap, ◌∙◌}
+use mathlib.Core.Bool.{Bool, true, false, ◌&&◌}
+use lib.Dec.{eqb}
 use Rattle.lists.specs.Lists.{same}
-use Rattle.table_rows.proofs.Bytes.{third_decides}
 use Rattle.table_rows.proofs.same_tag.Goals as goal
 
-pub returns-then-a-b : goal.returns-then-a-b
-unfolding same
-returns-then-a-b c = simp (ne_eqb _ _ c.if-a-b.true)
-
-pub returns-then-a-b-2 : goal.returns-then-a-b-2
-unfolding same
-returns-then-a-b-2 c = simp (eq-eqb _ _ c.if-a-b.false, ne_eqb _ _ c.if-a-b-2.true)
+alone : (t : Bool) → t ≡ (t && true)
+alone true = refl
+alone false = refl
 
 pub returns : goal.returns
+unfolding same
 returns c =
-    third_decides _ _ _ _ _ _ (eq-eqb _ _ c.if-a-b.false) (eq-eqb _ _ c.if-a-b-2.false)
+    let x = c.args in
+    c.eq.ensures ∙ ap (λ (t : Bool). eqb x.a.first x.b.first && (eqb x.a.second x.b.second && t)) (alone (eqb x.a.third x.b.third))

@@ -1,5 +1,5 @@
 -- `table_soundness::scan` meets its contract. The loop's invariant: the scan from the first entry on answers as it does from this one on,
--- with the groups that hold it. What is left of the entries falls. Assumes nothing.
+-- with the groups that hold it. Assumes nothing.
 use Prim.Native.Nat.{ℕ, ◌+◌, ◌-◌, ◌≤◌, ◌<◌}
 use mathlib.Core.Path.{◌≡◌, refl, sym, ap, subst, ◌∙◌}
 use mathlib.Core.List.{List}
@@ -86,9 +86,6 @@ still_open-depth-requires c =
     (most-is x.table.now x.whole x.most state.number c.requires c.loop-number-test.true) state.invariant.0 _ c.row_at-row.ensures.is
     (sym c.fits.ensures ∙ not-false _ c.if-not-fits.false-raw) in
     (omega (arith, state.invariant.1.2), o)
-
-pub loop-number-smaller : goal.loop-number-smaller
-loop-number-smaller c = omega (arith, c.loop-number-test.true)
 
 pub loop-number-preserved : goal.loop-number-preserved
 loop-number-preserved c =

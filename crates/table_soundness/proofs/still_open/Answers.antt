@@ -1,5 +1,6 @@
--- `table_soundness::still_open` meets its contract. The loop's invariant: one entry on, the rooms of all groups are those of the first `count`.
--- What is left of them falls. Assumes nothing.
+-- `table_soundness::still_open` meets its contract. The loop's invariant: one entry on, the rooms of all groups are
+-- those of the first `count`. Assumes nothing.
+use native.Mathlib.Omega.{arith}
 use Rattle.table_soundness.proofs.Rooms.{passing_start, passing_next, passing_open, passing_end}
 use Rattle.table_soundness.proofs.still_open.Goals as goal
 
@@ -13,4 +14,4 @@ pub loop-count-preserved : goal.loop-count-preserved
 loop-count-preserved c = passing_next _ _ _ _ c.loop-count.invariant c.loop-count-test.true c.if-next-ends.false
 
 pub returns : goal.returns
-returns c = let p = passing_end _ _ _ _ c.loop-count.invariant c.loop-count-test.false in record { rooms = p.0; nested = p.1; fewer = p.2 }
+returns c = let p = passing_end _ _ _ _ c.loop-count.invariant (omega arith) in record { rooms = p.0; nested = p.1; fewer = p.2 }

@@ -1,10 +1,7 @@
--- `table_soundness::still_open` meets its contract. The loop's invariant: one entry on, the rooms of all groups are those of the first `count`.
--- What is left of them falls. Assumes nothing.
+-- `table_soundness::still_open` meets its contract. The loop's invariant: one entry on, the rooms of all groups are
+-- those of the first `count`. Assumes nothing.
 use Rattle.table_soundness.proofs.Rooms.{Passing}
 use Rattle.table_soundness.proofs.still_open.Given as goal
 
 abbrev pub invariant-loop-count : goal.invariant-loop-count
 invariant-loop-count l = Passing l.ends l.next l.depth l.count
-
-abbrev pub decreases-loop-count : goal.decreases-loop-count
-decreases-loop-count l = l.count

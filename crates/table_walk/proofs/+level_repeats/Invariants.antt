@@ -20,20 +20,19 @@ decreases-repeats l = 2 * (l.depth + (l.part.end - l.part.from)) + 1
 
 abbrev pub invariant-level-loop-number : goal.invariant-level-loop-number
 invariant-level-loop-number l =
-    Levels l.depth (within l.table l.number l.end)
-    × Goes l.c l.s l.initial.here.at
-    (walk tag_of (levels l.depth (within l.table l.from l.end)) (segments_at l.c l.s l.initial.here.at))
-    (walk tag_of (levels l.depth (within l.table l.number l.end))) l.here
+    Levels l.depth (within l.w.table.now l.number l.end)
+    × Goes l.w.c l.w.s.now l.initial.here.at
+    (walk tag_of (levels l.depth (within l.w.table.now l.from l.end)) (segments_at l.w.c l.w.s.now l.initial.here.at))
+    (walk tag_of (levels l.depth (within l.w.table.now l.number l.end))) l.here
     × (l.from ≤ l.number)
 
 abbrev pub decreases-level-loop-number : goal.decreases-level-loop-number
 decreases-level-loop-number l = l.end - l.number
 
-abbrev pub invariant-repeats-loop-left : goal.invariant-repeats-loop-left
-invariant-repeats-loop-left l =
-    Goes l.c l.s l.initial.here.at
-    (repeated tag_of (walk tag_of (levels l.depth (within l.table l.part.from l.part.end))) (tag_bytes l.part.lead) l.part.most (segments_at l.c l.s l.initial.here.at))
-    (repeated tag_of (walk tag_of (levels l.depth (within l.table l.part.from l.part.end))) (tag_bytes l.part.lead) l.left) l.here
-
-abbrev pub decreases-repeats-loop-left : goal.decreases-repeats-loop-left
-decreases-repeats-loop-left l = l.left
+abbrev pub invariant-repeats-loop : goal.invariant-repeats-loop
+invariant-repeats-loop l =
+    Goes l.w.c l.w.s.now l.initial.here.at
+    (repeated tag_of (walk tag_of (levels l.depth (within l.w.table.now l.part.from l.part.end))) (tag_bytes l.part.lead) l.part.most
+    (segments_at l.w.c l.w.s.now l.initial.here.at))
+    (repeated tag_of (walk tag_of (levels l.depth (within l.w.table.now l.part.from l.part.end))) (tag_bytes l.part.lead)
+    (l.part.most - l.counter)) l.here

@@ -12,8 +12,8 @@ overflow_add-number c =
     let x = c.args in
     omega (arith, whole_bytes x.table.now x.number (omega (arith, c.requires.1.0)))
 
-pub row_at-trigger-requires : goal.row_at-trigger-requires
-row_at-trigger-requires c =
+pub row_at-requires : goal.row_at-requires
+row_at-requires c =
     let x = c.args in
     let pre = c.requires in
     let group = sym (ap is_group pre.0) ∙ sym c.is_group.ensures ∙ c.if-is_group.true in
@@ -24,10 +24,10 @@ returns-then-is_group c =
     let x = c.args in
     let pre = c.requires in
     let group = sym (ap is_group pre.0) ∙ sym c.is_group.ensures ∙ c.if-is_group.true in
-    ap (λ (e : Entry). e.tag) c.row_at-trigger.ensures.is ∙ lead_group x.table.now x.number group (omega (arith, pre.1.0, pre.1.1 group))
+    ap (λ (e : Entry). e.tag) c.row_at.ensures.is ∙ lead_group x.table.now x.number group (omega (arith, pre.1.0, pre.1.1 group))
 
-pub returns : goal.returns
-returns c =
+pub returns-else-is_group : goal.returns-else-is_group
+returns-else-is_group c =
     let x = c.args in
     let pre = c.requires in
     ap (λ (e : Entry). e.tag) pre.0

@@ -1,5 +1,4 @@
 -- `tags::begins_as_user` meets its contract: no tag of a service segment begins with another byte than `U`. Assumes nothing.
-use mathlib.Core.Bool.{false≢true}
 use lib.Dec.{eqb}
 use borrow.Author.Tests.{eqb-false, not-true}
 use Rattle.scanner.proofs.Lexing.{lexes_as}
@@ -10,12 +9,3 @@ pub returns-in-Byte : goal.returns-in-Byte
 returns-in-Byte c e =
     let b = c.in-Byte.byte in
     kind_begun _ _ _ (lexes_as _ _ _ c.lex.ensures c.in-Byte.is) (eqb-false b 85 (not-true (eqb b 85) e))
-
-pub returns-in-Separator : goal.returns-in-Separator
-returns-in-Separator c e = absurd (false≢true e)
-
-pub returns-in-Stray : goal.returns-in-Stray
-returns-in-Stray c e = absurd (false≢true e)
-
-pub returns-in-End : goal.returns-in-End
-returns-in-End c e = absurd (false≢true e)

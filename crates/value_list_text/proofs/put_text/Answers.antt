@@ -11,12 +11,10 @@ put_advice-requires c = advice_fits c.args.c (listed_in c.args.bytes.now c.args.
 
 pub put_records-requires : goal.put_records-requires
 put_records-requires c =
-    let chars = c.args.c in
-    let same = stored_length c.args.buffer.now 0 (advice_of chars) c.put_advice.ensures in
-    let known = c.requires in
-    record { listed = known.listed; numbers = known.numbers; short = known.short; room = omega (arith, known.room, same) }
+    let same = stored_length c.args.buffer.now 0 (advice_of c.args.c) c.put_advice.ensures in
+    (c.requires.listed, c.requires.numbers, omega (arith, c.requires.room, same))
 
 pub returns : goal.returns
 returns c =
     text_stored c.args.c (listed_in c.args.bytes.now c.args.table.now) c.args.buffer.now
-    c.put_advice.new.buffer c.put_records.new.buffer c.put_advice.ensures c.put_records.ensures
+    c.put_advice.new.buffer c.put_records.new.buffer c.put_advice.ensures (c.put_records.ensures.whole c.requires.short)

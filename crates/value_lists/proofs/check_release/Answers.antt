@@ -7,11 +7,6 @@ use Rattle.operations.specs.Write.{cannot_stand}
 use Rattle.value_lists.proofs.Records.{lowest_first}
 use Rattle.value_lists.proofs.check_release.Goals as goal
 
-pub returns-then-c-ne32 : goal.returns-then-c-ne32
-returns-then-c-ne32 c =
-    let x = c.args in
-    c.check_each.ensures ∙ ap outcome (sym (lowest_first NeedsRelease (cannot_stand x.c x.bytes.now) 0 (entries x.table.now)))
-
 pub returns-then-overlaps : goal.returns-then-overlaps
 returns-then-overlaps c =
     let x = c.args in
@@ -20,4 +15,4 @@ returns-then-overlaps c =
 pub returns : goal.returns
 returns c =
     let x = c.args in
-    c.check_each-2.ensures ∙ ap outcome (sym (lowest_first NeedsRelease (cannot_stand x.c x.bytes.now) 0 (entries x.table.now)))
+    c.check_each.ensures ∙ ap outcome (sym (lowest_first NeedsRelease (cannot_stand x.c x.bytes.now) 0 (entries x.table.now)))

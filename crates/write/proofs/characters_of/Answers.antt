@@ -1,6 +1,5 @@
 -- `write::characters_of` meets its contract. Assumes nothing.
 use mathlib.Core.Path.{refl}
-use borrow.Author.Rules.{rules}
 use Rattle.characters.specs.Characters.{six_bytes}
 use Rattle.write.proofs.characters_of.Goals as goal
 

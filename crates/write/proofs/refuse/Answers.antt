@@ -1,6 +1,5 @@
 -- `write::refuse` meets its contract. Assumes nothing.
 use mathlib.Core.Path.{refl, ◌∙◌}
-use borrow.Author.Rules.{rules}
 use Rattle.write.proofs.Writing.{all_zero}
 use Rattle.write.proofs.refuse.Goals as goal
 

@@ -1,7 +1,6 @@
 -- `write::write_listed` meets its contract: 2 answers, or what follows it does. Assumes nothing.
 use mathlib.Core.Path.{refl, sym, ap, ◌∙◌}
 use lib.ListN.{length}
-use borrow.Author.Rules.{rules}
 use borrow.Author.Tests.{eq-eqb, ne_eqb}
 use Rattle.characters.specs.Characters.{usable}
 use Rattle.write.proofs.Writing.{refuses, passes, service_answers}
@@ -15,7 +14,7 @@ returns-then-service-ne6 c =
     let output = c.args.output.now in
     refuses service bytes table output 1
     (service_answers service bytes table output (ne_eqb (length service) 6 c.if-service-ne6.true) refl)
-    c.refuse.ensures
+    c.refuse_at.ensures
 
 pub write_released-requires : goal.write_released-requires
 write_released-requires c =
@@ -41,4 +40,4 @@ returns c =
     let unfit = sym (ap usable c.characters_of-c.ensures) ∙ sym c.is_usable.ensures ∙ c.if-is_usable.false in
     refuses service bytes table output 1
     (service_answers service bytes table output (eq-eqb (length service) 6 c.if-service-ne6.false) unfit)
-    c.refuse-2.ensures
+    c.refuse_at-2.ensures

@@ -3,7 +3,6 @@ use Prim.Native.Nat.{◌≤◌}
 use mathlib.Core.Path.{◌≡◌, ◌∙◌}
 use native.Mathlib.Omega.{arith}
 use lib.ListN.{length}
-use borrow.Author.Rules.{rules}
 use Rattle.storing.proofs.Stores.{stored_length}
 use Rattle.operations.specs.ValueList.{listed_in}
 use Rattle.value_list_text.specs.Composing.{composed_text}
@@ -24,7 +23,7 @@ returns-then-n-gt-MOST_BYTES c =
     let known = c.requires in
     refuses service bytes table output 3
     (text_too_long service bytes table output known.0 known.2 c.text_length-n.ensures c.if-n-gt-MOST_BYTES.true)
-    c.refuse.ensures
+    c.refuse_at.ensures
 
 pub returns-then-output-n : goal.returns-then-output-n
 returns-then-output-n c =
@@ -35,7 +34,7 @@ returns-then-output-n c =
     let known = c.requires in
     refuses service bytes table output 3
     (buffer_too_short service bytes table output known.0 known.2 c.text_length-n.ensures c.if-n-gt-MOST_BYTES.false c.if-output-n.true)
-    c.refuse-then-output-n.ensures
+    c.refuse_at-then-output-n.ensures
 
 pub put_text-requires : goal.put_text-requires
 put_text-requires c =

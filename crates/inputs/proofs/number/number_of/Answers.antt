@@ -1,28 +1,38 @@
 -- `inputs::number_of` meets its contract. Assumes nothing.
-use mathlib.Core.Path.{sym, ◌∙◌}
+use Prim.Native.Nat.{ℕ, ◌+◌, ◌*◌}
+use mathlib.Core.Path.{sym, ap, ◌∙◌}
 use native.Mathlib.Omega.{arith}
+use lib.ListN.{drop}
+use Rattle.inputs.specs.Number.{number_from}
 use Rattle.inputs.proofs.Numbers.{no_more, too_low, too_high, too_many, one_more, from_none, none_empty}
+use Rattle.inputs.proofs.number.number_of.Goals.{then-b-lt48-via-then-b-lt48, then-b-lt48-via-else-b-lt48+then-b-gt-NINE, then-b-lt48-via-else-b-lt48+else-b-gt-NINE+then-n-gt99999999}
 use Rattle.inputs.proofs.number.number_of.Goals as goal
 
 pub returns-then-text-eq0 : goal.returns-then-text-eq0
 returns-then-text-eq0 c = sym (none_empty _ c.if-text-eq0.true)
 
-pub loop-i-init : goal.loop-i-init
-loop-i-init c = (omega arith, from_none _ (omega arith))
+pub loop-b-init : goal.loop-b-init
+loop-b-init c = (omega arith, from_none _ (omega arith))
 
 pub returns-then-b-lt48 : goal.returns-then-b-lt48
-returns-then-b-lt48 c = sym (c.loop-i.invariant.1 ∙ too_low _ _ _ c.loop-i-test.true c.if-b-lt48.true)
+returns-then-b-lt48 c =
+    let known = c.loop-b.invariant.1 in
+    let inside = c.loop-b-test.true in
+    elim c.then-b-lt48.branch [
+      | then-b-lt48-via-then-b-lt48 w ↦ sym (known ∙ too_low _ _ _ inside w.if-b-lt48.true)
+      | then-b-lt48-via-else-b-lt48+then-b-gt-NINE w ↦ sym (known ∙ too_high _ _ _ inside w.if-b-lt48.false w.if-b-gt-NINE.true)
+      | then-b-lt48-via-else-b-lt48+else-b-gt-NINE+then-n-gt99999999 w ↦
+          sym (known ∙ too_many _ _ _ inside w.if-b-lt48.false w.if-b-gt-NINE.false w.if-n-gt99999999.true)
+    ]
 
-pub returns-then-b-gt-NINE : goal.returns-then-b-gt-NINE
-returns-then-b-gt-NINE c = sym (c.loop-i.invariant.1 ∙ too_high _ _ _ c.loop-i-test.true c.if-b-lt48.false c.if-b-gt-NINE.true)
-
-pub returns-then-n-gt99999999 : goal.returns-then-n-gt99999999
-returns-then-n-gt99999999 c =
-    sym (c.loop-i.invariant.1 ∙ too_many _ _ _ c.loop-i-test.true c.if-b-lt48.false c.if-b-gt-NINE.false c.if-n-gt99999999.true)
-
-pub loop-i-preserved : goal.loop-i-preserved
-loop-i-preserved c =
-    (omega arith, c.loop-i.invariant.1 ∙ one_more _ _ _ c.loop-i-test.true c.if-b-lt48.false c.if-b-gt-NINE.false c.if-n-gt99999999.false)
+pub loop-b-preserved : goal.loop-b-preserved
+loop-b-preserved c =
+    let state = c.loop-b in (
+      omega arith,
+      state.invariant.1
+          ∙ one_more _ _ _ c.loop-b-test.true c.if-b-lt48.false c.if-b-gt-NINE.false c.if-n-gt99999999.false
+          ∙ ap (λ (digit : ℕ). number_from (10 * state.n + digit) (drop (state.b-index + 1) c.args.text.now)) (sym c.from.ensures),
+    )
 
 pub returns : goal.returns
-returns c = sym (c.loop-i.invariant.1 ∙ no_more _ _ _ c.loop-i-test.false)
+returns c = sym (c.loop-b.invariant.1 ∙ no_more _ _ _ c.loop-b-test.false)

@@ -1,16 +1,15 @@
 -- `finding::keeps` meets its contract. Assumes nothing.
 use native.Mathlib.Omega.{arith}
-use Prim.Native.Nat.{ℕ, ◌+◌, ◌-◌, ◌*◌, ◌^◌, ◌≤◌, ◌<◌}
-use mathlib.Core.Path.{◌≡◌, refl, sym, ap, ap₂, subst, ◌∙◌}
+use Prim.Native.Nat.{ℕ}
+use mathlib.Core.Path.{ap, ◌∙◌}
 use borrow.Author.Tests.{not-true, not-false}
 use Rattle.shelf_layout.specs.Laid.{laid}
 use Rattle.shelf_layout.proofs.Readings.{occupied_by}
-use Rattle.shelves.proofs.Sound.{Sound, says_sound}
+use Rattle.shelves.proofs.Sound.{says_sound}
 use mathlib.Core.List.{List}
 use Rattle.lists.specs.Lists.{same}
 use Rattle.shelf_soundness.proofs.Ranges.{text_is}
 use Rattle.shelf.proofs.Copies.{keeps_free, keeps_same, keeps_longer, kept_within}
-use borrow.Author.Rules.{rules}
 use Rattle.shelf.proofs.finding.keeps.Goals as goal
 
 pub returns-then-not-is_occupied : goal.returns-then-not-is_occupied

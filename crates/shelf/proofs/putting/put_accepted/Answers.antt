@@ -1,8 +1,6 @@
 -- `putting::put_accepted` meets its contract: what is put is the normal form. Assumes nothing.
-use Prim.Native.Nat.{ℕ, ◌+◌, ◌-◌, ◌*◌, ◌^◌, ◌≤◌, ◌<◌}
-use mathlib.Core.Path.{◌≡◌, refl, sym, ap, ap₂, subst, ◌∙◌}
+use mathlib.Core.Path.{refl, sym}
 use Rattle.compare.proofs.Compared.{form_held}
-use borrow.Author.Rules.{rules}
 use Rattle.shelf.proofs.putting.put_accepted.Goals as goal
 
 pub slice_bounds-form-end : goal.slice_bounds-form-end

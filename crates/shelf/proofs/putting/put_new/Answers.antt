@@ -1,13 +1,15 @@
 -- `putting::put_new` meets its contract: 17, 18, or the text is stored. Assumes nothing.
+use Rattle.shelf.specs.Parts.{PutsForm}
+use Rattle.shelf_summary.specs.declared.Placed.{Placed}
+use Rattle.refusals.specs.declared.Refusal.{Refusal}
+use Rattle.std.specs.Prelude.{Result}
 use native.Mathlib.Omega.{arith}
-use Prim.Native.Nat.{ℕ, ◌+◌, ◌-◌, ◌*◌, ◌^◌, ◌≤◌, ◌<◌}
-use mathlib.Core.Path.{◌≡◌, refl, sym, ap, ap₂, subst, ◌∙◌}
+use mathlib.Core.Path.{sym, subst}
 use Rattle.shelf_layout.specs.Laid.{laid}
-use Rattle.shelves.proofs.Sound.{Sound, says_sound}
+use Rattle.shelves.proofs.Sound.{says_sound}
 use Rattle.shelf.proofs.Lowest.{lowest_by, none_free, one_free}
 use Rattle.shelf.proofs.Lent.{heads_map, heads_end}
 use Rattle.shelf.proofs.Puts.{puts_full, puts_long, puts_new}
-use borrow.Author.Rules.{rules}
 use Rattle.shelf.proofs.putting.put_new.Goals as goal
 
 pub returns-then-slot-eq-SLOTS : goal.returns-then-slot-eq-SLOTS
@@ -18,7 +20,8 @@ returns-then-slot-eq-SLOTS c =
     let s = x.s.now in
     let q = (says_sound l s).0 known.0 in
     let lowest = lowest_by l s (heads_map s x.u known.2) c.lowest_free-slot.ensures in
-    puts_full l s x.form.now x.u known.2 known.1.0 known.0 known.3 (none_free l s lowest c.if-slot-eq-SLOTS.true)
+    subst (λ (r : Result Placed Refusal). PutsForm l s x.form.now r s) (sym c.failed.ensures)
+    (puts_full l s x.form.now x.u known.2 known.1.0 known.0 known.3 (none_free l s lowest c.if-slot-eq-SLOTS.true))
 
 pub overflow_sub-s : goal.overflow_sub-s
 overflow_sub-s c =
@@ -40,7 +43,8 @@ returns-then-s-end c =
     let lowest = lowest_by l s (heads_map s x.u known.2) c.lowest_free-slot.ensures in
     let end = heads_end s x.u known.2 l known.1.0 known.0 c.base.ensures in
     let free = one_free l s lowest c.if-slot-eq-SLOTS.false in
-    puts_long l s x.form.now x.u known.2 known.1.0 known.0 known.3 free.0 (omega (arith, q.room, end, c.if-s-end.true))
+    subst (λ (r : Result Placed Refusal). PutsForm l s x.form.now r s) (sym c.failed-then-s-end.ensures)
+    (puts_long l s x.form.now x.u known.2 known.1.0 known.0 known.3 free.0 (omega (arith, q.room, end, c.if-s-end.true)))
 
 pub store_text-requires : goal.store_text-requires
 store_text-requires c =

@@ -1,9 +1,6 @@
 -- `putting::store_text` meets its contract: the text and its pair, one after another. Assumes nothing.
-use Prim.Native.Nat.{ℕ, ◌+◌, ◌-◌, ◌*◌, ◌^◌, ◌≤◌, ◌<◌}
-use mathlib.Core.Path.{◌≡◌, refl, sym, ap, ap₂, subst, ◌∙◌}
 use Rattle.shelf_layout.specs.Laid.{laid}
 use Rattle.shelf.proofs.Puts.{text_stored}
-use borrow.Author.Rules.{rules}
 use Rattle.shelf.proofs.putting.store_text.Goals as goal
 
 pub returns : goal.returns

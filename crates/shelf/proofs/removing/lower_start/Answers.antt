@@ -1,14 +1,12 @@
 -- `removing::lower_start` meets its contract: one of three pairs. Assumes nothing.
 use native.Mathlib.Omega.{arith}
-use Prim.Native.Nat.{ℕ, ◌+◌, ◌-◌, ◌*◌, ◌^◌, ◌≤◌, ◌<◌}
-use mathlib.Core.Path.{◌≡◌, refl, sym, ap, ap₂, subst, ◌∙◌}
+use Prim.Native.Nat.{ℕ, ◌-◌}
+use mathlib.Core.Path.{ap, ap₂, ◌∙◌}
 use Rattle.shelf_layout.specs.Laid.{laid}
-use mathlib.Core.List.{List}
 use lib.Seq.{sets}
 use Rattle.shelves.specs.Layout.{pair_place, start_of, length_of}
 use Rattle.shelves.specs.Operations.{pair_of}
 use Rattle.shelf.proofs.Pairs.{lowered_removed, lowered_later, lowered_earlier}
-use borrow.Author.Rules.{rules}
 use Rattle.shelf.proofs.removing.lower_start.Goals as goal
 
 pub returns-then-slot-removed : goal.returns-then-slot-removed

@@ -1,17 +1,10 @@
--- `removing::lower_starts` meets its contract. The loop's invariant: the pairs of the slots passed are stored. What is left falls. Assumes nothing.
-use native.Mathlib.Omega.{arith}
-use Prim.Native.Nat.{ℕ, ◌+◌, ◌-◌, ◌*◌, ◌^◌, ◌≤◌, ◌<◌}
-use mathlib.Core.Path.{◌≡◌, refl, sym, ap, ap₂, subst, ◌∙◌}
+-- `removing::lower_starts` meets its contract. The loop's invariant: the pairs of the slots passed are stored. Assumes nothing.
+use mathlib.Core.Path.{◌≡◌}
 use Rattle.shelf_layout.specs.Laid.{laid}
 use lib.ListN.{length}
-use lib.Seq.{sets, length-sets}
-use Rattle.lists.specs.Lists.{gather}
-use Rattle.shelves.specs.Layout.{below}
-use Rattle.shelf.proofs.Pairs.{pairs, pair_stored, can_lower}
+use lib.Seq.{sets}
+use Rattle.shelf.proofs.Pairs.{pairs}
 use Rattle.shelf.proofs.removing.lower_starts.Given as goal
 
 abbrev pub invariant-loop-slot : goal.invariant-loop-slot
-invariant-loop-slot l = (l.slot ≤ 64) × (length l.s ≡ length l.initial.s) × (l.s ≡ sets l.initial.s l.l.pairs (pairs (laid l.l) l.initial.s l.removed l.slot))
-
-abbrev pub decreases-loop-slot : goal.decreases-loop-slot
-decreases-loop-slot l = 64 - l.slot
+invariant-loop-slot l = (length l.s ≡ length l.initial.s) × (l.s ≡ sets l.initial.s l.l.pairs (pairs (laid l.l) l.initial.s l.removed l.slot))

@@ -1,16 +1,14 @@
 -- `removing::take_out` meets its contract: the texts behind it moved down, and the pairs. Assumes nothing.
 use native.Mathlib.Omega.{arith}
-use Prim.Native.Nat.{ℕ, ◌+◌, ◌-◌, ◌*◌, ◌^◌, ◌≤◌, ◌<◌}
-use mathlib.Core.Path.{◌≡◌, refl, sym, ap, ap₂, subst, ◌∙◌}
+use mathlib.Core.Path.{sym, ap, ◌∙◌}
 use Rattle.shelf_layout.specs.Laid.{laid}
-use Rattle.shelves.proofs.Sound.{Sound, says_sound}
+use Rattle.shelves.proofs.Sound.{says_sound}
 use lib.ListN.{length}
 use lib.Seq.{length-sets}
 use Rattle.shelves.specs.Layout.{start_of}
 use Rattle.shelves.specs.Operations.{texts_without}
 use Rattle.shelf.proofs.Lent.{heads_end}
 use Rattle.shelf.proofs.Without.{text_lies, start_kept_lem, length_kept, still_lower, taken_out, texts_moved}
-use borrow.Author.Rules.{rules}
 use Rattle.shelf.proofs.removing.take_out.Goals as goal
 
 pub start_of-start-requires : goal.start_of-start-requires

@@ -1,32 +1,33 @@
 -- `removing::take_text` meets its contract: 20, or the text is taken out. Assumes nothing.
+use Rattle.answers.specs.Answers.{Stored}
 use native.Mathlib.Omega.{arith}
-use Prim.Native.Nat.{ℕ, ◌+◌, ◌-◌, ◌*◌, ◌^◌, ◌≤◌, ◌<◌}
-use mathlib.Core.Path.{◌≡◌, refl, sym, ap, ap₂, subst, ◌∙◌}
-use Rattle.shelf_layout.specs.Laid.{laid}
+use Prim.Native.Nat.{◌<◌}
+use mathlib.Core.Path.{◌≡◌, sym, ap, subst, ◌∙◌}
 use mathlib.Core.Bool.{true}
 use borrow.Author.Tests.{not-true, not-false}
 use Rattle.shelves.specs.Layout.{Layout, version_two, length_of}
 use Rattle.shelves.specs.Soundness.{sound}
-use Rattle.shelves.proofs.Sound.{Sound, says_sound}
+use Rattle.shelves.proofs.Sound.{says_sound}
 use Rattle.shelf_layout.proofs.Readings.{occupied_by}
-use Rattle.shelf.specs.Parts.{cleared}
+use Rattle.shelf.specs.Parts.{cleared, TakesText}
 use Rattle.shelf.proofs.Refusing.{refusal_above, refusal_empty, refusal_kept}
 use Rattle.shelf.proofs.Lent.{heads_map, refused_slot, taken}
-use borrow.Author.Rules.{rules}
 use Rattle.shelf.proofs.removing.take_text.Goals as goal
 
 pub returns-then-slot-ge-SLOTS : goal.returns-then-slot-ge-SLOTS
 returns-then-slot-ge-SLOTS c =
     let x = c.args in
     let known = c.requires in
-    refused_slot version_two x.s.now x.u known.1 known.0 x.slot (refusal_above version_two x.s.now x.slot known.0 c.if-slot-ge-SLOTS.true)
+    subst (λ (r : Stored). TakesText version_two x.s.now x.slot r x.s.now) (sym c.failed.ensures)
+    (refused_slot version_two x.s.now x.u known.1 known.0 x.slot (refusal_above version_two x.s.now x.slot known.0 c.if-slot-ge-SLOTS.true))
 
 pub returns-then-not-is_occupied : goal.returns-then-not-is_occupied
 returns-then-not-is_occupied c =
     let x = c.args in
     let known = c.requires in
     let empty = occupied_by x.s.now x.slot (heads_map x.s.now x.u known.1) c.is_occupied.ensures (not-true c.is_occupied.result c.if-not-is_occupied.true-raw) in
-    refused_slot version_two x.s.now x.u known.1 known.0 x.slot (refusal_empty version_two x.s.now x.slot known.0 (omega (arith, c.if-slot-ge-SLOTS.false)) empty)
+    subst (λ (r : Stored). TakesText version_two x.s.now x.slot r x.s.now) (sym c.failed-then-not-is_occupied.ensures)
+    (refused_slot version_two x.s.now x.u known.1 known.0 x.slot (refusal_empty version_two x.s.now x.slot known.0 (omega (arith, c.if-slot-ge-SLOTS.false)) empty))
 
 pub length_of-size-requires : goal.length_of-size-requires
 length_of-size-requires c =

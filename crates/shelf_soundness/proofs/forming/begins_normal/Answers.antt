@@ -6,7 +6,6 @@ use Rattle.lists.specs.Lists.{begins}
 use Rattle.characters.specs.declared.Characters.{Characters}
 use Rattle.characters.specs.Characters.{advice_of, spelled_out}
 use Rattle.own_form_laws.specs.OwnForm.{begins_normal}
-use borrow.Author.Rules.{rules}
 use Rattle.shelf_soundness.proofs.forming.begins_normal.Goals as goal
 
 pub returns : goal.returns

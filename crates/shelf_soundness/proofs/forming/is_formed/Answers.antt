@@ -1,10 +1,9 @@
 -- `forming::is_formed` meets its contract. Assumes nothing.
-use mathlib.Core.Path.{◌≡◌, refl, sym, ap, ap₂, subst, ◌∙◌}
+use mathlib.Core.Path.{ap, ◌∙◌}
 use Rattle.shelf_layout.specs.Laid.{laid}
 use Rattle.shelf_layout.proofs.Readings.{occupied_by}
 use Rattle.shelves.specs.Soundness.{is_normal_form}
 use Rattle.shelf_soundness.proofs.Ranges.{text_is, in_shelf, formed_kept, formed_free}
-use borrow.Author.Rules.{rules}
 use Rattle.shelf_soundness.proofs.forming.is_formed.Goals as goal
 
 pub slice_bounds-is_normal_form-end : goal.slice_bounds-is_normal_form-end

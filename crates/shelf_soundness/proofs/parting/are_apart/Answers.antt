@@ -1,7 +1,6 @@
 -- `parting::are_apart` meets its contract. Assumes nothing.
 use Rattle.shelf_layout.specs.Laid.{laid}
 use Rattle.shelf_soundness.proofs.Ranges.{apart_is}
-use borrow.Author.Rules.{rules}
 use Rattle.shelf_soundness.proofs.parting.are_apart.Goals as goal
 
 pub returns : goal.returns

@@ -1,10 +1,8 @@
 -- `parting::are_same` meets its contract: texts of other lengths or sums differ. Assumes nothing.
-use Prim.Native.Nat.{ℕ, ◌+◌, ◌-◌, ◌*◌, ◌≤◌, ◌<◌}
-use mathlib.Core.Path.{◌≡◌, refl, sym, ap, ap₂, subst, ◌∙◌}
+use mathlib.Core.Path.{sym, ap₂, ◌∙◌}
 use Rattle.shelf_layout.specs.Laid.{laid}
 use Rattle.lists.specs.Lists.{same}
 use Rattle.shelf_soundness.proofs.Ranges.{text_is, in_shelf, lengths_differ, sums_differ}
-use borrow.Author.Rules.{rules}
 use Rattle.shelf_soundness.proofs.parting.are_same.Goals as goal
 
 pub returns-then-length-length_of : goal.returns-then-length-length_of

@@ -1,13 +1,12 @@
 -- `parting::sum_in` meets its contract. Assumes nothing.
 use native.Mathlib.Omega.{arith}
-use Prim.Native.Nat.{ℕ, ◌+◌, ◌-◌, ◌*◌, ◌≤◌, ◌<◌}
-use mathlib.Core.Path.{◌≡◌, refl, sym, ap, ap₂, subst, ◌∙◌}
+use Prim.Native.Nat.{◌+◌, ◌-◌}
+use mathlib.Core.Path.{ap, ◌∙◌}
 use Rattle.shelf_layout.specs.Laid.{laid}
-use lib.ListN.{length, take, drop, get_or, set, length-take, length-drop, length-set}
+use lib.ListN.{drop, length-take, length-drop}
 use Rattle.shelf_layout.proofs.Readings.{occupied_by}
 use Rattle.shelves.specs.Layout.{total}
 use Rattle.shelf_soundness.proofs.Ranges.{text_is, in_shelf, sum_kept, sum_free}
-use borrow.Author.Rules.{rules}
 use Rattle.shelf_soundness.proofs.parting.sum_in.Goals as goal
 
 pub slice_bounds-sum-end : goal.slice_bounds-sum-end

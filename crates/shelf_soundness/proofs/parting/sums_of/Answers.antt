@@ -1,10 +1,10 @@
--- `parting::sums_of` meets its contract. The loop's invariant: the sums of the slots passed are there. What is left falls. Assumes nothing.
+-- `parting::sums_of` meets its contract. The loop's invariant: the sums of the slots passed are there. Assumes nothing.
 -- one more is there
 use native.Mathlib.Omega.{arith}
-use Prim.Native.Nat.{ℕ, ◌+◌, ◌-◌, ◌*◌, ◌≤◌, ◌<◌}
-use mathlib.Core.Path.{◌≡◌, refl, sym, ap, ap₂, subst, ◌∙◌}
+use Prim.Native.Nat.{ℕ, ◌+◌, ◌<◌}
+use mathlib.Core.Path.{◌≡◌, refl, sym, ap, ◌∙◌}
 use Rattle.shelf_layout.specs.Laid.{laid}
-use lib.ListN.{length, take, drop, get_or, set, length-take, length-drop, length-set}
+use lib.ListN.{length, get_or, set, length-set}
 use Rattle.shelf_soundness.specs.Clauses.{sum_in}
 use mathlib.Core.List.{List}
 use mathlib.Core.Logic.{⊎_elim}
@@ -22,31 +22,18 @@ stored sums n v {x} h f e k i =
     (decides (eqb k n) (says_eq k n))
 
 pub loop-slot-init : goal.loop-slot-init
-loop-slot-init c = (omega arith, refl, λ k h. absurd (omega arith))
+loop-slot-init c = (refl, λ k h. absurd (omega arith))
 
 pub sum_in-requires : goal.sum_in-requires
 sum_in-requires c = (c.requires.0, c.requires.1, omega arith)
-
-pub offset_bounds-sums-slot : goal.offset_bounds-sums-slot
-offset_bounds-sums-slot c = omega arith
-
-pub bounds-sums-slot : goal.bounds-sums-slot
-bounds-sums-slot c = omega arith
-
-pub overflow_add-slot : goal.overflow_add-slot
-overflow_add-slot c = omega arith
-
-pub loop-slot-smaller : goal.loop-slot-smaller
-loop-slot-smaller c = omega arith
 
 pub loop-slot-preserved : goal.loop-slot-preserved
 loop-slot-preserved c =
     let x = c.args in
     let state = c.loop-slot in (
-      omega arith,
-      length-set state.sums state.slot c.sum_in.result ∙ state.invariant.1,
-      stored state.sums state.slot (sum_in (laid x.l) x.s.now) (omega arith) state.invariant.2 c.sum_in.ensures,
+      length-set state.sums state.slot c.sum_in.result ∙ state.invariant.0,
+      stored state.sums state.slot (sum_in (laid x.l) x.s.now) (omega arith) state.invariant.1 c.sum_in.ensures,
     )
 
 pub returns : goal.returns
-returns c = λ k h. c.loop-slot.invariant.2 k (omega arith)
+returns c = λ k h. c.loop-slot.invariant.1 k (omega arith)

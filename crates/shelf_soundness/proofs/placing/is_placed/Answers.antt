@@ -2,7 +2,6 @@
 use Rattle.shelf_layout.specs.Laid.{laid}
 use Rattle.shelf_layout.proofs.Readings.{occupied_by}
 use Rattle.shelf_soundness.proofs.Ranges.{placed_kept, placed_free}
-use borrow.Author.Rules.{rules}
 use Rattle.shelf_soundness.proofs.placing.is_placed.Goals as goal
 
 pub returns-then-is_occupied : goal.returns-then-is_occupied

@@ -1,4 +1,6 @@
 -- `surface::laying::listing_of` meets its contract: both lengths, or the refusal's number and place. Assumes nothing.
+use Rattle.refusals.specs.declared.Refusal.{Refusal}
+use Rattle.std.specs.Prelude.{Result}
 use mathlib.Core.Path.{sym, ap, ◌∙◌}
 use borrow.Author.Rules.{rules}
 use Rattle.answers.specs.declared.Listed.{Listed}
@@ -8,11 +10,11 @@ use Rattle.surface.specs.Answered.{listing_of}
 use Rattle.surface.proofs.Laid.{refused_listing}
 use Rattle.surface.proofs.laying.listing_of.Goals as goal
 
-pub returns-in-Values : goal.returns-in-Values
+pub returns-in-Ok : goal.returns-in-Ok
 unfolding told_listed given listing_of value
-returns-in-Values c = sym (ap (λ (x : Listed). listing_of (told_listed x)) c.in-Values.is)
+returns-in-Ok c = sym (ap (λ (x : Result Listed Refusal). listing_of (told_listed x)) c.in-Ok.is)
 
-pub returns-in-Refused : goal.returns-in-Refused
+pub returns-in-Err : goal.returns-in-Err
 unfolding told_listed
-returns-in-Refused c = refused_listing c.in-Refused.refusal c.refusal_number.ensures
-    ∙ sym (ap (λ (x : Listed). listing_of (told_listed x)) c.in-Refused.is)
+returns-in-Err c = refused_listing c.in-Err.refusal c.refusal_number.ensures
+    ∙ sym (ap (λ (x : Result Listed Refusal). listing_of (told_listed x)) c.in-Err.is)

@@ -1,9 +1,0 @@
--- `stage_length::is_whole` meets its contract. Assumes nothing.
-use mathlib.Core.Bool.{false≢true}
-use Rattle.stage_length.proofs.is_whole.Goals as goal
-
-pub returns-then-not-is_normal : goal.returns-then-not-is_normal
-returns-then-not-is_normal c e = absurd (false≢true e)
-
-pub returns : goal.returns
-returns c = c.is_unbroken.ensures
