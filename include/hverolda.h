@@ -35,7 +35,7 @@
  * Stack. The most bytes that a call takes, as they are measured on x86-64 (the gate holds them to this):
  *     hverolda_compare, hverolda_keep                66,400
  *     hverolda_shelf_put                             34,300
- *     hverolda_write, hverolda_acknowledge            9,600
+ *     hverolda_write, hverolda_acknowledge            9,000
  *     hverolda_judge_by_table                         2,700
  *     all others                                      2,300
  * Compare and Keep hold two arrays of 32,000 bytes, or shorter ones where neither input has more than

@@ -45,7 +45,7 @@ sub count_source {
         $code =~ s{(?:^|\s)//.*}{}gm;        # comments,
         $code =~ s{^\s+(?:requires|ensures)\b.*?(?:(?=^\s*(?:requires|ensures)\b|^\s*\{$)|;$)}{}gms;    # statements about the code,
         $code =~ s{#!?\[.*?\]}{}gs;          # attributes
-        $code =~ s{<const \w+: \w+>}{}g;     # parameters that say how long an array is
+        $code =~ s{<const \w+: \w+}{<}g;    # parameters that say how long an array is, or how many bytes a loop asks
         push @{ $fields{$1} }, [$2 =~ /\w+: ([^,\n]+),/g] while $code =~ /\bstruct (\w+) \{(.*?)\}/gs;
         push @{ $fields{$1} }, [split /,\s*/, $2] while $code =~ /\bstruct (\w+)\((.*?)\);/gs;
         push @{ $number{$1} }, value_of($2) while $code =~ /\bconst (\w+): \w+ = (\w+);/g;

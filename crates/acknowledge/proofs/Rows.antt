@@ -1,5 +1,5 @@
 -- The parts one after the other: their records, and how the text goes on from each. Assumes nothing.
-use Rattle.std.specs.Prelude.{if◌then◌else◌, Ok, Err}
+use Rattle.std.specs.Prelude.{if◌then◌else◌, None, Ok, Err, MatchResult}
 use Prim.Native.Nat.{ℕ, suc, ◌+◌, ◌≤◌, ◌<◌}
 use mathlib.Core.Path.{◌≡◌, refl, sym, ap, subst, ◌∙◌}
 use mathlib.Core.Bool.{Bool, true, false, false≢true}
@@ -33,10 +33,9 @@ use Rattle.stage_walks.specs.Walks.{refuse}
 use Rattle.operations.specs.ValueList.{Item, Entry, entries, value_in, rank_of, list_repeat, list_element, listed_in}
 use Rattle.value_lists.specs.Records.{record_at}
 use Rattle.value_lists.proofs.Records.{records_next}
-use Rattle.value_list_text.specs.Composing.{record_tokens, list_tokens, first_measure, composed_text, HasRoom, Composes}
+use Rattle.value_list_text.specs.Composing.{record_tokens, list_tokens, first_measure, composed_text, short_length, HasRoom, Composes}
 use Rattle.value_list_text.specs.Advancing.{records_tokens, Alike}
 use Rattle.value_list_text.proofs.Composed.{text_length, ended_total}
-use Rattle.value_list_text.proofs.Lengths.{capped_last}
 use Rattle.value_list_text.proofs.Putting.{given_up}
 use Rattle.value_list_text.proofs.Advancing.{lead_emitted, lead_alike, end_alike, alike_same, alike_trans}
 use Rattle.received_pieces.specs.Pieces.{element_in}
@@ -70,6 +69,21 @@ module _ (s : List ℕ) (l : Lent) (r : Received) where
 
   pub length_next : (i : ℕ) → i < 20 → length (row_from s l r i) ≡ length (items_at i) + length (row_from s l r (i + 1))
   length_next i h = ap length (row_next i h) ∙ length-append (items_at i) (row_from s l r (i + 1))
+
+-- ---- the answer for a part, with the place counted on
+
+abbrev shifted : ℕ → Refusal → Refusal
+shifted n e = record { fault = NeedsRelease; place = n + e.place }
+
+module _ (n : ℕ) where
+  pub shifted_err : (o m : Outcome) → MatchResult o (λ x. m ≡ Ok x) (λ e. m ≡ Err (shifted n e)) → {q : Refusal} → m ≡ Err q
+      → (p : Refusal) × (o ≡ Err p) × (q ≡ shifted n p)
+  shifted_err (Ok x) m h e = cc
+  shifted_err (Err p) m h e = (p, refl, cc)
+
+  pub shifted_ok : (o m : Outcome) → MatchResult o (λ x. m ≡ Ok x) (λ e. m ≡ Err (shifted n e)) → {u : Unit} → m ≡ Ok u → o ≡ Ok tt
+  shifted_ok (Ok x) m h e = refl
+  shifted_ok (Err p) m h e = cc
 
 -- ---- which record cannot stand
 
@@ -352,7 +366,7 @@ module _ {holds : List ℕ → ℕ → List ℕ → List ℕ} {room : List ℕ �
           }
 
       -- the text is over 32,000 bytes
-      pub underway_over : {left : List ℕ} → most_bytes < n.total → Composes holds c (row s l r) before left 32001
+      pub underway_over : {left : List ℕ} → most_bytes < n.total → Composes holds c (row s l r) before left None
       underway_over k = given_up c (row s l r) (omega (arith, a.over k, part_most c s l r g.reached h fine, size c s l r))
 
   -- the last segment is ended
@@ -370,10 +384,9 @@ module _ {holds : List ℕ → ℕ → List ℕ → List ℕ} {room : List ℕ �
         let n : Measure = after c m (separator 0 0 ∷ []) in
         omega (arith, f, g.same_room, g.short, reached_end c s l r g.reached h {n = n} refl, ended_total c m {n = n} refl)
 
-    pub underway_end : {put : List ℕ} {n : Measure} → Puts holds c output m (separator 0 0 ∷ []) put n → Composes holds c (row s l r) before put n.total
+    pub underway_end : {put : List ℕ} {n : Measure} → Puts holds c output m (separator 0 0 ∷ []) put n → Composes holds c (row s l r) before put (short_length n.total)
     underway_end (p, e) =
-        let ended = reached_end c s l r g.reached h e in
         record {
-          measured = ended ∙ capped_last (length (composed_text c (row s l r))) (omega (arith, ended, g.short, ended_total c m e));
+          measured = ap short_length (reached_end c s l r g.reached h e);
           whole = λ k. p ∙ ap (holds output m.total) (sym last) ∙ sym g.put;
         }

@@ -1,13 +1,12 @@
 -- All parts in their order, and what the stages after 23 answer for them. Assumes nothing.
 use Rattle.answers.specs.Answers.{Stored}
-use Rattle.std.specs.Prelude.{ℕ, ◌≤◌, ◌<◌, ◌≡◌, true, List, length, drop, get_or}
+use Rattle.std.specs.Prelude.{ℕ, ◌≤◌, ◌<◌, List, length, drop, get_or}
 use Rattle.characters.specs.declared.Characters.{Characters}
-use Rattle.characters.specs.Characters.{usable, spelled_out}
 use Rattle.refusals.specs.Refusals.{answering}
 use Rattle.refusals.specs.Limits.{most_bytes}
 use Rattle.operations.specs.Judge.{stored_in}
-use Rattle.operations.specs.ValueList.{Item, list_bytes, list_table}
-use Rattle.write.specs.Writing.{Written, WritesAfter, Passed}
+use Rattle.operations.specs.ValueList.{Item}
+use Rattle.write.specs.Writing.{Tried}
 use Rattle.acknowledgements.specs.Lent.{Lent}
 use Rattle.acknowledgements.specs.Acknowledgement.{acknowledgement_text, acknowledge_stages}
 use Rattle.acknowledgement_parts.specs.declared.Part.{Part}
@@ -35,20 +34,12 @@ pub record Ready (s : List ℕ) (l : Lent) (r : Received) : Type 0 where
 abbrev pub AllStand : Characters → List ℕ → Received → Type 0
 AllStand c s r = (i : ℕ) → i < 20 → Stands c s r.characters (part_of r i)
 
--- what is answered, and left in the output, where so many of the stages are passed
-abbrev pub AnswersAfter : ℕ → List ℕ → Lent → (output : List ℕ) → Stored → (after : List ℕ) → Type 0
-AnswersAfter passed s l output r after =
+-- what is answered, and left in the output, where so many of the stages are passed, before a refusal leaves the output zero
+abbrev pub TriesAfter : ℕ → List ℕ → Lent → (output : List ℕ) → Stored → (after : List ℕ) → Type 0
+TriesAfter passed s l output r after =
     let text = acknowledgement_text s l in
-    Written (answering (drop passed (acknowledge_stages s l output))) (length text) (stored_in output text) output r after
+    Tried (answering (drop passed (acknowledge_stages s l output))) (length text) (stored_in output text) output r after
 
 -- what is asked where the row is put: it has at most 32,000 records
 abbrev pub Few : List ℕ → Lent → Received → Type 0
 Few s l r = Ready s l r × (length (row s l r) ≤ most_bytes)
-
--- the row as a value list: 15, 2 and 16 do not refuse it
-abbrev pub Listed : Characters → List ℕ → Lent → Received → Type 0
-Listed c s l r = Ready s l r × (usable c ≡ true) × Passed (list_bytes (row s l r)) (list_table (row s l r))
-
--- what Write answers for it after them
-abbrev pub WritesRow : Characters → List ℕ → Lent → Received → (output : List ℕ) → Stored → (after : List ℕ) → Type 0
-WritesRow c s l r output told after = WritesAfter 3 (spelled_out c) (list_bytes (row s l r)) (list_table (row s l r)) output told after

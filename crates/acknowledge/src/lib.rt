@@ -4,7 +4,9 @@
 // `acknowledgements` gives: what is refused leaves the whole output zero.
 #![tactic(auto)]
 
-ghost use Rattle.std.specs.Prelude.{◌≡◌, false, length};
+ghost use Rattle.std.specs.Prelude.{◌≡◌, ◌≤◌, false, length};
+ghost use Rattle.std.proofs.lemmas.List.Edits.{sets};
+ghost use Rattle.refusals.specs.Limits.{most_bytes};
 ghost use Rattle.refusals.specs.Refusals.{outcome};
 ghost use Rattle.value_list_text.specs.Composing.{composed_text, HasRoom, Composes};
 ghost use Rattle.acknowledgements.specs.Lent.{lent_by, any_bad_lent};
@@ -12,7 +14,7 @@ ghost use Rattle.acknowledgements.specs.Received.{cannot_be_acknowledged};
 ghost use Rattle.acknowledgements.specs.Promises.{Acknowledges};
 ghost use Rattle.acknowledgement_parts.specs.Parts.{lent_in, first_bare};
 ghost use Rattle.reported.specs.Reporting.{Takes};
-ghost use Rattle.acknowledge.specs.Rows.{row, Ready, AllStand, AnswersAfter, Few, Listed, WritesRow};
+ghost use Rattle.acknowledge.specs.Rows.{row, Ready, AllStand, TriesAfter, Few};
 
 use acknowledgement_parts::{LentElements, Received, check_part, part_at, put_part, records_in};
 use characters::Characters;
@@ -21,10 +23,10 @@ use lent_elements::LentElement;
 use refusals::{Fault, Refusal};
 use refusing::failed;
 use storing::{Measured, Sink, Stored};
-use value_list_text::first_measure;
-use write::{refuse, refuse_at, write_judged};
+use value_list_text::{first_measure, short_length};
 
-// How many parts there are.
+// How many parts there are. (An array of the parts would be built on the stack in each of the loops over them, or stand among
+// the constant data, which is held to 64 bytes.)
 const PARTS: usize = 20;
 
 // ---- records
@@ -51,14 +53,11 @@ fn check_parts(c: Characters, r: Received, s: &[u8], lent: &LentElements) -> Res
     for i in 0..PARTS {
         let part = part_at(r, i);
         let k = records_in(part, s, d, lent);
-        match check_part(c, part, s, d, lent) {
-            Err(q) => {
-                return failed(Fault::NeedsRelease, n + q.place);
-            }
-            Ok(()) => {
-                n += k;
-            }
-        }
+        check_part(c, part, s, d, lent).map_err(|q| Refusal {
+            fault: Fault::NeedsRelease,
+            place: n + q.place,
+        })?;
+        n += k;
     }
     Ok(())
 }
@@ -66,92 +65,75 @@ fn check_parts(c: Characters, r: Received, s: &[u8], lent: &LentElements) -> Res
 // ---- the text
 
 // Puts the parts from the advice's last byte on, and returns the length of the text: the first ends the advice as it
-// would end a segment. A text over 32,000 bytes is given up where that is seen, and 32,001 is returned. 15 leaves 32,000
-// records at most, a third of 96,000 numbers: the same number as `most_bytes`, which stands for it.
+// would end a segment. A text over 32,000 bytes is given up where that is seen. 15 leaves 32,000 records at most, a third of
+// 96,000 numbers: the same number as `most_bytes`, which stands for it.
 fn put_parts<S: Sink>(
     output: &mut [u8],
     c: Characters,
     r: Received,
     s: &[u8],
     lent: &LentElements,
-) -> usize
+) -> Option<usize>
     requires { Few s.now (lent_in lent.now) r × HasRoom S.room (composed_text c (row s.now (lent_in lent.now) r)) output.old }
     ensures { Composes S.holds c (row s.now (lent_in lent.now) r) output.old output.new result }
 {
     let mut m = first_measure();
     for i in 0..PARTS {
         m = put_part::<S>(output, m, c, part_at(r, i), s, r.characters, lent);
-        if refusals::MOST_BYTES < m.total {
-            return 32001;
-        }
+        short_length(m.total)?;
     }
-    put_separator::<S>(output, m, c, 0).total
+    short_length(put_separator::<S>(output, m, c, 0).total)
+}
+
+// Stores the text at the front.
+fn put_text(output: &mut [u8], c: Characters, r: Received, s: &[u8], lent: &LentElements)
+    requires { Few s.now (lent_in lent.now) r × (length (composed_text c (row s.now (lent_in lent.now) r)) ≤ most_bytes) × (length (composed_text c (row s.now (lent_in lent.now) r)) ≤ length output.old) }
+    ensures { output.new ≡ sets output.old 0 (composed_text c (row s.now (lent_in lent.now) r)) }
+{
+    storing::put_advice(output, c);
+    put_parts::<Stored>(output, c, r, s, lent);
 }
 
 // ---- stage by stage
 
-// 1 and 14, then the text itself, and 3 to 13 as Judge answers for it.
-fn acknowledge_text(
-    c: Characters,
-    r: Received,
-    s: &[u8],
-    lent: &LentElements,
-    output: &mut [u8],
-) -> Result<usize, Refusal>
-    requires { Listed c s.now (lent_in lent.now) r }
-    ensures { WritesRow c s.now (lent_in lent.now) r output.old result output.new }
-{
-    let n = put_parts::<Measured>(&mut [], c, r, s, lent);
-    if refusals::MOST_BYTES < n {
-        return refuse_at(output, Fault::TooLong, 0);
-    }
-    if output.len() < n {
-        return refuse_at(output, Fault::BufferShort, n);
-    }
-    storing::put_advice(output, c);
-    put_parts::<Stored>(output, c, r, s, lent);
-    write_judged(output, n)
-}
-
-// 15 of the list put together, and 16; the service characters are always usable.
-fn acknowledge_received(
+// 15 of the list put together, 16, then 1 and 14, then 3 to 13 for the text that is stored; the service characters are always
+// usable.
+fn try_received(
     r: Received,
     s: &[u8],
     lent: &LentElements,
     output: &mut [u8],
 ) -> Result<usize, Refusal>
     requires { (cannot_be_acknowledged s.now ≡ false) × Takes s.now r × (any_bad_lent (lent_in lent.now) ≡ false) }
-    ensures { AnswersAfter 2 s.now (lent_in lent.now) output.old result output.new }
+    ensures { TriesAfter 2 s.now (lent_in lent.now) output.old result output.new }
 {
     let d = r.characters;
     let repetition = stage_level::normal_repetition(s, d, stage_opening::body_start(s));
     let c = verbatim::normal_characters(d.mark, repetition);
     if refusals::MOST_BYTES < record_count(r, s, lent) {
-        return refuse_at(output, Fault::BadList, 0);
+        return failed(Fault::BadList, 0);
     }
-    match check_parts(c, r, s, lent) {
-        Err(q) => refuse(output, q),
-        Ok(()) => acknowledge_text(c, r, s, lent, output),
-    }
+    check_parts(c, r, s, lent)?;
+    let n = write::check_size(put_parts::<Measured>(&mut [], c, r, s, lent), output.len())?;
+    put_text(output, c, r, s, lent);
+    write::judged_length(&output[..n])
 }
 
-// 15 of a lent list, and what follows it.
-fn acknowledge_lent(
-    r: Received,
-    s: &[u8],
-    lent: &LentElements,
-    output: &mut [u8],
-) -> Result<usize, Refusal>
-    requires { (cannot_be_acknowledged s.now ≡ false) × Takes s.now r }
-    ensures { AnswersAfter 1 s.now (lent_in lent.now) output.old result output.new }
+// 23, 15 of a lent list, and what follows them.
+fn try_acknowledge(s: &[u8], lent: &LentElements, output: &mut [u8]) -> Result<usize, Refusal>
+    ensures { TriesAfter 0 s.now (lent_in lent.now) output.old result output.new }
 {
+    let r = reported::report_of(s).ok_or(Refusal {
+        fault: Fault::NoAcknowledgement,
+        place: 0,
+    })?;
     if lent_elements::is_bad(lent.date)
         || lent_elements::is_bad(lent.reference)
         || lent_elements::is_bad(lent.message)
     {
-        return refuse_at(output, Fault::BadList, 0);
+        return failed(Fault::BadList, 0);
     }
-    acknowledge_received(r, s, lent, output)
+    try_received(r, s, lent, output)
 }
 
 // Acknowledges a received interchange: any slices.
@@ -181,8 +163,6 @@ pub fn acknowledge(
             table: messagetable,
         },
     };
-    match reported::report_of(s) {
-        None => refuse_at(output, Fault::NoAcknowledgement, 0),
-        Some(r) => acknowledge_lent(r, s, &lent, output),
-    }
+    let tried = try_acknowledge(s, &lent, output);
+    write::cleared(output, tried)
 }

@@ -83,7 +83,7 @@ fn figure(start: u32) -> Part
     }
 }
 
-// The part of a number, from 0.
+// The part of a number, from 0. (Numbers, and no array of the parts: `acknowledge` says why.)
 pub fn part_at(r: Received, number: usize) -> Part
     requires { number < 20 }
     ensures { result ≡ get_or (parts_of r) number Part.Date }

@@ -19,7 +19,7 @@ pub fn get(s: &[u8], at: usize, width: usize) -> u64
     number
 }
 
-// Stores a number in `width` bytes at a place, the last byte first.
+// Stores a number in `width` bytes at a place, the last byte first. (No `From` leads to a byte from more.)
 pub fn put(s: &mut [u8], at: usize, width: usize, number: u64)
     requires { at + width ≤ length s.old }
     ensures { s.new ≡ sets s.old at (in_bytes width number) }

@@ -27,7 +27,8 @@ use tags::{kind_at, kind_named, tag_holds};
 use walk::{beginning, begun, fits, is_complete, stepped};
 
 // The tag of a segment that keeps the rule for tags, and is of this kind; `spelled` says that the tag's
-// four bytes are read as they stand.
+// four bytes are read as they stand. (It picks no step of a caller's: where the bytes as they stand do not suffice, `control_at` reads on
+// token by token all the same.)
 #[derive(Clone, Copy)]
 struct Tag {
     kind: Kind,
@@ -36,7 +37,8 @@ struct Tag {
 
 // Three letters or digits stand at a place, and after them the element separator or the terminator:
 // four bytes that are read as they stand, where `calm` says that no service character is a letter or a
-// digit.
+// digit. (It goes with the input and its characters, here and below: one struct of the three would be taken apart in each contract, as
+// `scanner` says of two of them.)
 fn spells_tag(s: &[u8], c: Characters, calm: bool, at: usize) -> bool
     requires { (at < length s.now) × (calm ≡ quiet c) }
     ensures { result ≡ true → SpellsTag c s.now at }
@@ -115,10 +117,8 @@ fn control_read(
     ensures { Controls c s.now at p header count result }
 {
     let reference = element_at(s, c, at, p.reference);
-    match segment_control(s, c, at, p, reference, header, count) {
-        Err(_) => None,
-        Ok(()) => Some(reference),
-    }
+    segment_control(s, c, at, p, reference, header, count).ok()?;
+    Some(reference)
 }
 
 // The same by the bytes as they stand, where they suffice.
@@ -186,7 +186,8 @@ fn step_at(s: &[u8], c: Characters, calm: bool, at: usize, kept: Kept) -> Option
     named_step(s, c, at, kept, tag_at(s, c, calm, at)?)
 }
 
-// The walk over all segments from a place on, where nothing is found of them; none, where something may be.
+// The walk over all segments from a place on, where nothing is found of them; none, where something may be. (Where a segment ends no `for`
+// would know.)
 pub fn clean_walk(s: &[u8], c: Characters, start: usize) -> Option<Walk>
     requires { length s.now ≤ most_bytes }
     ensures { Cleans c s.now start result }
@@ -206,14 +207,8 @@ pub fn clean_walk(s: &[u8], c: Characters, start: usize) -> Option<Walk>
         let Scanned::Ended { next } = segment_ended(s, c, release, at) else {
             return None;
         };
-        let Some(after) = step_at(s, c, calm, at, kept) else {
-            return None;
-        };
-        kept = after;
+        kept = step_at(s, c, calm, at, kept)?;
         at = next;
     }
-    if is_complete(kept.walk) {
-        return Some(kept.walk);
-    }
-    None
+    is_complete(kept.walk).then_some(kept.walk)
 }

@@ -5,33 +5,30 @@
 #![tactic(auto)]
 
 ghost use Rattle.std.specs.Prelude.{true, ◌≡◌, ◌+◌, ◌≤◌, ◌<◌, length};
-ghost use Rattle.verbatim.specs.Verbatim.{ends_repeat};
 ghost use Rattle.clear_parts.specs.Clear.{Clear, EndsInValue, ClearPart};
 
 use characters::Characters;
-use first_found::{least, place_found};
+use first_found::{after_last, before_first};
 use storing::is_service;
 use verbatim::{ends_repeat, is_idle, is_normal};
 
 // Over so many of sixty-four bytes nothing is idle: over all of them, or up to the first after which
-// something is; `r` ends a repeat. The loop never ends early, and counts in bytes, so that all are asked at
-// once.
-fn before_idle(s: &[u8], c: Characters, r: u8, from: usize) -> usize
-    requires { (r ≡ ends_repeat c) × (from + 64 < length s.now) }
+// something is.
+fn before_idle(s: &[u8], c: Characters, from: usize) -> usize
+    requires { from + 64 < length s.now }
     ensures { (result ≤ 64) × Clear c s.now from (from + result) }
 {
-    let mut first: u8 = 64;
-    for k in 0..64 {
+    let r = ends_repeat(c);
+    before_first::<64, _>(|k| {
         let at = from + usize::from(k);
-        first = least(first, place_found(is_idle(c, r, s[at], s[at + 1]), k));
-    }
-    usize::from(first)
+        is_idle(c, r, s[at], s[at + 1])
+    })
 }
 
 // A place up to which nothing is idle: before what is, or one of the last few bytes. (A `for` by sixty-four would not tell
-// the place of the last few.)
-fn past_clear(s: &[u8], c: Characters, r: u8, from: usize) -> usize
-    requires { r ≡ ends_repeat c }
+// the place of the last few. `past_blocks` of `stretches` goes so by thirty-two: one loop of both would be handed the size, the
+// test and what it promises, and leave each the law that joins two blocks.)
+fn past_clear(s: &[u8], c: Characters, from: usize) -> usize
     ensures { (from ≤ result) × Clear c s.now from result }
 {
     let mut at = from;
@@ -39,7 +36,7 @@ fn past_clear(s: &[u8], c: Characters, r: u8, from: usize) -> usize
         if s.len() - at <= 64 {
             return at;
         }
-        let count = before_idle(s, c, r, at);
+        let count = before_idle(s, c, at);
         if count < 64 {
             return at + count;
         }
@@ -53,12 +50,7 @@ fn back_to_value(s: &[u8], c: Characters, from: usize, to: usize) -> usize
     requires { (from ≤ to) × (from < to → to ≤ length s.now) }
     ensures { (from ≤ result) × (result ≤ to) × EndsInValue c s.now from result }
 {
-    for last in (from..to).rev() {
-        if !is_service(c, s[last]) & (32 <= s[last]) {
-            return last + 1;
-        }
-    }
-    from
+    after_last(s, from, to, |b| !is_service(c, b) & (32 <= b))
 }
 
 // A place up to which a part goes that begins at a place where nothing is held back.
@@ -69,7 +61,6 @@ pub fn clear_end(s: &[u8], c: Characters, repetition: u8, from: usize) -> usize
     if !is_normal(c, repetition) {
         return from;
     }
-    let r = ends_repeat(c);
-    let most = past_clear(s, c, r, from);
+    let most = past_clear(s, c, from);
     back_to_value(s, c, from, most)
 }

@@ -26,7 +26,8 @@ pub fn origin() -> Position
     }
 }
 
-// The position of a value of a kind that follows the value at a position.
+// The position of a value of a kind that follows the value at a position. (The kinds are the numbers of a table's records, as
+// `value_lists` says.)
 pub fn next_position(p: Position, kind: u32) -> Position
     requires { (p.segment < 18446744073709551615) × (p.element < 18446744073709551615) × (p.repeat < 18446744073709551615) × (p.component < 18446744073709551615) }
     ensures { result ≡ next_at p kind }
@@ -69,7 +70,7 @@ fn digit_count(n: usize) -> usize
     count
 }
 
-// The last digit of a number.
+// The last digit of a number. (`as` takes it for a byte: `try_from` would name an error that cannot come.)
 fn last_digit(n: usize) -> u8
     ensures { result ≡ 48 + n % 10 }
 {
@@ -106,7 +107,7 @@ fn stands(s: &[u8], at: usize, end: usize, n: usize) -> bool
     true
 }
 
-// The place after a number and a tab, where they stand at a place.
+// The place after a number and a tab, where they stand at a place. (`then_some` was tried; import says what it cost.)
 fn past_column(s: &[u8], at: usize, n: usize) -> Option<usize>
     requires { at ≤ length s.now }
     ensures { Ends (cell n) s.now at result }

@@ -6,14 +6,11 @@
 #![tactic(auto)]
 
 ghost use Rattle.std.specs.Prelude.{◌≡◌, ◌≤◌, replicate};
-ghost use Rattle.std.proofs.Math.Option.{none};
-ghost use Rattle.refusals.specs.Refusals.{answering};
 ghost use Rattle.refusals.specs.Limits.{most_bytes};
-ghost use Rattle.stages.specs.Stages.{stages_in};
-ghost use Rattle.stage_opening.specs.Runs.{found_by};
 ghost use Rattle.answers.specs.Answers.{told_compared};
 ghost use Rattle.operations.specs.Compare.{keep as keep_of};
 ghost use Rattle.contracts.specs.Promises.{Compares, Keeps};
+ghost use Rattle.judge.specs.Judging.{Passed};
 ghost use Rattle.compare.specs.Forms.{IsForm, Room, compared_to};
 ghost use Rattle.compare.specs.Parts.{part_of};
 
@@ -25,7 +22,7 @@ use texts::equal;
 // An input that 1 to 12 pass, compared with its own bytes: it is the same unless 13 is met, which is
 // asked only where a bound does not tell.
 fn compare_itself(s: &[u8], found: Found) -> Result<bool, Unaccepted>
-    requires { (answering (stages_in s.now 1 12) ≡ none) × (found ≡ found_by 12 s.now) }
+    requires { Passed s.now found }
     ensures { Compares s.now s.now result }
 {
     if judge::most_length(s, found) <= MOST_BYTES {
@@ -57,7 +54,7 @@ fn compare_in(
     second: &[u8],
     found: Found,
 ) -> Result<bool, Unaccepted>
-    requires { ((answering (stages_in first.now 1 12) ≡ none) × (found ≡ found_by 12 first.now)) × Room a.old first.now × Room b.old second.now }
+    requires { Passed first.now found × Room a.old first.now × Room b.old second.now }
     ensures { Compares first.now second.now result }
 {
     let n = normalise::store_found(a, first, found).map_err(Unaccepted::First)?;
@@ -70,7 +67,7 @@ fn compare_within<const N: usize>(
     second: &[u8],
     found: Found,
 ) -> Result<bool, Unaccepted>
-    requires { (N ≤ most_bytes) × ((answering (stages_in first.now 1 12) ≡ none) × (found ≡ found_by 12 first.now)) × Room (replicate N 0) first.now × Room (replicate N 0) second.now }
+    requires { (N ≤ most_bytes) × Passed first.now found × Room (replicate N 0) first.now × Room (replicate N 0) second.now }
     ensures { Compares first.now second.now result }
 {
     let mut a = [0u8; N];
@@ -81,7 +78,7 @@ fn compare_within<const N: usize>(
 // The first passes 1 to 12. A normal form has at most 2n + 9 bytes for n bytes; clearing larger arrays than are needed
 // would take long beside judging short inputs.
 fn compare_passed(first: &[u8], second: &[u8], found: Found) -> Result<bool, Unaccepted>
-    requires { (answering (stages_in first.now 1 12) ≡ none) × (found ≡ found_by 12 first.now) }
+    requires { Passed first.now found }
     ensures { Compares first.now second.now result }
 {
     if equal(first, second) {
@@ -113,32 +110,23 @@ fn compare_turned(first: &[u8], second: &[u8]) -> Result<bool, Unaccepted>
     match compare_in_order(second, first) {
         Ok(same) => Ok(same),
         Err(Unaccepted::Second(r)) => Err(Unaccepted::First(r)),
-        Err(Unaccepted::First(r)) => match judge::judge(first) {
-            Err(q) => Err(Unaccepted::First(q)),
-            Ok(_) => Err(Unaccepted::Second(r)),
-        },
+        Err(Unaccepted::First(r)) => {
+            judge::judge(first).map_err(Unaccepted::First)?;
+            Err(Unaccepted::Second(r))
+        }
     }
 }
 
 // The input has the separators, the release character and the terminator where every normal form has
 // them, in its advice.
 fn begins_normal(s: &[u8]) -> bool {
-    if s.len() < 9 {
-        return false;
-    }
-    (s[3] == b':') & (s[4] == b'+') & (s[6] == b'?') & (s[8] == b'\'')
+    matches!(s, [_, _, _, b':', b'+', _, b'?', _, b'\'', ..])
 }
 
 // The first may be the second's normal form: it begins as one, and the second does not or is longer.
 // Whatever is said here, the answer is the same; it only comes later where this is wrong.
 fn may_be_form(first: &[u8], second: &[u8]) -> bool {
-    if !begins_normal(first) {
-        return false;
-    }
-    if first.len() < second.len() {
-        return true;
-    }
-    !begins_normal(second)
+    begins_normal(first) && (first.len() < second.len() || !begins_normal(second))
 }
 
 // What may be the other's normal form is not normalised first, since it need not be judged where it is.
@@ -151,7 +139,8 @@ pub fn compare(first: &[u8], second: &[u8]) -> Result<bool, Unaccepted>
     compare_in_order(first, second)
 }
 
-// What Keep hands back: so many bytes from the start of the first input or of the second.
+// What Keep hands back: so many bytes from the start of the first input or of the second. (Neither is an error or a lack, which a `Result` or
+// an `Option` would call one of them.)
 #[derive(Clone, Copy)]
 pub enum Kept {
     First(usize),

@@ -4,7 +4,6 @@
 #![tactic(auto)]
 
 ghost use Rattle.std.specs.Prelude.{◌≡◌, ◌&&◌};
-ghost use Rattle.characters.specs.Characters.{between};
 ghost use Rattle.values.specs.Tokens.{tokens_at};
 ghost use Rattle.control_fields.specs.Fields.{field_of, spells_reference, spells_count};
 ghost use Rattle.control_fields.specs.Reading.{Room, with_digit, with_byte};
@@ -14,7 +13,8 @@ use elements::{NextByte, byte_at};
 use trimmed_values::is_alone;
 
 // An element by its first value: the size in bytes, whether all of them are digits, the number that the
-// first six spell, and whether only empty values follow.
+// first six spell, and whether only empty values follow. (The number is no `Option`: `field_of` says it of any six bytes, and only `is_count`
+// asks whether they are digits.)
 #[derive(Clone, Copy)]
 pub struct Field {
     pub size: usize,
@@ -23,22 +23,16 @@ pub struct Field {
     pub alone: bool,
 }
 
-#[tactic(auto, unfolding(characters::specs::Characters::between))]
-fn is_between(low: usize, high: usize, n: usize) -> bool
-    ensures { result ≡ between low high n }
-{
-    low <= n && n <= high
-}
-
 // The number that one byte more spells; after the sixth byte it stays.
 fn with_digit(f: Field, b: u8) -> u32
     requires { Room f }
     ensures { result ≡ with_digit f b }
 {
     if 6 <= f.size {
-        return f.number;
+        f.number
+    } else {
+        f.number * 10 + u32::from(b.saturating_sub(b'0'))
     }
-    f.number * 10 + u32::from(b.saturating_sub(b'0'))
 }
 
 #[tactic(auto, unfolding(crate::specs::Reading::with_byte, characters::specs::Characters::digit, characters::specs::Characters::between))]
@@ -54,7 +48,7 @@ fn with_byte(f: Field, b: u8) -> Field
     }
 }
 
-// The element that begins at a place.
+// The element that begins at a place. (How far a byte goes no `for` would know.)
 pub fn field_at(s: &[u8], c: Characters, from: usize) -> Field
     ensures { result ≡ field_of (tokens_at c s.now from) }
 {
@@ -82,17 +76,17 @@ pub fn field_at(s: &[u8], c: Characters, from: usize) -> Field
 }
 
 // "A reference is one component of 1 to 14 bytes", of one repeat
-#[tactic(auto, unfolding(crate::specs::Fields::spells_reference))]
+#[tactic(auto, unfolding(crate::specs::Fields::spells_reference, characters::specs::Characters::between))]
 pub fn is_reference(f: Field) -> bool
     ensures { result ≡ spells_reference f }
 {
-    f.alone && is_between(1, 14, f.size)
+    f.alone && matches!(f.size, 1..=14)
 }
 
 // "a count is one component of 1 to 6 digits (leading zeros allowed)", of one repeat
-#[tactic(auto, unfolding(crate::specs::Fields::spells_count))]
+#[tactic(auto, unfolding(crate::specs::Fields::spells_count, characters::specs::Characters::between))]
 pub fn is_count(f: Field) -> bool
     ensures { result ≡ spells_count f }
 {
-    f.alone && f.digits && is_between(1, 6, f.size)
+    f.alone && f.digits && matches!(f.size, 1..=6)
 }

@@ -9,7 +9,8 @@ ghost use Rattle.control_elements.specs.Positions.{positions_of};
 use control_elements::Positions;
 use segments::Kind;
 
-// An entry of the table: `Positions` in two bytes. (The paper asks for "one fixed table", so that no match stands here.)
+// An entry of the table: `Positions` in two bytes. (The paper asks for "one fixed table", so that no match stands here; and 0 stays for none,
+// since `position_table` and `stands_well` of `control_elements` have it so.)
 #[derive(Clone, Copy)]
 struct Entry {
     count: u8,

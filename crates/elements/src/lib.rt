@@ -1,7 +1,8 @@
 // Pieces where they are spelled: at which place a segment, an element of a segment, a repeat of an
 // element or a component of a repeat begins, whether a byte of a value stands in a piece, and a value
 // byte by byte up to its end. It promises the pieces into which `values` cuts the larger piece, by their
-// numbers. What trimming leaves of them is left to `trimmed_values`.
+// numbers. What trimming leaves of them is left to `trimmed_values`. (How far a token goes no `for` would know, so that each walk
+// over tokens is a `loop`.)
 #![tactic(auto)]
 
 ghost use Rattle.std.specs.Prelude.{◌+◌, ◌≤◌, ◌≡◌, length};
@@ -15,7 +16,8 @@ use scanner::{Lexed, lex};
 
 // Where the piece of that number begins, of those that separators of this rank end, in the larger piece
 // that begins at `from`, which a separator of a lower rank ends. The input's length where there is none. (A `for` over
-// the pieces would need the loop over a piece's bytes inside it.)
+// the pieces would need the loop over a piece's bytes inside it. The length stays for none, here and below: `PieceAt` and its kin say so,
+// and who reads on there finds an empty piece.)
 pub fn piece_at(s: &[u8], c: Characters, from: usize, rank: u8, number: usize) -> usize
     ensures { PieceAt c s.now from rank number result }
 {
@@ -97,10 +99,7 @@ fn past_sixteens(s: &[u8], c: Characters, from: usize, position: usize) -> Searc
             return Search { at, left };
         }
         let passed = separators(s, c, at);
-        if 15 <= passed {
-            return Search { at, left };
-        }
-        if left <= usize::from(passed) {
+        if 15 <= passed || left <= usize::from(passed) {
             return Search { at, left };
         }
         at += 16;
@@ -160,7 +159,8 @@ pub fn holds_byte(s: &[u8], c: Characters, from: usize, rank: u8) -> bool
     }
 }
 
-// What is next in a value: a byte and the place to read on, or the place of what ends the value.
+// What is next in a value: a byte and the place to read on, or the place of what ends the value. (As `Err(place)` the end of a
+// value would be an error, and `Ok((byte, next))` would name neither.)
 #[derive(Clone, Copy)]
 pub enum NextByte {
     Byte { byte: u8, next: usize },

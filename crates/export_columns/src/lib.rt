@@ -28,7 +28,7 @@ use storing::{Measured, Stored};
 
 // The line of the value that is open: how many bytes are printed, the value's position, whether its numbers are
 // among them, and what is held back after it. The numbers wait for what follows them: after the last terminator
-// nothing does.
+// nothing does. (`begun` is a flag, since no value stands beside it that only one of its states has.)
 #[derive(Clone, Copy)]
 pub struct Line {
     pub end: usize,
@@ -176,7 +176,8 @@ fn put_separator<S: LineSink>(buffer: &mut [u8], l: Line, rank: u8) -> Line
 // Puts the lines of the body that begins at `start`, after the heading, and returns the place after them. The
 // plain bytes that follow one of a value are taken at once. (Read's walk, `read_stores::put_values`, has the same
 // arms and stands by itself: one walk over a trait would need a state, what each arm asks and promises, laws that
-// join them, and an impl for each of the two, which is more to read than the two loops.)
+// join them, and an impl for each of the two, which is more to read than the two loops. The scanner tells the next
+// place, so that no `for` can count it.)
 fn put_lines<S: LineSink>(buffer: &mut [u8], s: &[u8], c: Characters, start: usize) -> usize
     requires { (length s.now ≤ most_bytes) × (39 + length (lines_rest first (tokens_at c s.now start)) ≤ S.room buffer.old) }
     ensures { (buffer.new ≡ S.holds buffer.old 39 (lines_rest first (tokens_at c s.now start))) × (result ≡ length (lines_of (tokens_at c s.now start))) }

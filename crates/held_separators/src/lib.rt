@@ -1,7 +1,9 @@
 // Separators that are held back until something follows them, under any service characters (paper 01,
 // "Trimming"): what is held back after a separator of a rank, and how it is let out before a byte of a
 // value. Each step stores its part of the text in a lent buffer, or measures it alone: the sink says which.
-// It promises what `emission_laws` gives for the tokens passed.
+// It promises what `emission_laws` gives for the tokens passed. (The ranks are numbers, since a lower one ends what a higher one
+// does. The buffer, the measure and the characters stay three parameters, here and in what puts texts: a contract would have to
+// name each part of one struct as `text.old.buffer`, as `scanner` tells of the input and its characters.)
 #![tactic(auto)]
 
 ghost use Rattle.std.specs.Prelude.{[], ◌∷◌, ◌≡◌, ◌+◌, ◌≤◌, ◌<◌};

@@ -19,6 +19,9 @@ use Rattle.column_walk.specs.Checking.{items_read, least_after, Taken, Passing}
 use Rattle.column_walk.proofs.Walk.{within_start, within_line}
 use Rattle.column_walk.proofs.Checking.{passing_start, passing_other, passing_idle, passing_next, passing_done, passing_end, heading_dropped, taken_columns, taken_items, columns_headed, none_taken}
 use Rattle.std.specs.Prelude.{Option, Some, None}
+use Rattle.std.specs.Bool.{then_some}
+use Rattle.std.proofs.lemmas.Bool.{eqb-false}
+use Rattle.std.proofs.Common.{eqb, eqb-true}
 use Rattle.import_columns.specs.Importing.{checked_by}
 
 -- ---- the answer
@@ -95,8 +98,9 @@ module _ (s : List ℕ) (place : ℕ) (p : Position) (n least : ℕ) (g : Checki
           few = omega (arith, g.few, checking_ahead.0);
         })
 
-  pub checking_done : begins heading s ≡ true → length s ≤ place → least ≡ 0 → Some n ≡ answer s
-  checking_done b h e = lines_are s b n (passing_done s place p n least g.passing g.behind h e)
-
-  pub checking_end : length s ≤ place → (least ≡ 0 → ⊥) → None ≡ answer s
-  checking_end h e = other_is s (passing_end s place p n least g.passing g.behind h e)
+  pub checking_told : begins heading s ≡ true → length s ≤ place → then_some (eqb least 0) n ≡ answer s
+  checking_told b h = step (eqb least 0) refl
+    where
+      step : (t : Bool) → eqb least 0 ≡ t → then_some t n ≡ answer s
+      step true e = lines_are s b n (passing_done s place p n least g.passing g.behind h (eqb-true least 0 e))
+      step false e = other_is s (passing_end s place p n least g.passing g.behind h (eqb-false least 0 e))

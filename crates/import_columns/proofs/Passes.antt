@@ -5,7 +5,9 @@ use mathlib.Core.Path.{◌≡◌, refl, sym, ap, subst, ◌∙◌}
 use mathlib.Core.Bool.{true, false}
 use mathlib.Core.List.{List, [], ◌∷◌}
 use native.Mathlib.Omega.{arith}
-use lib.ListN.{length, drop, length-append}
+use lib.ListN.{length, drop}
+use Rattle.lists.proofs.Tests.{says_begins}
+use Rattle.stage_opening.proofs.Beginnings.{begins_length}
 use Rattle.characters.specs.declared.Characters.{Characters}
 use Rattle.refusals.specs.declared.Fault.TheVariants.{NeedsRelease}
 use Rattle.refusals.specs.Refusals.{outcome, failed_at}
@@ -17,7 +19,7 @@ use Rattle.emission_laws.specs.Emission.{waiting}
 use Rattle.emission_laws.proofs.Steps.{after_most}
 use Rattle.held_separators.specs.Putting.{Fits, Puts}
 use Rattle.operations.specs.ValueList.{Item}
-use Rattle.value_list_text.specs.Composing.{record_tokens, first_measure, composed_text, HasRoom, Composes}
+use Rattle.value_list_text.specs.Composing.{record_tokens, first_measure, composed_text, short_length, HasRoom, Composes}
 use Rattle.value_list_text.specs.Standing.{is_bare, first_bare}
 use Rattle.value_list_text.proofs.Standing.{bare_here, bare_later, bare_none}
 use Rattle.value_list_text.proofs.Rows.{Gone, record_length, gone_start, gone_next, gone_long}
@@ -48,7 +50,7 @@ come_start s h e =
     (record {
       rest = columns_rest s h;
       within = within_start first_place;
-      inside = omega (arith, ap length (columns_headed s h), length-append heading (drop first_place s));
+      inside = omega (arith, begins_length heading s ((says_begins heading s).1 (drop first_place s, columns_headed s h)));
     })
 
 -- no line was found: none is to come
@@ -139,7 +141,7 @@ module _ {holds : List ℕ → ℕ → List ℕ → List ℕ} {room : List ℕ �
       line_length = value_length s l next_line.stands.order (omega (arith, next_line.stands.inside))
 
       -- the value alone is too long
-      pub putting_long : {put : List ℕ} → most_bytes < l.end - l.start → Composes holds c (items_read s) before put 32001
+      pub putting_long : {put : List ℕ} → most_bytes < l.end - l.start → Composes holds c (items_read s) before put None
       putting_long k = given_up c (items_read s) (omega (arith, k, gone_long c (items_read s) m g.gone (item_at s l) next_line.more next_line.is, line_length))
 
       pub putting_fits : HasRoom room (composed_text c (items_read s)) before → l.end - l.start ≤ most_bytes → Fits room c now m (record_tokens (item_at s l))
@@ -148,7 +150,7 @@ module _ {holds : List ℕ → ℕ → List ℕ → List ℕ} {room : List ℕ �
           (omega (arith, k, putting_room, line_length, record_length (item_at s l), after_most c m (record_tokens (item_at s l)) refl))
 
       module _ {later : List ℕ} (n : Measure) (put : Puts holds c now m (record_tokens (item_at s l)) later n) where
-        pub putting_over : most_bytes < n.total → Composes holds c (items_read s) before later 32001
+        pub putting_over : most_bytes < n.total → Composes holds c (items_read s) before later None
         putting_over k = too_long laws c (items_read s) m g.gone g.underway (item_at s l) next_line.more next_line.is put.1 k
 
         pub putting_next : n.total ≤ most_bytes → Putting holds room c s (l.end + 1) l.position n before later
@@ -164,5 +166,5 @@ module _ {holds : List ℕ → ℕ → List ℕ → List ℕ} {room : List ℕ �
       pub putting_last : HasRoom room (composed_text c (items_read s)) before → Fits room c now m (separator 0 0 ∷ [])
       putting_last = end_fits laws c (items_read s) m g.gone g.underway (come_end s place p g.come f none)
 
-      pub putting_done : {later : List ℕ} {n : Measure} → Puts holds c now m (separator 0 0 ∷ []) later n → Composes holds c (items_read s) before later n.total
+      pub putting_done : {later : List ℕ} {n : Measure} → Puts holds c now m (separator 0 0 ∷ []) later n → Composes holds c (items_read s) before later (short_length n.total)
       putting_done = underway_end laws c (items_read s) m g.gone g.underway (come_end s place p g.come f none)

@@ -2,6 +2,10 @@
 use Rattle.std.specs.Prelude.{ℕ, ◌≤◌, Bool, true, false, List, [], ◌∷◌, Option, Some, None, length}
 use Rattle.lists.specs.Lists.{member}
 use Rattle.columns.specs.Lines.{tab, carriage_return, line_feed}
+use Rattle.columns.specs.Operations.{import_text, import_refusal}
+use Rattle.answers.specs.Answers.{Stored}
+use Rattle.operations.specs.Judge.{stored_in}
+use Rattle.write.specs.Writing.{Tried}
 use Rattle.column_walk.specs.declared.Line.{Line}
 
 -- a value holds "no tab, carriage return or line feed": one of them ends it
@@ -16,3 +20,9 @@ is_line_in s l = (l.start ≤ l.end) × (l.end ≤ length s)
 abbrev pub checked_by : Bool → ℕ → Option ℕ
 checked_by true count = Some count
 checked_by false count = None
+
+-- what import answers and leaves, before a refusal leaves its output zero
+abbrev pub TriesImport : (service s output : List ℕ) → Stored → (after : List ℕ) → Type 0
+TriesImport service s output r after =
+    let text = import_text service s in
+    Tried (import_refusal service s output) (length text) (stored_in output text) output r after

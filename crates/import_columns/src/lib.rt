@@ -8,21 +8,18 @@
 ghost use Rattle.std.specs.Prelude.{◌≡◌, true, ◌+◌, ◌≤◌, ◌<◌, length, drop};
 ghost use Rattle.std.proofs.lemmas.List.Edits.{sets};
 ghost use Rattle.lists.specs.Lists.{begins};
-ghost use Rattle.characters.specs.Characters.{six_bytes, usable};
 ghost use Rattle.refusals.specs.Refusals.{outcome};
 ghost use Rattle.refusals.specs.Limits.{most_bytes, most_spelled};
 ghost use Rattle.columns.specs.Lines.{heading};
 ghost use Rattle.columns.specs.Reading.{before, is_columns};
-ghost use Rattle.columns.specs.Operations.{bytes_read, table_read};
 ghost use Rattle.columns.specs.Promises.{Imports};
 ghost use Rattle.emission_laws.specs.Emission.{waiting};
 ghost use Rattle.held_separators.specs.Putting.{Fits, Puts};
 ghost use Rattle.value_list_text.specs.Composing.{record_tokens, composed_text, HasRoom, Composes};
 ghost use Rattle.value_list_text.specs.Standing.{is_bare, first_bare};
-ghost use Rattle.write.specs.Writing.{Refuses, WritesAfter};
 ghost use Rattle.column_walk.specs.Walk.{first_place, Within, item_at, Sought, Found};
 ghost use Rattle.column_walk.specs.Checking.{items_read, least_after};
-ghost use Rattle.import_columns.specs.Importing.{ends_value, is_line_in, checked_by};
+ghost use Rattle.import_columns.specs.Importing.{ends_value, is_line_in, checked_by, TriesImport};
 
 use characters::Characters;
 use column_laws::Position;
@@ -33,12 +30,12 @@ use held_separators::{put_separator, put_value};
 use refusals::{Fault, Refusal};
 use refusing::failed;
 use storing::{Measured, Sink, Stored};
-use value_list_text::{first_measure, rank_of};
-use write::{refuse, refuse_at, write_judged};
+use value_list_text::{first_measure, rank_of, short_length};
 
 // ---- lines
 
-// The place of the first tab, carriage return or line feed from a place on, or the end of the text.
+// The place of the first tab, carriage return or line feed from a place on, or the end of the text. (It would be
+// `from + s[from..].iter().position(..).unwrap_or(s.len() - from)`, which is no plainer.)
 fn value_end(s: &[u8], from: usize) -> usize
     requires { from ≤ length s.now }
     ensures { result ≡ from + length (before ends_value (drop from s.now)) }
@@ -59,10 +56,7 @@ fn line_of(s: &[u8], at: usize, position: Position, kind: u32) -> Option<Line>
 {
     let start = numbers_end(s, at, position)?;
     let end = value_end(s, start);
-    if end == s.len() {
-        return None;
-    }
-    if s[end] != b'\n' {
+    if end == s.len() || s[end] != b'\n' {
         return None;
     }
     Some(Line {
@@ -73,7 +67,8 @@ fn line_of(s: &[u8], at: usize, position: Position, kind: u32) -> Option<Line>
     })
 }
 
-// The line that begins at a place after a value at a position: the next component, repeat, element or segment.
+// The line that begins at a place after a value at a position: the next component, repeat, element or segment. (`or_else` was
+// tried, with `then_some` in the numbers: import took 3 to 6 in 100 more instructions.)
 fn next_line(s: &[u8], at: usize, p: Position) -> Option<Line>
     requires { (first_place < at) × (at ≤ length s.now) × Within p at }
     ensures { Found s.now at p result }
@@ -108,10 +103,7 @@ fn line_at(s: &[u8], at: usize, p: Position) -> Option<Line>
 fn least_after(l: Line) -> u8
     ensures { result ≡ least_after l }
 {
-    if l.start == l.end {
-        return rank_of(l.kind);
-    }
-    0
+    if l.start == l.end { rank_of(l.kind) } else { 0 }
 }
 
 // How many lines the text has behind the heading, if export gives such a text. Where a line begins only the one
@@ -134,19 +126,17 @@ fn check_lines(s: &[u8]) -> Option<usize>
         at = l.end + 1;
         p = l.position;
     }
-    if least == 0 {
-        return Some(n);
-    }
-    None
+    (least == 0).then_some(n)
 }
 
 fn check_columns(s: &[u8]) -> Option<usize>
     ensures { result ≡ checked_by (is_columns s.now) (length (items_read s.now)) }
 {
     if column_lines::begins_heading(s) {
-        return check_lines(s);
+        check_lines(s)
+    } else {
+        None
     }
-    None
 }
 
 // ---- 16
@@ -190,8 +180,9 @@ fn put_line<S: Sink>(output: &mut [u8], m: Measure, c: Characters, s: &[u8], l: 
 }
 
 // Puts the lines' values from the advice's last byte on, and returns the length of the text: the first ends the advice as
-// it would end a segment. A text over 32,000 bytes is given up where that is seen, and 32,001 is returned.
-fn put_lines<S: Sink>(output: &mut [u8], s: &[u8], c: Characters) -> usize
+// it would end a segment. A text over 32,000 bytes is given up where that is seen. (The lines are gone over as in
+// `check_lines`.)
+fn put_lines<S: Sink>(output: &mut [u8], s: &[u8], c: Characters) -> Option<usize>
     requires { (is_columns s.now ≡ true) × (length (items_read s.now) ≤ most_bytes) × HasRoom S.room (composed_text c (items_read s.now)) output.old }
     ensures { Composes S.holds c (items_read s.now) output.old output.new result }
 {
@@ -199,17 +190,13 @@ fn put_lines<S: Sink>(output: &mut [u8], s: &[u8], c: Characters) -> usize
     let mut at = column_lines::HEADING;
     let mut p = column_lines::origin();
     while let Some(l) = line_at(s, at, p) {
-        if refusals::MOST_BYTES < l.end - l.start {
-            return 32001;
-        }
+        short_length(l.end - l.start)?;
         m = put_line::<S>(output, m, c, s, l);
-        if refusals::MOST_BYTES < m.total {
-            return 32001;
-        }
+        short_length(m.total)?;
         at = l.end + 1;
         p = l.position;
     }
-    put_separator::<S>(output, m, c, 0).total
+    short_length(put_separator::<S>(output, m, c, 0).total)
 }
 
 // Stores the text at the front.
@@ -223,70 +210,29 @@ fn put_text(output: &mut [u8], s: &[u8], c: Characters)
 
 // ---- stage by stage
 
-// 1 and 14, then the text itself, and 3 to 13 as Judge answers for it.
-fn import_text(service: &[u8], s: &[u8], c: Characters, output: &mut [u8]) -> Result<usize, Refusal>
-    requires { (c ≡ six_bytes service.now) × (usable c ≡ true) × (is_columns s.now ≡ true) × (length (items_read s.now) ≤ most_bytes) }
-    ensures { WritesAfter 3 service.now (bytes_read s.now) (table_read s.now) output.old result output.new }
+// One stage after the other: 24, then 15, which refuses lines for their number alone, 2, 16, then 1 and 14, then 3 to 13 for
+// the text that is stored.
+fn try_import(service: &[u8], s: &[u8], output: &mut [u8]) -> Result<usize, Refusal>
+    ensures { TriesImport service.now s.now output.old result output.new }
 {
-    let n = put_lines::<Measured>(&mut [], s, c);
-    if refusals::MOST_BYTES < n {
-        return refuse_at(output, Fault::TooLong, 0);
-    }
-    if output.len() < n {
-        return refuse_at(output, Fault::BufferShort, n);
-    }
-    put_text(output, s, c);
-    write_judged(output, n)
-}
-
-// 16, and what follows it.
-fn import_released(
-    service: &[u8],
-    s: &[u8],
-    c: Characters,
-    output: &mut [u8],
-) -> Result<usize, Refusal>
-    requires { (c ≡ six_bytes service.now) × (usable c ≡ true) × (is_columns s.now ≡ true) × (length (items_read s.now) ≤ most_bytes) }
-    ensures { WritesAfter 2 service.now (bytes_read s.now) (table_read s.now) output.old result output.new }
-{
-    match check_release(s, c) {
-        Err(r) => refuse(output, r),
-        Ok(()) => import_text(service, s, c, output),
-    }
-}
-
-// 2, and what follows it.
-fn import_listed(service: &[u8], s: &[u8], output: &mut [u8]) -> Result<usize, Refusal>
-    requires { (is_columns s.now ≡ true) × (length (items_read s.now) ≤ most_bytes) }
-    ensures { WritesAfter 1 service.now (bytes_read s.now) (table_read s.now) output.old result output.new }
-{
-    if service.len() != 6 {
-        return refuse_at(output, Fault::UnusableAdvice, 0);
-    }
-    let c = write::characters_of(service);
-    if stage_opening::is_usable(c) {
-        return import_released(service, s, c, output);
-    }
-    refuse_at(output, Fault::UnusableAdvice, 0)
-}
-
-// 15, and what follows it: lines are never refused but for their number.
-fn import_lines(service: &[u8], s: &[u8], count: usize, output: &mut [u8]) -> Result<usize, Refusal>
-    requires { (is_columns s.now ≡ true) × (count ≡ length (items_read s.now)) }
-    ensures { WritesAfter 0 service.now (bytes_read s.now) (table_read s.now) output.old result output.new }
-{
+    let count = check_columns(s).ok_or(Refusal {
+        fault: Fault::NoColumns,
+        place: 0,
+    })?;
     if refusals::MOST_BYTES < count {
-        return refuse_at(output, Fault::BadList, 0);
+        return failed(Fault::BadList, 0);
     }
-    import_listed(service, s, output)
+    let c = write::check_service(service)?;
+    check_release(s, c)?;
+    let n = write::check_size(put_lines::<Measured>(&mut [], s, c), output.len())?;
+    put_text(output, s, c);
+    write::judged_length(&output[..n])
 }
 
 // Imports a text: any slices.
 pub fn import_columns(service: &[u8], s: &[u8], output: &mut [u8]) -> Result<usize, Refusal>
     ensures { Imports service.now s.now output.old result output.new }
 {
-    match check_columns(s) {
-        None => refuse_at(output, Fault::NoColumns, 0),
-        Some(count) => import_lines(service, s, count, output),
-    }
+    let tried = try_import(service, s, output);
+    write::cleared(output, tried)
 }

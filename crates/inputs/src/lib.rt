@@ -33,27 +33,24 @@ pub enum Source {
 
 // How many arguments the program was started with, its own name among them.
 pub fn argument_count(rt: &HostRuntime) -> usize {
-    for i in 0..usize::MAX {
-        if !is_argument(rt, i) {
-            return i;
-        }
-    }
-    usize::MAX
+    (0..usize::MAX)
+        .find(|&i| !is_argument(rt, i))
+        .unwrap_or(usize::MAX)
 }
 
 fn is_argument(rt: &HostRuntime, i: usize) -> bool {
     !matches!(rt.arg(i, &mut []), Err(FillError::NotPresent))
 }
 
-// Puts an argument at the start of the buffer and answers its length, or 0 where it is missing or longer
+// Puts an argument at the start of the buffer and answers its length, if there is one and it is no longer
 // than the buffer.
-pub fn argument(rt: &HostRuntime, i: usize, buf: &mut [u8]) -> usize
-    ensures { IsPrefixLen result buf.new }
+pub fn argument(rt: &HostRuntime, i: usize, buf: &mut [u8]) -> Option<usize>
+    ensures { IfSome result (λ n. IsPrefixLen n buf.new) }
 {
-    rt.arg(i, buf).unwrap_or(0)
+    rt.arg(i, buf).ok()
 }
 
-// Reads until the input ends or the buffer is full.
+// Reads until the input ends or the buffer is full. (How much a read gives only it tells, so that this is no `for`.)
 fn read_open<R: Read>(
     rt: &HostRuntime,
     reader: &mut R,
@@ -78,10 +75,8 @@ fn read_open<R: Read>(
 
 // std opens a file by a name that is text.
 fn open_file(rt: &HostRuntime, name: &[u8]) -> io::Result<File> {
-    match str::from_utf8(name) {
-        Ok(text) => File::open(rt, text),
-        Err(_) => Err(Error::from(ErrorKind::InvalidFilename)),
-    }
+    let text = str::from_utf8(name).map_err(|_| Error::from(ErrorKind::InvalidFilename))?;
+    File::open(rt, text)
 }
 
 // What std says of an argument that does not fit a buffer, as the system says it of a file's name.
@@ -113,7 +108,8 @@ fn read_argument(rt: &HostRuntime, i: usize, buf: &mut [u8]) -> Option<usize>
     }
 }
 
-// How many bytes of an input stand at the start of the buffer, if it could be read.
+// How many bytes of an input stand at the start of the buffer, if it could be read. (Each program has a `for` over its
+// files and says by itself that one is unreadable: a function over a closure would be public and have no contract.)
 pub fn read(rt: &HostRuntime, source: Source, buf: &mut [u8]) -> Option<usize>
     ensures { IfSome result (λ n. IsPrefixLen n buf.new) }
 {

@@ -7,24 +7,15 @@ ghost use Rattle.inputs.specs.WideNumber.{wide_number_of};
 pub fn wide_number_of(text: &[u8]) -> Option<usize>
     ensures { result ≡ wide_number_of text.now }
 {
-    if text.len() == 0 {
+    if text.is_empty() {
         return None;
     }
     let mut n: usize = 0;
-    for b in text {
-        let b = *b;
-        if b < 48 || 57 < b {
+    for &b in text {
+        if b < b'0' || b'9' < b {
             return None;
         }
-        let digit = usize::from(b - 48);
-        if 1844674407370955161 < n {
-            return None;
-        }
-        let tens = 10 * n;
-        if 18446744073709551615 - digit < tens {
-            return None;
-        }
-        n = tens + digit;
+        n = n.checked_mul(10)?.checked_add(usize::from(b - b'0'))?;
     }
     Some(n)
 }

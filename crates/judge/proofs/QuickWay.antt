@@ -1,5 +1,6 @@
 -- What the quick way passes or refuses, the stages pass or refuse one after the other, and find the same. Assumes nothing.
 use Rattle.std.specs.Prelude.{Ok, Err, Some}
+use Rattle.std.specs.Result.{result_and}
 use Prim.Native.Nat.{ℕ, ◌≤◌}
 use mathlib.Core.Path.{◌≡◌, refl, sym, ap, ◌∙◌}
 use mathlib.Core.List.{List}
@@ -53,7 +54,7 @@ module _ (s : List ℕ) (short : length s ≤ most_bytes) {found : Found} (opene
     to_8 = walked s 1 7 8 refl (λ f. leveled f.level) (leveled_answers s) refl to_7 refl bytes refl
 
     -- a byte is outside it
-    pub quick_outside : {r : Refusal} → stage ≡ Err r → Err r ≡ progress 1 12 s
+    quick_outside : {r : Refusal} → stage ≡ Err r → Err r ≡ progress 1 12 s
     unfolding brackets_in brackets those all after
     quick_outside {r} failed = refused_before s 1 8 (sym (ap (after leveled_as) failed) ∙ to_8) 12 refl refl
 
@@ -63,6 +64,14 @@ module _ (s : List ℕ) (short : length s ≤ most_bytes) {found : Found} (opene
       unfolding after
       to_9 = order_whole s (sym (ap (after leveled_as) kept) ∙ to_8) refl refl clean.1
 
-      pub quick_passes : Ok walked_as ≡ progress 1 12 s
+      quick_passes : Ok walked_as ≡ progress 1 12 s
       unfolding brackets_in brackets those all found_by outcome after
       quick_passes = walked s 1 9 12 refl (λ f. controlled) (controlled_answers s) refl to_9 refl (sym (ap outcome clean.2)) refl
+
+    -- what the bytes answer, and with it the walk
+    pub quick_answers : result_and stage (Ok walked_as) ≡ progress 1 12 s
+    quick_answers = step stage refl
+      where
+        step : (o : Outcome) → stage ≡ o → result_and o (Ok walked_as) ≡ progress 1 12 s
+        step (Ok u) e = quick_passes e
+        step (Err r) e = quick_outside e

@@ -1,5 +1,5 @@
 -- What each stage of the code finds is what its stage of the paper answers. Assumes nothing.
-use Rattle.std.specs.Prelude.{if◌then◌else◌, Ok, Err}
+use Rattle.std.specs.Prelude.{if◌then◌else◌, Ok, Err, Option as Perhaps, None, Some}
 use Prim.Native.Nat.{ℕ, suc, ◌+◌, ◌<◌, ◌≤◌}
 use mathlib.Core.Path.{◌≡◌, refl, sym, ap, ap₂, subst, ◌∙◌}
 use mathlib.Core.Bool.{Bool, true, false}
@@ -114,6 +114,28 @@ level_known c g = by_identifier (syntax_identifier (contents_of g))
     by_identifier : (o : Option (List (List ℕ))) → number_of (maybe none (level_in c) o) ≡ 0 → maybe none (level_in c) o ≡ none
     by_identifier none e = refl
     by_identifier (some i) e = by_version (is_our_version c i) (at i 0) e
+
+-- what is told of a level: none, or its number, which is not 0
+level_told_by : {told : Perhaps ℕ} (o : Option ℕ) → told ≡ maybe None Some o
+    → (told ≡ None → 0 ≡ number_of o) × ((l : ℕ) → told ≡ Some l → l ≡ number_of o)
+unfolding maybe
+level_told_by none e = (λ d. refl, λ l d. cc)
+level_told_by (some k) e = (λ d. cc, λ l d. cc)
+
+module _ (c : Characters) (g : Segment) {told : Perhaps ℕ} (h : told ≡ maybe None Some (level_of c g)) where
+  pub level_told_none : told ≡ None → 0 ≡ number_of (level_of c g)
+  level_told_none d = (level_told_by (level_of c g) h).0 d
+
+  module _ {l : ℕ} (d : told ≡ Some l) where
+    pub level_told : l ≡ number_of (level_of c g)
+    level_told = (level_told_by (level_of c g) h).1 l d
+
+    pub level_told_own : l ≡ 0 → ⊥
+    unfolding maybe
+    level_told_own z =
+        let n : told ≡ None = h ∙ ap (maybe None Some) (level_known c g (sym level_told ∙ z)) in
+        let y : ◌≡◌ {A = ℕ} 0 1 = cc in
+        omega arith
 
 module _ (s : List ℕ) (e : answering (stages_in s 1 6) ≡ none) where
   abbrev first : Segment

@@ -6,13 +6,12 @@
 #![tactic(auto)]
 
 ghost use Rattle.std.specs.Prelude.{◌≡◌, ◌≤◌, length};
-ghost use Rattle.std.proofs.Math.Option.{none};
 ghost use Rattle.refusals.specs.Refusals.{answering};
 ghost use Rattle.stages.specs.Contents.{normal_form};
 ghost use Rattle.stages.specs.Stages.{stages_in};
-ghost use Rattle.stage_opening.specs.Runs.{found_by, progress};
+ghost use Rattle.stage_opening.specs.Runs.{progress};
 ghost use Rattle.contracts.specs.Promises.{Judges};
-ghost use Rattle.judge.specs.Judging.{judged, Quickly};
+ghost use Rattle.judge.specs.Judging.{judged, Passed, Quickly};
 ghost use Rattle.refusals.specs.Limits.{most_bytes};
 
 use answers::Figures;
@@ -46,10 +45,9 @@ pub fn stages_to_7(s: &[u8]) -> Result<Found, Refusal>
     ensures { result ≡ progress 1 7 s.now }
 {
     let found = stages_to_6(s)?;
-    let level = stage_level::level_of(s, found.characters, found.start);
-    if level == 0 {
+    let Some(level) = stage_level::level_of(s, found.characters, found.start) else {
         return failed(Fault::ForeignLevel, found.start);
-    }
+    };
     Ok(Found { level, ..found })
 }
 
@@ -90,18 +88,15 @@ fn quickly_after(s: &[u8], found: Found) -> Option<Result<Found, Refusal>>
     let c = found.characters;
     let start = found.start;
     let walk = clean_walk(s, c, start)?;
-    let level = stage_level::level_of(s, c, start);
-    if level == 0 {
+    let Some(level) = stage_level::level_of(s, c, start) else {
         return Some(failed(Fault::ForeignLevel, start));
-    }
-    match stage_bytes::in_level(s, c, level, start) {
-        Err(r) => Some(Err(r)),
-        Ok(()) => Some(Ok(Found {
-            level,
-            walk,
-            ..found
-        })),
-    }
+    };
+    let passed = Found {
+        level,
+        walk,
+        ..found
+    };
+    Some(stage_bytes::in_level(s, c, level, start).and(Ok(passed)))
 }
 
 // Of a few bytes, in which no interchange has room, nothing is asked twice.
@@ -120,17 +115,14 @@ pub fn quickly(s: &[u8]) -> Option<Result<Found, Refusal>>
 pub fn stages_to_12(s: &[u8]) -> Result<Found, Refusal>
     ensures { result ≡ progress 1 12 s.now }
 {
-    match quickly(s) {
-        Some(told) => told,
-        None => stages_to_12_in_turn(s),
-    }
+    quickly(s).unwrap_or_else(|| stages_to_12_in_turn(s))
 }
 
 // A length that the normal form does not exceed, of an input that 1 to 12 pass: where it is at most
 // 32,000, 13 passes too, and nothing need be measured. A short body has room to double, and then nothing
 // need be counted either.
 pub fn most_length(s: &[u8], found: Found) -> usize
-    requires { (answering (stages_in s.now 1 12) ≡ none) × (found ≡ found_by 12 s.now) }
+    requires { Passed s.now found }
     ensures { length (normal_form s.now) ≤ result }
 {
     let c = found.characters;
@@ -145,7 +137,7 @@ pub fn most_length(s: &[u8], found: Found) -> usize
 
 // 13, of an input that all others passed: the length of the normal form.
 pub fn judge_length(s: &[u8], found: Found) -> Result<Figures, Refusal>
-    requires { (answering (stages_in s.now 1 12) ≡ none) × (found ≡ found_by 12 s.now) }
+    requires { Passed s.now found }
     ensures { result ≡ judged s.now (answering (stages_in s.now 13 13)) }
 {
     let characters = found.characters;

@@ -46,7 +46,7 @@ fn is_unshared(n: Characters, u: Unshared, b: u8) -> bool
 }
 
 // How many bytes of a part are such bytes. The count fits a byte, and the loop never ends early, so that
-// many bytes are counted at once.
+// many bytes are counted at once. (`line_breaks` says at `part_length` why there is none for both.)
 fn part_unshared(part: &[u8], n: Characters, u: Unshared) -> u8
     requires { length part.now ≤ 128 }
     ensures { result ≡ counted (is_unshared n u) part.now }

@@ -28,7 +28,7 @@ use Rattle.operations.specs.ValueList.{Item, Entry, entries, value_in, listed_in
 use Rattle.operations.specs.Write.{bad_list}
 use Rattle.value_lists.specs.declared.Record.{Record}
 use Rattle.value_lists.specs.Records.{entry_of, record_at, well_listed}
-use Rattle.value_lists.proofs.Records.{records_next, read_next, records_end, good_value, good_rest}
+use Rattle.value_lists.proofs.Records.{records_next, records_end, good_value, good_rest}
 use Rattle.value_list_text.specs.Composing.{record_tokens, item_of}
 use Rattle.value_list_text.specs.Advancing.{records_tokens}
 use Rattle.value_list_text.proofs.Composed.{value_size, record_holds}
@@ -47,21 +47,19 @@ module _ (table : List ℕ) where
   pub later_records : 3 ≤ length table → drop 1 (entries table) ≡ entries (drop 3 table)
   later_records h = ap (drop 1) (records_next table 0 h)
 
-  module _ (at : ℕ) (g : any starts (drop 1 (entries table)) ≡ any starts (entries (drop at table))) where
-    pub starts_here : {e : Entry} → at + 3 ≤ length table → e ≡ record_at table at → e.kind ≤ 1 → true ≡ any starts (drop 1 (entries table))
-    unfolding any
-    starts_here {e} h d k =
-        sym (g ∙ ap (any starts) (read_next table at h d) ∙ ap (λ (b : Bool). b || any starts (entries (drop (at + 3) table))) (le-leb e.kind 1 k))
+  module _ (left : List ℕ) (g : any starts (drop 1 (entries table)) ≡ any starts (entries left)) where
+    module _ (rest : List ℕ) (e : Entry) (d : entries left ≡ e ∷ entries rest) where
+      pub starts_here : e.kind ≤ 1 → true ≡ any starts (drop 1 (entries table))
+      unfolding any
+      starts_here k = sym (g ∙ ap (any starts) d ∙ ap (λ (b : Bool). b || any starts (entries rest)) (le-leb e.kind 1 k))
 
-    pub starts_later : {e : Entry} → at + 3 ≤ length table → e ≡ record_at table at → 1 < e.kind
-        → any starts (drop 1 (entries table)) ≡ any starts (entries (drop (at + 3) table))
-    unfolding any
-    starts_later {e} h d k =
-        g ∙ ap (any starts) (read_next table at h d) ∙ ap (λ (b : Bool). b || any starts (entries (drop (at + 3) table))) (lt-leb e.kind 1 k)
+      pub starts_later : 1 < e.kind → any starts (drop 1 (entries table)) ≡ any starts (entries rest)
+      unfolding any
+      starts_later k = g ∙ ap (any starts) d ∙ ap (λ (b : Bool). b || any starts (entries rest)) (lt-leb e.kind 1 k)
 
-    pub starts_none : length table ≤ at + 2 → false ≡ any starts (drop 1 (entries table))
+    pub starts_none : entries left ≡ [] → false ≡ any starts (drop 1 (entries table))
     unfolding any
-    starts_none h = sym (g ∙ ap (any starts) (records_end table at h))
+    starts_none d = sym (g ∙ ap (any starts) d)
 
 module _ (bytes table : List ℕ) where
   abbrev lent : LentList
@@ -150,29 +148,28 @@ tokens_left {holds} laws c m ts us rest d {l₁} {l₂} {n} p (s, e) =
     ∙ sym (put_after laws l₁ m.total (emitted c m.held us) (emitted c n.held rest) s (ap (λ (k : Measure). k.total) e) refl)
 
 module _ (bytes table : List ℕ) where
-  -- the tokens from a place of the table on
-  abbrev pub rest_from : ℕ → List Token
-  rest_from at = records_tokens (listed_in bytes (drop at table))
+  -- the tokens of what is left of the table
+  abbrev pub rest_of : List ℕ → List Token
+  rest_of left = records_tokens (listed_in bytes left)
 
-  next_record : {r : Record} (at : ℕ) → at + 3 ≤ length table → entry_of r ≡ record_at table at
-      → rest_from at ≡ record_tokens (item_of bytes r) ++ rest_from (at + 3)
+  next_record : (left rest : List ℕ) (r : Record) → entries left ≡ entry_of r ∷ entries rest → rest_of left ≡ record_tokens (item_of bytes r) ++ rest_of rest
   unfolding listed_in gather
-  next_record at h d =
-      ap (λ (es : List Entry). gather record_tokens (map (λ e. record { kind = e.kind; value = value_in bytes e }) es)) (read_next table at h d)
+  next_record left rest r d =
+      ap (λ (es : List Entry). gather record_tokens (map (λ e. record { kind = e.kind; value = value_in bytes e }) es)) d
 
   -- one record less
-  one_less : (at : ℕ) → at + 3 ≤ length table → length (listed_in bytes (drop at table)) ≡ 1 + length (listed_in bytes (drop (at + 3) table))
+  one_less : (left rest : List ℕ) (e : Entry) → entries left ≡ e ∷ entries rest → length (listed_in bytes left) ≡ 1 + length (listed_in bytes rest)
   unfolding listed_in
-  one_less at h =
+  one_less left rest e d =
       let item : Entry → Item = λ e. record { kind = e.kind; value = value_in bytes e } in
-      ap (λ (es : List Entry). length (map item es)) (records_next table at h) ∙ suc_is (length (map item (entries (drop (at + 3) table))))
+      ap (λ (es : List Entry). length (map item es)) d ∙ suc_is (length (map item (entries rest)))
     where
       suc_is : (n : ℕ) → suc n ≡ 1 + n
       suc_is n = omega arith
 
-  no_record : (at : ℕ) → length table ≤ at + 2 → rest_from at ≡ []
+  no_record : (left : List ℕ) → entries left ≡ [] → rest_of left ≡ []
   unfolding listed_in gather
-  no_record at h = ap (λ (es : List Entry). gather record_tokens (map (λ e. record { kind = e.kind; value = value_in bytes e }) es)) (records_end table at h)
+  no_record left d = ap (λ (es : List Entry). gather record_tokens (map (λ e. record { kind = e.kind; value = value_in bytes e }) es)) d
 
   -- all of them, of which the first begins an element
   abbrev pub items : List Item
@@ -185,26 +182,25 @@ module _ (bytes table : List ℕ) where
   items_length = leading_length (listed_in bytes table)
 
   module _ (w : well_listed bytes table ≡ true) (h : 3 ≤ length table) {r : Record} (d : LeadsTable table r) where
-    first_record_lem : whole ≡ record_tokens (item_of bytes r) ++ rest_from 3
+    first_record_lem : whole ≡ record_tokens (item_of bytes r) ++ rest_of (drop 3 table)
     unfolding listed_in gather leading value_in
     first_record_lem =
         ap (λ (es : List Entry). gather record_tokens (leading (map (λ e. record { kind = e.kind; value = value_in bytes e }) es))) (records_next table 0 h)
-        ∙ ap (λ (e : Entry). record_tokens (record { kind = e.kind; value = value_in bytes e }) ++ rest_from 3) (sym d)
+        ∙ ap (λ (e : Entry). record_tokens (record { kind = e.kind; value = value_in bytes e }) ++ rest_of (drop 3 table)) (sym d)
 
     pub first_value_lem : r.start + r.size ≤ length bytes
     first_value_lem =
         let good = good_value bytes table (drop 3 table) (records_next table 0 h) w in
         omega (arith, good, ap (λ (e : Entry). e.start) d, ap (λ (e : Entry). e.size) d)
 
-  -- The records before a place of the table are put, from the measure `m` on: what is left of them, put from here, gives what all of them, put
-  -- at the start, give.
-  pub record Placed (holds : List ℕ → ℕ → List ℕ → List ℕ) (room : List ℕ → ℕ) (c : Characters) (m : Measure) (l₀ l₁ : List ℕ) (n : Measure) (at : ℕ) : Type 0 where
-    pub put : holds l₀ m.total (emitted c m.held whole) ≡ holds l₁ n.total (emitted c n.held (rest_from at))
+  -- The records before those that are left of the table are put, from the measure `m` on: what is left, put from here, gives what all of
+  -- them, put at the start, give.
+  pub record Placed (holds : List ℕ → ℕ → List ℕ → List ℕ) (room : List ℕ → ℕ) (c : Characters) (m : Measure) (l₀ l₁ : List ℕ) (n : Measure) (left : List ℕ) : Type 0 where
+    pub put : holds l₀ m.total (emitted c m.held whole) ≡ holds l₁ n.total (emitted c n.held (rest_of left))
     pub same_room : room l₁ ≡ room l₀
-    pub moved : after c m whole ≡ after c n (rest_from at)
-    pub good : well_listed bytes (drop at table) ≡ true
-    pub inside : at ≤ length table
-    pub few : waiting n.held + length (listed_in bytes (drop at table)) ≤ waiting m.held + length items
+    pub moved : after c m whole ≡ after c n (rest_of left)
+    pub good : well_listed bytes left ≡ true
+    pub few : waiting n.held + length (listed_in bytes left) ≤ waiting m.held + length items
 
   module _ {holds : List ℕ → ℕ → List ℕ → List ℕ} {room : List ℕ → ℕ} (laws : SinkLaws holds room) (c : Characters) (m : Measure) {l₀ : List ℕ} where
     -- the first record
@@ -216,30 +212,29 @@ module _ (bytes table : List ℕ) where
             arith,
             f,
             k,
-            ap (λ (n : Measure). n.total) (goes_on c m {ts = whole} refl (record_tokens (item_of bytes r)) (rest_from 3) (first_record_lem w h d) refl),
-            most_start c (after c m (record_tokens (item_of bytes r))) (rest_from 3),
+            ap (λ (n : Measure). n.total) (goes_on c m {ts = whole} refl (record_tokens (item_of bytes r)) (rest_of (drop 3 table)) (first_record_lem w h d) refl),
+            most_start c (after c m (record_tokens (item_of bytes r))) (rest_of (drop 3 table)),
           )
 
-      pub first_placed : {l₁ : List ℕ} {n : Measure} → Puts holds c l₀ m (record_tokens (item_of bytes r)) l₁ n → Placed holds room c m l₀ l₁ n 3
+      pub first_placed : {l₁ : List ℕ} {n : Measure} → Puts holds c l₀ m (record_tokens (item_of bytes r)) l₁ n → Placed holds room c m l₀ l₁ n (drop 3 table)
       first_placed p =
           record {
-            put = tokens_left laws c m whole (record_tokens (item_of bytes r)) (rest_from 3) (first_record_lem w h d) refl p;
+            put = tokens_left laws c m whole (record_tokens (item_of bytes r)) (rest_of (drop 3 table)) (first_record_lem w h d) refl p;
             same_room = room_left laws l₀ m.total (emitted c m.held (record_tokens (item_of bytes r))) p.0;
-            moved = goes_on c m refl (record_tokens (item_of bytes r)) (rest_from 3) (first_record_lem w h d) p.1;
+            moved = goes_on c m refl (record_tokens (item_of bytes r)) (rest_of (drop 3 table)) (first_record_lem w h d) p.1;
             good = good_rest bytes table (drop 3 table) (records_next table 0 h) w;
-            inside = h;
-            few = omega (arith, record_holds c m (item_of bytes r) p.1, one_less 0 h, items_length);
+            few = omega (arith, record_holds c m (item_of bytes r) p.1, one_less table (drop 3 table) (record_at table 0) (records_next table 0 h), items_length);
           }
 
-    module _ {l₁ : List ℕ} (n : Measure) {at : ℕ} (g : Placed holds room c m l₀ l₁ n at) where
+    module _ {l₁ : List ℕ} (n : Measure) {left : List ℕ} (g : Placed holds room c m l₀ l₁ n left) where
       -- what is put is at most the whole
       placed_most : n.total ≤ (after c m whole).total
-      placed_most = omega (arith, most_start c n (rest_from at), ap (λ (k : Measure). k.total) g.moved)
+      placed_most = omega (arith, most_start c n (rest_of left), ap (λ (k : Measure). k.total) g.moved)
 
       -- the next one
-      module _ {r : Record} (h : at + 3 ≤ length table) (d : entry_of r ≡ record_at table at) where
+      module _ (r : Record) (rest : List ℕ) (d : entries left ≡ entry_of r ∷ entries rest) where
         pub next_value : r.start + r.size ≤ length bytes
-        next_value = good_value bytes (drop at table) (drop (at + 3) table) (read_next table at h d) g.good
+        next_value = good_value bytes left rest d g.good
 
         pub next_fits : Reaches room c l₀ m whole → (after c n (record_tokens (item_of bytes r))).total ≤ 18446744073709551615 → Fits room c l₁ n (record_tokens (item_of bytes r))
         unfolding after
@@ -249,19 +244,18 @@ module _ (bytes table : List ℕ) where
               f,
               k,
               g.same_room,
-              ap (λ (x : Measure). x.total) (goes_on c n g.moved (record_tokens (item_of bytes r)) (rest_from (at + 3)) (next_record at h d) refl),
-              most_start c (after c n (record_tokens (item_of bytes r))) (rest_from (at + 3)),
+              ap (λ (x : Measure). x.total) (goes_on c n g.moved (record_tokens (item_of bytes r)) (rest_of rest) (next_record left rest r d) refl),
+              most_start c (after c n (record_tokens (item_of bytes r))) (rest_of rest),
             )
 
-        pub next_placed : {l₂ : List ℕ} {k : Measure} → Puts holds c l₁ n (record_tokens (item_of bytes r)) l₂ k → Placed holds room c m l₀ l₂ k (at + 3)
+        pub next_placed : {l₂ : List ℕ} {k : Measure} → Puts holds c l₁ n (record_tokens (item_of bytes r)) l₂ k → Placed holds room c m l₀ l₂ k rest
         next_placed p =
             record {
-              put = tokens_left laws c n (rest_from at) (record_tokens (item_of bytes r)) (rest_from (at + 3)) (next_record at h d) g.put p;
+              put = tokens_left laws c n (rest_of left) (record_tokens (item_of bytes r)) (rest_of rest) (next_record left rest r d) g.put p;
               same_room = room_left laws l₁ n.total (emitted c n.held (record_tokens (item_of bytes r))) p.0 ∙ g.same_room;
-              moved = goes_on c n g.moved (record_tokens (item_of bytes r)) (rest_from (at + 3)) (next_record at h d) p.1;
-              good = good_rest bytes (drop at table) (drop (at + 3) table) (read_next table at h d) g.good;
-              inside = h;
-              few = omega (arith, g.few, record_holds c n (item_of bytes r) p.1, one_less at h);
+              moved = goes_on c n g.moved (record_tokens (item_of bytes r)) (rest_of rest) (next_record left rest r d) p.1;
+              good = good_rest bytes left rest d g.good;
+              few = omega (arith, g.few, record_holds c n (item_of bytes r) p.1, one_less left rest (entry_of r) d);
             }
 
       -- the text is over 32,000 bytes
@@ -269,14 +263,14 @@ module _ (bytes table : List ℕ) where
       placed_over k = record { all = λ s. absurd (omega (arith, k, s)); over = λ s. omega (arith, s, placed_most) }
 
       -- all are put
-      pub placed_done : length table ≤ at + 2 → Advances holds c l₀ m items l₁ n
+      pub placed_done : entries left ≡ [] → Advances holds c l₀ m items l₁ n
       unfolding emitted
-      placed_done k =
-          let same : n ≡ after c m whole = goes_end c n g.moved (no_record at k) in
+      placed_done d =
+          let same : n ≡ after c m whole = goes_end c n g.moved (no_record left d) in
           record {
             all =
                 λ s. record {
-                  stored = sym (g.put ∙ ap (λ (ts : List Token). holds l₁ n.total (emitted c n.held ts)) (no_record at k) ∙ laws.none l₁ n.total);
+                  stored = sym (g.put ∙ ap (λ (ts : List Token). holds l₁ n.total (emitted c n.held ts)) (no_record left d) ∙ laws.none l₁ n.total);
                   known = alike_same same;
                   few = omega (arith, ap (λ (x : Measure). waiting x.held) same, records_few c m items);
                 };

@@ -34,8 +34,8 @@ fn begins_again(table: &[u32]) -> bool
     requires { 3 ≤ length table.now }
     ensures { result ≡ any (λ e. leb e.kind 1) (drop 1 (entries table.now)) }
 {
-    for k in 1..table.len() / 3 {
-        if record_at(table, 3 * k).kind <= 1 {
+    for numbers in table[3..].chunks_exact(3) {
+        if record_at(numbers, 0).kind <= 1 {
             return true;
         }
     }
@@ -70,11 +70,11 @@ pub fn put_list<S: Sink>(buffer: &mut [u8], m: Measure, c: Characters, list: Len
     ensures { Advances S.holds c buffer.old m (lent_items (list_in list.entry)) buffer.new result }
 {
     let mut n = put_record::<S>(buffer, m, c, list.bytes, first_of(list.table));
-    for k in 1..list.table.len() / 3 {
+    for numbers in list.table[3..].chunks_exact(3) {
         if refusals::MOST_BYTES < n.total {
             return n;
         }
-        n = put_record::<S>(buffer, n, c, list.bytes, record_at(list.table, 3 * k));
+        n = put_record::<S>(buffer, n, c, list.bytes, record_at(numbers, 0));
     }
     n
 }

@@ -28,7 +28,7 @@ fn is_set(mask: u64, first: u8, b: u8) -> bool
 fn is_between(low: u8, high: u8, b: u8) -> bool
     ensures { result ≡ between low high b }
 {
-    (low <= b) & (b <= high)
+    (low..=high).contains(&b)
 }
 
 // A byte's class is the number of levels in which it belongs; a level is known by the least class that
@@ -37,7 +37,7 @@ fn is_between(low: u8, high: u8, b: u8) -> bool
 fn holds(level: u8, in_a: bool, letter: bool) -> bool
     ensures { result ≡ in_class level in_a letter }
 {
-    level <= in_a as u8 + (in_a | letter) as u8
+    level <= u8::from(in_a) + u8::from(in_a | letter)
 }
 
 // A byte belongs in the level, by comparisons. Nothing here branches, so that many bytes are asked at
@@ -56,7 +56,8 @@ pub fn is_in_level(level: u8, b: u8) -> bool
     holds(level, is_set(LEVEL_A, 32, b), is_set(LETTERS, 64, b))
 }
 
-// All bytes from a place on belong in the level. The loop never ends early.
+// All bytes from a place on belong in the level. The loop never ends early. (The index stays: a slice from `start` on is there
+// only where `start` is no place behind the end.)
 pub fn all_in_level(s: &[u8], start: usize, level: u8) -> bool
     ensures { result ≡ all (in_level level) (drop start s.now) }
 {

@@ -1,6 +1,7 @@
 -- The breaks that stand at a place, one by one. Assumes nothing.
-use Rattle.std.specs.Prelude.{if◌then◌else◌}
-use Prim.Native.Nat.{ℕ, zero, suc, ◌+◌, ◌≤◌, ◌<◌}
+use Rattle.std.specs.Prelude.{if◌then◌else◌, Option, None, Some, MatchOption}
+use Rattle.std.specs.Option.{unwrap_or}
+use Prim.Native.Nat.{ℕ, zero, suc, ◌+◌, ◌-◌, ◌≤◌, ◌<◌}
 use mathlib.Core.Path.{◌≡◌, sym, ap, ◌∙◌}
 use mathlib.Core.Bool.{Bool, true, false}
 use mathlib.Core.List.{List, [], ◌∷◌}
@@ -57,3 +58,21 @@ module _ (s : List ℕ) (at : ℕ) where
   pub after_all_lem : length s ≤ at → at ≡ after_breaks s at
   unfolding after_breaks breaks
   after_all_lem h = sym (ap (λ (l : List ℕ). at + breaks l) (drop_of_length-le s h) ∙ omega arith)
+
+module _ (s : List ℕ) where
+  -- breaks are passed over, however many,
+  after_over : (n from : ℕ) {to : ℕ} → from + n ≡ to → to ≤ length s → ((k : ℕ) → from ≤ k → k < to → is_break (get_or s k 0) ≡ true)
+      → after_breaks s from ≡ after_breaks s to
+  after_over zero from {to} e h all = let there : from ≡ to = omega arith in ap (after_breaks s) there
+  after_over (suc n) from e h all =
+      after_break s from (omega arith) (all from (omega arith) (omega arith))
+      ∙ after_over n (from + 1) (omega arith) h (λ k l m. all k (omega arith) m)
+
+  -- up to the first byte that is none, which `find` finds
+  pub after_found : (from : ℕ) (r : Option ℕ) → from ≤ length s
+      → MatchOption r ((k : ℕ) → from ≤ k → k < length s → is_break (get_or s k 0) ≡ true) (λ i. (from ≤ i) × (i < length s) × (is_break (get_or s i 0) ≡ false) × ((k : ℕ) → from ≤ k → k < i → is_break (get_or s k 0) ≡ true))
+      → unwrap_or r (length s) ≡ after_breaks s from
+  after_found from None h all =
+      after_all_lem s (length s) (omega arith) ∙ sym (after_over (length s - from) from (omega arith) (omega arith) all)
+  after_found from (Some i) h found =
+      after_none s i found.1 found.2 ∙ sym (after_over (i - from) from (omega (arith, found.0)) (omega (arith, found.1)) found.3)

@@ -21,12 +21,9 @@ fn past_breaks(s: &[u8], from: usize) -> usize
     requires { from ≤ length s.now }
     ensures { result ≡ after_breaks s.now from }
 {
-    for at in from..s.len() {
-        if !is_break(s[at]) {
-            return at;
-        }
-    }
-    s.len()
+    (from..s.len())
+        .find(|&at| !is_break(s[at]))
+        .unwrap_or(s.len())
 }
 
 // The place after the breaks that stand at a place. Where there are none, which is most often so, one
@@ -34,17 +31,15 @@ fn past_breaks(s: &[u8], from: usize) -> usize
 pub fn after_breaks(s: &[u8], from: usize) -> usize
     ensures { result ≡ after_breaks s.now from }
 {
-    if s.len() <= from {
-        return from;
-    }
-    if 13 < s[from] {
+    if s.len() <= from || 13 < s[from] {
         return from;
     }
     past_breaks(s, from)
 }
 
 // How many bytes of a part are no control bytes. The count fits a byte, and nothing branches on what a
-// byte is, so that many bytes are counted at once.
+// byte is, so that many bytes are counted at once. (`part_unshared` of `length_bound` counts so with another test. Below both stands
+// `storing` alone, which counts nothing; and one of both would still leave each its loop over parts, of another size.)
 fn part_length(part: &[u8]) -> u8
     requires { length part.now ≤ 255 }
     ensures { result ≡ length (unbroken part.now) }

@@ -1,6 +1,8 @@
 -- What Locate answers, from the segment that is found and the value in it; and the part of the input that its answer names.
 -- Assumes nothing.
 use Rattle.std.specs.Prelude.{Ok, Err, Some, None, Option as Perhaps}
+use Rattle.std.specs.Option.{unwrap_or}
+use Rattle.std.specs.Result.{result_unwrap_or}
 use Prim.Native.Nat.{ℕ, ◌+◌, ◌-◌, ◌≤◌}
 use mathlib.Core.Path.{◌≡◌, refl, sym, ap, ap₂, subst, ◌∙◌}
 use mathlib.Core.List.{List, [], ◌∷◌}
@@ -96,9 +98,6 @@ answer_inside s None h = h
 
 -- ---- the part that an answer names
 
-pub found_inside : (s : List ℕ) {r : Located} {p : Span} → Inside s r → r ≡ Ok (Some p) → p.offset + p.length ≤ length s
-found_inside s h e = subst (Inside s) e h
-
 module _ (s : List ℕ) (segment element repeat component : ℕ) {r : Located} (told : told_located r ≡ locate s segment element repeat component) where
   part_is : (l : Located) → r ≡ l
       → record { offset = (part_in (told_located l).values).0; length = (part_in (told_located l).values).1 } ≡ part_of s segment element repeat component
@@ -119,6 +118,13 @@ module _ (s : List ℕ) (segment element repeat component : ℕ) {r : Located} (
   pub part_refused : {q : Refusal} → r ≡ Err q → record { offset = 0; length = 0 } ≡ part_of s segment element repeat component
   unfolding told_located refused part_in
   part_refused e = part_is _ e
+
+-- of any answer
+pub part_named : (s : List ℕ) (segment element repeat component : ℕ) (r : Located) → told_located r ≡ locate s segment element repeat component
+    → unwrap_or (result_unwrap_or r None) (record { offset = 0; length = 0 }) ≡ part_of s segment element repeat component
+part_named s segment element repeat component (Ok (Some p)) told = part_found s segment element repeat component told refl
+part_named s segment element repeat component (Ok None) told = part_absent s segment element repeat component told refl
+part_named s segment element repeat component (Err q) told = part_refused s segment element repeat component told refl
 
 -- as many bytes of the input from there on are handed back
 pub handed : (whole : Bor (List ℕ)) (segment element repeat component : ℕ) {part : Span} (p : Bor (List ℕ))

@@ -30,22 +30,18 @@ pub fn locate(
     Ok(value_at(s, c, start, element, repeat, component))
 }
 
-// Which part of the input `run_locate` finds; zero bytes at the input's start where it finds none.
+// Which part of the input `run_locate` finds; zero bytes at the input's start where it finds none. (No `Option`: `part` hands back a slice in
+// each case, and C an offset and a length.)
 pub fn part_of(s: &[u8], segment: usize, element: usize, repeat: usize, component: usize) -> Span
     ensures value { result ≡ part_of s.now segment element repeat component }
     ensures inside { result.offset + result.length ≤ length s.now }
 {
-    match locate(s, segment, element, repeat, component) {
-        Ok(Some(found)) => found,
-        Ok(None) => Span {
-            offset: 0,
-            length: 0,
-        },
-        Err(_) => Span {
-            offset: 0,
-            length: 0,
-        },
-    }
+    let nothing = Span {
+        offset: 0,
+        length: 0,
+    };
+    let found = locate(s, segment, element, repeat, component).unwrap_or(None);
+    found.unwrap_or(nothing)
 }
 
 // That part of the input, as it is spelled there.

@@ -2,18 +2,17 @@
 // measured alone, as the sink says. It promises the emission of the tokens from a place on, and where it ends.
 #![tactic(auto)]
 
-ghost use Rattle.std.specs.Prelude.{true, ◌&&◌, ◌≡◌, ◌+◌, ◌-◌, ◌*◌, ◌≤◌, length, take, drop};
+ghost use Rattle.std.specs.Prelude.{true, ◌≡◌, ◌+◌, ◌-◌, ◌≤◌, length, take, drop};
 ghost use Rattle.values.specs.Tokens.{tokens_at};
 ghost use Rattle.stages.specs.Contents.{normal_characters};
 ghost use Rattle.emission_laws.specs.Emission.{nothing, emitted};
 ghost use Rattle.verbatim.specs.Verbatim.{faultless, visible, Sound};
 ghost use Rattle.refusals.specs.Limits.{most_bytes};
 ghost use Rattle.line_breaks.specs.Unbroken.{unbroken};
-ghost use Rattle.ordinary_runs.specs.Runs.{quiet};
 ghost use Rattle.stretches.specs.Stretches.{respelling};
 ghost use Rattle.unbroken_parts.specs.Parts.{Unbroken};
-ghost use Rattle.normal_form_text.specs.Measured.{Further};
-ghost use Rattle.normal_form_text.specs.Put.{Fits, Put, PutAt};
+ghost use Rattle.normal_form_text.specs.Put.{PutAt};
+ghost use Rattle.normal_form_text.specs.Going.{Starts, Goes};
 
 use characters::Characters;
 use clear_parts::clear_end;
@@ -29,7 +28,8 @@ use verbatim::{is_normal, normal_characters};
 // ---- many bytes at once
 
 // A sink that takes many bytes at once. Where the text is measured alone, no more of them are looked at than
-// its length asks for.
+// its length asks for. (The texts and the places in them stay parameters of their own, as `unbroken_parts` and `stretches` ask
+// for them.)
 pub trait PartSink: Sink {
     // Puts the text from a place up to another without its breaks, and returns the place after it; `whole`
     // says that it has none.
@@ -109,7 +109,8 @@ impl PartSink for Measured {
 // ---- part by part
 
 // How a body is spelled: read with the characters `c`, put with the characters `n`. Where `calm` says so, ordinary
-// bytes stand for themselves under both.
+// bytes stand for themselves under both. (`calm`, and `whole` below, are found when it runs, once for a text: as const
+// parameters they would have all that takes them compiled twice.)
 #[derive(Clone, Copy)]
 struct Spelling {
     c: Characters,
@@ -118,10 +119,11 @@ struct Spelling {
 }
 
 // Token by token up to the segment's end, spelled with any characters: what is held back is put
-// before the next byte of a value, or dropped. The ordinary bytes that follow one of a value are put at once.
+// before the next byte of a value, or dropped. The ordinary bytes that follow one of a value are put at once. (How far a token
+// or a part goes no `for` would know, here and below.)
 fn put_segment<S: PartSink>(buffer: &mut [u8], s: &[u8], by: Spelling, from: Reached) -> Reached
-    requires { (length s.now ≤ most_bytes) × (from.at ≤ length s.now) × (from.total ≤ 9 + 2 * from.at) × (by.calm ≡ (quiet by.c && quiet by.n)) × Fits S.room by.c by.n s.now buffer.old from }
-    ensures { Put S.holds S.room by.c by.n s.now buffer.old buffer.new from result × Further s.now from result }
+    requires { Starts S.room by s.now buffer.old from }
+    ensures { Goes S.holds S.room by s.now buffer.old buffer.new from result }
 {
     let mut m = Measure {
         total: from.total,
@@ -161,8 +163,8 @@ fn put_one_stretch<S: PartSink>(
     until: usize,
     from: Reached,
 ) -> Reached
-    requires { (length s.now ≤ most_bytes) × (from.at ≤ length s.now) × (from.total ≤ 9 + 2 * from.at) × (by.calm ≡ (quiet by.c && quiet by.n)) × Fits S.room by.c by.n s.now buffer.old from }
-    ensures { Put S.holds S.room by.c by.n s.now buffer.old buffer.new from result × Further s.now from result }
+    requires { Starts S.room by s.now buffer.old from }
+    ensures { Goes S.holds S.room by s.now buffer.old buffer.new from result }
 {
     let at = from.at;
     let to = stretch_end(s, by.c, by.n, at, until);
@@ -180,7 +182,8 @@ fn put_one_stretch<S: PartSink>(
 
 // What follows a part: after one that is not empty most often an empty end, with which the segment goes token
 // by token. Where a release character stands there, or the part was empty, it is a stretch, of some 256 bytes
-// at most where the characters are alike.
+// at most where the characters are alike. (`parted` stays a parameter: with the choice in `put_part`, each of the two steps would
+// be proved there to go on where the part ends.)
 fn put_rest<S: PartSink>(
     buffer: &mut [u8],
     s: &[u8],
@@ -188,8 +191,8 @@ fn put_rest<S: PartSink>(
     parted: bool,
     from: Reached,
 ) -> Reached
-    requires { (length s.now ≤ most_bytes) × (from.at ≤ length s.now) × (from.total ≤ 9 + 2 * from.at) × (by.calm ≡ (quiet by.c && quiet by.n)) × Fits S.room by.c by.n s.now buffer.old from }
-    ensures { Put S.holds S.room by.c by.n s.now buffer.old buffer.new from result × Further s.now from result }
+    requires { Starts S.room by s.now buffer.old from }
+    ensures { Goes S.holds S.room by s.now buffer.old buffer.new from result }
 {
     let at = from.at;
     if parted && at < s.len() && s[at] != by.c.release {
@@ -207,8 +210,8 @@ fn put_part<S: PartSink>(
     whole: bool,
     from: Reached,
 ) -> Reached
-    requires { (length s.now ≤ most_bytes) × (from.at ≤ length s.now) × (from.total ≤ 9 + 2 * from.at) × (by.calm ≡ (quiet by.c && quiet by.n)) × Fits S.room by.c by.n s.now buffer.old from × Sound by.c s.now from.at × (by.n ≡ normal_characters by.c.mark by.n.repetition) × (32 ≤ by.n.repetition) × (whole ≡ true → Unbroken s.now from.at) }
-    ensures { Put S.holds S.room by.c by.n s.now buffer.old buffer.new from result × Further s.now from result }
+    requires { Starts S.room by s.now buffer.old from × Sound by.c s.now from.at × (by.n ≡ normal_characters by.c.mark by.n.repetition) × (32 ≤ by.n.repetition) × (whole ≡ true → Unbroken s.now from.at) }
+    ensures { Goes S.holds S.room by s.now buffer.old buffer.new from result }
 {
     let at = from.at;
     let to = clear_end(s, by.c, by.n.repetition, at);

@@ -8,12 +8,11 @@
 ghost use Rattle.std.specs.Prelude.{◌≡◌, ◌≤◌, length};
 ghost use Rattle.std.proofs.Math.Option.{none};
 ghost use Rattle.characters.specs.Characters.{characters_of};
-ghost use Rattle.refusals.specs.Refusals.{answering};
 ghost use Rattle.stages.specs.Contents.{normal_form};
-ghost use Rattle.stages.specs.Stages.{stages_in, refusal_of};
-ghost use Rattle.stage_opening.specs.Runs.{found_by};
+ghost use Rattle.stages.specs.Stages.{refusal_of};
 ghost use Rattle.operations.specs.Judge.{figures_of};
 ghost use Rattle.contracts.specs.Promises.{Normalises};
+ghost use Rattle.judge.specs.Judging.{Passed};
 ghost use Rattle.normal_form_laws.specs.Forms.{form_characters};
 
 use answers::Figures;
@@ -66,7 +65,7 @@ pub fn store_form(buffer: &mut [u8], s: &[u8], i: Figures) -> Result<usize, Refu
 
 // The same of an input that 1 to 12 pass: 13 is asked before.
 fn store_measured(buffer: &mut [u8], s: &[u8], found: Found) -> Result<usize, Refusal>
-    requires { (answering (stages_in s.now 1 12) ≡ none) × (found ≡ found_by 12 s.now) }
+    requires { Passed s.now found }
     ensures { Normalises buffer.old s.now result buffer.new }
 {
     let figures = judge::judge_length(s, found)?;
@@ -75,7 +74,7 @@ fn store_measured(buffer: &mut [u8], s: &[u8], found: Found) -> Result<usize, Re
 
 // The same; 13 and 14 are asked only where a bound does not tell that they pass.
 pub fn store_found(buffer: &mut [u8], s: &[u8], found: Found) -> Result<usize, Refusal>
-    requires { (answering (stages_in s.now 1 12) ≡ none) × (found ≡ found_by 12 s.now) }
+    requires { Passed s.now found }
     ensures { Normalises buffer.old s.now result buffer.new }
 {
     let most = judge::most_length(s, found);

@@ -1,6 +1,7 @@
 -- An element of ordinary bytes, by the places between which it stands: its value, that it is alone, and where the next element begins.
 -- Assumes nothing.
 use Rattle.std.specs.Prelude.{Option, Some, None, if◌then◌else◌, Ok}
+use Rattle.std.specs.Bool.{then_some}
 use Prim.Native.Nat.{ℕ, zero, suc, ◌+◌, ◌-◌, ◌≤◌, ◌<◌}
 use mathlib.Core.Path.{◌≡◌, refl, sym, ap, ap₂, subst, ◌∙◌}
 use mathlib.Core.Bool.{Bool, true, false, not, ◌&&◌, ◌||◌, or-true, false≢true}
@@ -242,3 +243,10 @@ module _ (c : Characters) (s : List ℕ) where
           ∙ passed,
     )
     trailer_controls None e d h = tt
+
+-- ---- what is told where a test says yes, and else nothing
+
+pub told_if : {A : Type 0} (told : Option A → Type 0) → told None → (test : Bool) (x : A) → (test ≡ true → told (Some x)) → {r : Option A}
+    → r ≡ then_some test x → told r
+told_if told nothing true x h e = subst told (sym e) (h refl)
+told_if told nothing false x h e = subst told (sym e) nothing

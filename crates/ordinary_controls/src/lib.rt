@@ -22,13 +22,7 @@ fn same_run(s: &[u8], first: usize, second: usize) -> usize
 {
     for at in first..s.len() {
         let other = second + (at - first);
-        if s.len() <= other {
-            return at;
-        }
-        if !is_ordinary(s[at]) {
-            return at;
-        }
-        if s[at] != s[other] {
+        if s.len() <= other || !is_ordinary(s[at]) || s[at] != s[other] {
             return at;
         }
     }
@@ -46,7 +40,7 @@ fn ends_element(c: Characters, b: u8) -> bool
 fn is_separator(c: Characters, b: u8) -> bool
     ensures { result ≡ (eqb b c.element && not (eqb b c.terminator)) }
 {
-    (b == c.element) & !(b == c.terminator)
+    (b == c.element) & (b != c.terminator)
 }
 
 // The digits from a place on, up to six, by the place after them and the number that they spell.
@@ -62,10 +56,7 @@ fn count_at(s: &[u8], from: usize) -> Count
 {
     let mut number: u32 = 0;
     for at in from..s.len() {
-        if !s[at].is_ascii_digit() {
-            return Count { end: at, number };
-        }
-        if 6 <= at - from {
+        if !s[at].is_ascii_digit() || 6 <= at - from {
             return Count { end: at, number };
         }
         number = number * 10 + u32::from(s[at] - b'0');
@@ -118,10 +109,7 @@ fn header_control(s: &[u8], c: Characters, at: usize, position: usize) -> Option
 {
     let reference = element_from(s, c, at, position);
     let end = past_run(s, true, reference);
-    if refers(s, c, reference, end) {
-        return Some(reference);
-    }
-    None
+    refers(s, c, reference, end).then_some(reference)
 }
 
 // A trailer: its first element has to be this count, and its second the reference at `header`.
@@ -133,23 +121,14 @@ fn trailer_control(s: &[u8], c: Characters, at: usize, header: usize, count: u32
     let counted = tagged + 1;
     let found = count_at(s, counted);
     let end = found.end;
-    if s.len() <= end {
-        return None;
-    }
-    if end == counted {
-        return None;
-    }
-    if found.number != count {
+    if s.len() <= end || end == counted || found.number != count {
         return None;
     }
     if !(is_separator(c, s[tagged]) & is_separator(c, s[end])) {
         return None;
     }
     let reference = end + 1;
-    if repeats(s, c, reference, header) {
-        return Some(reference);
-    }
-    None
+    repeats(s, c, reference, header).then_some(reference)
 }
 
 // One segment, with a tag of three ordinary bytes: stage (10 11 12) passes it, and its reference begins at

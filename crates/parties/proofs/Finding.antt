@@ -3,29 +3,26 @@ use Rattle.std.specs.Prelude.{if◌then◌else◌, Ok, Err, Option as Perhaps, S
 use Prim.Native.Nat.{ℕ, zero, suc, ◌+◌, ◌-◌, ◌≤◌, ◌<◌}
 use mathlib.Core.Path.{◌≡◌, refl, sym, ap, subst, ◌∙◌}
 use mathlib.Core.Bool.{Bool, true, false, not, ◌&&◌, ◌||◌}
-use mathlib.Core.List.{List, [], ◌∷◌, ◌++◌}
+use mathlib.Core.List.{List, [], ◌∷◌}
 use mathlib.Core.Option.{Option, none, some}
 use native.Mathlib.Omega.{arith}
 use native.Mathlib.Decide.{dec_le}
 use native.Mathlib.Nat.{lt_of_not-le}
 use lib.ListN.{length, get_or}
 use lib.Dec.{eqb}
-use Rattle.lists.specs.Lists.{member, is_empty, through, gather, maybe}
+use Rattle.lists.specs.Lists.{is_empty, through, gather, maybe}
 use Rattle.lists.proofs.Texts.{or_none_left}
-use Rattle.characters.specs.Characters.{role, service_characters, is_service, has_repetition, has_release, body_start}
+use Rattle.characters.specs.Characters.{role, body_start}
 use Rattle.characters.specs.declared.Role.TheVariants.{Separator}
 use Rattle.characters.specs.declared.Characters.{Characters}
 use Rattle.refusals.specs.declared.Refusal.{Refusal}
-use Rattle.refusals.specs.Refusals.{outcome}
 use Rattle.values.specs.Tokens.{Token, byte, ends, tokens_at}
 use Rattle.values.specs.Values.{Value, value_of, bytes_of}
 use Rattle.values.specs.Trimming.{trimmed, value_at}
 use Rattle.values.proofs.Steps.{at_separator, ends_yes, ends_no}
 use Rattle.stages.specs.Stages.{refusal_of}
 use Rattle.answers.specs.declared.Figures.{Figures}
-use Rattle.answers.specs.Answers.{told_located}
 use Rattle.operations.specs.Judge.{figures_of}
-use Rattle.operations.specs.Locate.{locate}
 use Rattle.scanner.specs.Scan.{segment_at}
 use Rattle.elements.specs.Elements.{piece_from, element_from, holds_byte, PieceAt, ElementAt}
 use Rattle.elements.specs.Sixteen.{weight, Separators}
@@ -34,13 +31,13 @@ use Rattle.elements.proofs.Elements.{from_next, from_plain, holds_byte_lem}
 use Rattle.elements.proofs.Sixteen.{separators_none, separators_next}
 use Rattle.plain_runs.specs.Runs.{PlainRun}
 use Rattle.plain_runs.proofs.Runs.{by_bytes, run_inside}
-use Rattle.trimmed_values.specs.Trimmed.{placed, stays_in, value_from, value_stays}
+use Rattle.trimmed_values.specs.Trimmed.{placed, stays_in}
 use Rattle.trimmed_values.proofs.Ends.{Whole, from_whole}
 use Rattle.trimmed_values.proofs.Places.{value_found}
 use Rattle.trimmed_values.proofs.Trimmed.{trimmed_value}
 use Rattle.values.specs.declared.Span.{Span}
 use Rattle.locate.specs.Locating.{part_of}
-use Rattle.locate.proofs.Locating.{locate_refused, start_whole, locate_found, part_found, part_absent, part_refused}
+use Rattle.locate.proofs.Locating.{start_whole, locate_found, part_found, part_absent}
 use Rattle.parties.specs.Parties.{spelled_parties, span_of, first_value, parties_of}
 
 -- ---- elements one after another
@@ -123,29 +120,6 @@ run_kept c s from to run l =
           | yes g ↦ let w : from ≡ k = omega arith in holds_byte_lem 0 (ap (tokens_at c s) w ∙ e)
           | no g ↦ p (lt_of_not-le g)
         ]
-
--- none of five bytes, no service character
-pub unserved : (c : Characters) (b : ℕ)
-    → ((((eqb b c.component || eqb b c.element) || eqb b c.terminator) || eqb b c.release) || eqb b c.repetition) ≡ false
-    → is_service c b ≡ false
-unfolding is_service service_characters member
-unserved c b h = five (eqb b c.component) (eqb b c.element) (eqb b c.terminator) (eqb b c.release) (eqb b c.repetition) refl refl refl refl refl h
-  where
-    others : (t u : Bool) → eqb b c.repetition ≡ false → eqb b c.release ≡ false
-        → member b ((if t then c.repetition ∷ [] else []) ++ (if u then c.release ∷ [] else [])) ≡ false
-    others true true p q = rw (p, q) refl
-    others true false p q = rw p refl
-    others false true p q = rw q refl
-    others false false p q = refl
-
-    five : (v w x y z : Bool) → eqb b c.component ≡ v → eqb b c.element ≡ w → eqb b c.terminator ≡ x → eqb b c.release ≡ y
-        → eqb b c.repetition ≡ z → ((((v || w) || x) || y) || z) ≡ false → member b (service_characters c) ≡ false
-    five true w x y z p q r s t k = cc
-    five false true x y z p q r s t k = cc
-    five false false true y z p q r s t k = cc
-    five false false false true z p q r s t k = cc
-    five false false false false true p q r s t k = cc
-    five false false false false false p q r s t k = rw (p, q, r) (others (has_repetition c) (has_release c) t s)
 
 -- an element is found from behind the run as well
 pub element_past : (c : Characters) (s : List ℕ) (start from at next n m : ℕ) → tokens_at c s from ≡ element_from m (tokens_at c s start)

@@ -3,7 +3,7 @@
 // what Locate's companion hands back for each, for any bytes.
 #![tactic(auto)]
 
-ghost use Rattle.std.specs.Prelude.{◌≡◌, false, ◌||◌, eqb};
+ghost use Rattle.std.specs.Prelude.{◌≡◌, false};
 ghost use Rattle.values.specs.Tokens.{tokens_at};
 ghost use Rattle.values.specs.Values.{ends_inside};
 ghost use Rattle.elements.specs.Elements.{ElementAt, holds_byte};
@@ -12,6 +12,7 @@ ghost use Rattle.parties.specs.Parties.{parties_of, first_value};
 
 use characters::Characters;
 use elements::{holds_byte, piece_at, value_end};
+use plain_runs::past_plain;
 use refusals::Refusal;
 use values::Span;
 
@@ -23,7 +24,7 @@ pub struct Parties {
     pub reference: Span,
 }
 
-// Zero bytes at the input's start.
+// Zero bytes at the input's start. (`part_of` of `locate` names the same at its one use.)
 fn nothing() -> Span
     ensures { result ≡ record { offset = 0; length = 0 } }
 {
@@ -57,39 +58,12 @@ fn element_after(s: &[u8], c: Characters, from: usize) -> usize
     next_element(s, c, next_element(s, c, from))
 }
 
-// A byte that may be a service character. A space is one here where there is no release character or no
-// repetition separator: then less is passed at once.
-fn may_serve(c: Characters, b: u8) -> bool
-    ensures { result ≡ ((((eqb b c.component || eqb b c.element) || eqb b c.terminator) || eqb b c.release) || eqb b c.repetition) }
-{
-    (b == c.component)
-        | (b == c.element)
-        | (b == c.terminator)
-        | (b == c.release)
-        | (b == c.repetition)
-}
-
-// The place after a run of plain bytes.
-fn run_end(s: &[u8], c: Characters, from: usize) -> usize
-    ensures { PlainRun c s.now from result }
-{
-    for at in from..s.len() {
-        if may_serve(c, s[at]) {
-            return at;
-        }
-    }
-    from.max(s.len())
-}
-
 // Trimming keeps the element that begins at `from`, which is not the tag, with plain bytes up to `at`.
 fn is_kept(s: &[u8], c: Characters, from: usize, at: usize) -> bool
     requires { PlainRun c s.now from at }
     ensures { result ≡ holds_byte 0 (tokens_at c s.now from) }
 {
-    if from < at {
-        return true;
-    }
-    holds_byte(s, c, from, 0)
+    from < at || holds_byte(s, c, from, 0)
 }
 
 // The first value of the element that begins at `from`, which is not the tag, with plain bytes up to `at`;
@@ -116,11 +90,11 @@ pub fn parties_of(s: &[u8]) -> Result<Parties, Refusal>
     let figures = judge::judge(s)?;
     let c = figures.characters;
     let second = element_after(s, c, stage_opening::body_start(s));
-    let sender = run_end(s, c, second);
+    let sender = past_plain(s, c, second);
     let third = next_element(s, c, sender);
-    let recipient = run_end(s, c, third);
+    let recipient = past_plain(s, c, third);
     let fifth = element_after(s, c, recipient);
-    let reference = run_end(s, c, fifth);
+    let reference = past_plain(s, c, fifth);
     Ok(Parties {
         sender: first_value(s, c, second, sender),
         recipient: first_value(s, c, third, recipient),

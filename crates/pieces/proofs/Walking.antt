@@ -22,6 +22,7 @@ use Rattle.segments.specs.declared.Kind.{Kind}
 use Rattle.segments.specs.declared.Kind.TheVariants.{Unb, Ung, Unh, Uns, Unt, Une, Unz, User}
 use Rattle.segments.specs.Kinds.{is}
 use Rattle.segments.specs.Tags.{kind_of, tag_rule}
+use Rattle.scanner.specs.declared.Scanned.{Scanned}
 use Rattle.scanner.specs.declared.Scanned.TheVariants.{Ended, Stray, Unended}
 use Rattle.scanner.specs.Scan.{Scanning, ended, stray, unended, scanned, Scans, segment_at}
 use Rattle.scanner.proofs.Scanning.{ended_beyond}
@@ -37,6 +38,7 @@ use Rattle.stages.specs.Stages.{brackets, brackets_in, stages_in}
 use Rattle.stages.proofs.Stages.{run_on}
 use Rattle.stage_walks.specs.Walks.{worded}
 use Rattle.stage_walks.proofs.Worded.{worded_answers}
+use Rattle.stage_segments.specs.Segment.{Refuses, Passes}
 use Rattle.stage_segments.proofs.Stage.{worded_end, worded_stray, worded_unended, worded_broken, worded_next}
 use Rattle.stage_opening.specs.declared.Found.{Found}
 use Rattle.stage_opening.specs.Runs.{found_by, progress, Progress}
@@ -140,17 +142,17 @@ module _ (c : Characters) (s : List ℕ) (at : ℕ) where
     unfolding first_unz
     unwhole h = first_is ∙ rw h refl
 
-    pub from_stray : {place : ℕ} → Scans c s at (Stray place)
+    from_stray : {place : ℕ} → Scans c s at (Stray place)
         → ending_from c s at ≡ Stopped (record { fault = StrayRelease; place = place })
     unfolding is_whole segment_at ending maybe
     from_stray {place} h = from_both (unwhole (rw (told (stray place) h) refl)) (worded_stray c s at (length s) inside h)
 
-    pub from_unended : Scans c s at Unended → ending_from c s at ≡ Stopped (record { fault = UnendedSegment; place = length s })
+    from_unended : Scans c s at Unended → ending_from c s at ≡ Stopped (record { fault = UnendedSegment; place = length s })
     unfolding is_whole segment_at ending maybe
     from_unended h = from_both (unwhole (rw (told unended h) refl)) (worded_unended c s at (length s) inside h)
 
     module _ {next : ℕ} (h : Scans c s at (Ended next)) where
-      pub from_broken : tag_rule (segment_at c s at) ≡ false → ending_from c s at ≡ Stopped (record { fault = BrokenTag; place = at })
+      from_broken : tag_rule (segment_at c s at) ≡ false → ending_from c s at ≡ Stopped (record { fault = BrokenTag; place = at })
       unfolding is_whole ending maybe
       from_broken e =
           from_both
@@ -180,6 +182,15 @@ module _ (c : Characters) (s : List ℕ) (at : ℕ) where
             (mailbox.after_within s (end_place (segment_at c s at) + 1) (omega (arith, g.within)))
             h.2
             (sym g.follows ∙ sym (ended_beyond (tokens_at c s at) h.0)))
+
+  -- the segment that begins there is refused
+  pub from_refused : at < length s → {r : Refusal} → Passes c s at (Err r) → ending_from c s at ≡ Stopped r
+  from_refused inside {r} (found, h, e) = step found h e
+    where
+      step : (found : Scanned) → Scans c s at found → Refuses c s at found r → ending_from c s at ≡ Stopped r
+      step (Ended next) h e = from_broken inside h e.0 ∙ ap Stopped (sym e.1)
+      step (Stray place) h e = from_stray inside h ∙ ap Stopped (sym e)
+      step Unended h e = from_unended inside h ∙ ap Stopped (sym e)
 
 -- ---- the opening
 

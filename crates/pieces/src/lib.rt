@@ -8,24 +8,19 @@ ghost use Rattle.mailbox_files.specs.Pieces.{piece_end};
 ghost use Rattle.pieces.specs.Walk.{ending_of, ending_from, end_in, end_from, is_unz};
 
 use characters::Characters;
-use refusals::{Fault, Refusal};
-use scanner::{Scanned, scan};
+use refusals::Refusal;
 use segments::Kind;
-use tags::{kind_at, tag_holds};
+use stage_segments::past_segment;
+use tags::kind_at;
 
 // How a piece ends: after its UNZ and the breaks behind that, at this place; or with the rest of the file, where
-// the cutting meets a fault 2 to 6 before a UNZ, or the file's end.
+// the cutting meets a fault 2 to 6 before a UNZ, or the file's end. (A `Result<Option<usize>, Refusal>` would hold the same, and call a piece
+// that is counted as any other an error.)
 #[derive(Clone, Copy)]
 pub enum Ending {
     AfterUnz(usize),
     Stopped(Refusal),
     FileEnd,
-}
-
-fn stopped(fault: Fault, place: usize) -> Ending
-    ensures { result ≡ Ending.Stopped (record { fault = fault; place = place }) }
-{
-    Ending::Stopped(Refusal { fault, place })
 }
 
 fn is_unz(kind: Kind) -> bool
@@ -34,27 +29,21 @@ fn is_unz(kind: Kind) -> bool
     matches!(kind, Kind::Unz)
 }
 
-// How the piece ends of which a segment begins at `start`.
+// How the piece ends of which a segment begins at `start`. (Where a segment ends no `for` would know.)
 fn unz_ending(rest: &[u8], c: Characters, start: usize) -> Ending
     ensures { result ≡ ending_from c rest.now start }
 {
     let mut at = start;
     while at < rest.len() {
-        match scan(rest, c, at) {
-            Scanned::Ended { next } => {
-                if !tag_holds(rest, c, at) {
-                    return stopped(Fault::BrokenTag, at);
-                }
+        match past_segment(rest, c, at) {
+            Err(refusal) => {
+                return Ending::Stopped(refusal);
+            }
+            Ok(next) => {
                 if is_unz(kind_at(rest, c, at)) {
                     return Ending::AfterUnz(next);
                 }
                 at = next;
-            }
-            Scanned::Stray { place } => {
-                return stopped(Fault::StrayRelease, place);
-            }
-            Scanned::Unended => {
-                return stopped(Fault::UnendedSegment, rest.len());
             }
         }
     }
@@ -70,10 +59,7 @@ pub fn first_piece(rest: &[u8]) -> Ending
     }
     match stage_opening::opening_of(rest) {
         Err(refusal) => Ending::Stopped(refusal),
-        Ok(found) => {
-            let c = found.characters;
-            unz_ending(rest, c, found.start)
-        }
+        Ok(found) => unz_ending(rest, found.characters, found.start),
     }
 }
 
@@ -88,7 +74,8 @@ pub fn end_in(rest: &[u8], ending: Ending) -> usize
 }
 
 // The place behind the first UNZ from a segment's start on, and behind its breaks; the end of the rest
-// where a segment before it, or it, meets a fault 4 to 6, or where there is none.
+// where a segment before it, or it, meets a fault 4 to 6, or where there is none. (`end_in(rest, first_piece(rest))` would do without it; the
+// definition `end_from` is what it promises.)
 fn unz_end(rest: &[u8], c: Characters, start: usize) -> usize
     ensures { result ≡ end_from c rest.now start }
 {
@@ -101,9 +88,6 @@ pub fn piece_end(rest: &[u8]) -> usize
 {
     match stage_opening::opening_of(rest) {
         Err(_) => rest.len(),
-        Ok(found) => {
-            let c = found.characters;
-            unz_end(rest, c, found.start)
-        }
+        Ok(found) => unz_end(rest, found.characters, found.start),
     }
 }

@@ -9,7 +9,7 @@ ghost use Rattle.plain_runs.specs.Runs.{PlainRun};
 use characters::Characters;
 use storing::{Measured, Sink, Stored, is_service, put_short};
 
-// The place after a run of plain bytes.
+// The place after a run of plain bytes. (`position` over `s[from..]` would ask that `from` is no more than the length.)
 pub fn past_plain(s: &[u8], c: Characters, from: usize) -> usize
     ensures { PlainRun c s.now from result }
 {

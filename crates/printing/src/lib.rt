@@ -1,6 +1,8 @@
 // What the programs print of an answer: words, the paper's number of a refusal and its place, one line
 // an answer; and what they say on standard error where something fails. It promises nothing of what is
-// written, which no contract can say.
+// written, which no contract can say. (What becomes of another width by `as`, here and in the programs, has no `from` in the
+// library: it crosses between `usize` and a width that is named. A line of several numbers is put together where it is printed: one function
+// for them would be public and have no contract.)
 #![tactic(auto)]
 
 use answers::Unaccepted;

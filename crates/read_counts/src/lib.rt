@@ -26,7 +26,8 @@ pub struct Listing {
     pub held: Held,
 }
 
-// How many bytes, and how many numbers of the table.
+// How many bytes, and how many numbers of the table. (`answers` has the same two figures, for what Read answers: it is none of
+// the crates that this one stands on.)
 #[derive(Clone, Copy)]
 pub struct Tally {
     pub bytes: usize,
@@ -138,6 +139,7 @@ impl ListSink for Measured {
     }
 }
 
+// (`as` loses nothing, since no figure is above 32,000: `try_from` would name an error that cannot come.)
 fn put_record(table: &mut [u32], l: Listing)
     requires { (l.records * 3 + 3 ≤ length table.old) × (l.records ≤ most_bytes) × (end l ≤ most_bytes) }
     ensures { table.new ≡ sets table.old (l.records * 3) (numbers_out (entry_of l)) }

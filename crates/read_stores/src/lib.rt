@@ -39,7 +39,8 @@ fn put_separator<S: ListSink>(table: &mut [u32], l: Listing, rank: u8) -> Listin
 }
 
 // Puts the values of the body that begins at `start`, and returns how much they take. The plain bytes that follow
-// one of a value are taken at once. (Export's walk over a body stands by itself, and says why.)
+// one of a value are taken at once. (Export's walk over a body stands by itself, and says why. The
+// scanner tells the next place, so that no `for` can count it.)
 pub fn put_values<S: ListSink>(
     buffer: &mut [u8],
     table: &mut [u32],

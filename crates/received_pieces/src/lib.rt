@@ -18,7 +18,8 @@ use read_counts::start_of_list;
 use scanner::{Lexed, lex};
 use storing::Sink;
 
-// What is next in a piece: a byte of a value, a separator inside it, or its end.
+// What is next in a piece: a byte of a value, a separator inside it, or its end. (Three cases, as the scanner's `Lexed` has them:
+// an `Option` of two would put a `Some` round each.)
 #[derive(Clone, Copy)]
 pub enum Within {
     Byte { byte: u8, next: usize },
@@ -26,7 +27,8 @@ pub enum Within {
     Ended,
 }
 
-// A separator of this rank or a lower one ends the piece, and so does the end of the input.
+// A separator of this rank or a lower one ends the piece, and so does the end of the input. (The scanner tells the next place, so
+// that no `for` can count it, here and below.)
 fn next_in(s: &[u8], d: Characters, rank: u8, from: usize) -> Within
     ensures { NextIn d s.now rank from result }
 {

@@ -1,5 +1,5 @@
 -- What is reached, byte by byte, where it is known of each byte whether it is released; and of many bytes at once. Assumes nothing.
-use Prim.Native.Nat.{ℕ, ◌+◌, ◌-◌, ◌≤◌}
+use Prim.Native.Nat.{ℕ, zero, suc, ◌+◌, ◌-◌, ◌≤◌, ◌<◌}
 use mathlib.Core.Path.{◌≡◌, refl, sym, ap, ap₂, subst, ◌∙◌}
 use mathlib.Core.Bool.{Bool, true, false, not, ◌&&◌, ◌||◌, false≢true}
 use mathlib.Core.List.{List}
@@ -47,11 +47,6 @@ marked_later c s base count none =
           omega arith
     ]
 
--- what is not found is not there
-pub not_found : (t : Bool) → (t ≡ true → ⊥) → t ≡ false
-not_found true h = absurd (h refl)
-not_found false h = refl
-
 module _ (Holds : ℕ → Type 0) (c : Characters) (s : List ℕ) where
   -- one byte more, of which it is known whether it is released: it is passed alone, or with the release character before it
   pub reached_next : (now next : Bool) (p : ℕ) → misread c now next (get_or s p 0) ≡ false
@@ -67,28 +62,19 @@ module _ (Holds : ℕ → Type 0) (c : Characters) (s : List ℕ) where
 
   -- ---- many bytes
 
-  -- of the bytes that begin four places after `base`, each of the first `k` that comes before the first stop is reached
-  abbrev pub Stopping : ℕ → ℕ → ℕ → Type 0
-  Stopping base k first = (j at : ℕ) → at ≡ base + j → j ≤ k → j ≤ first → Reached Holds c s (marked_at c s at) (at + 1 + 1 + 1 + 1)
+  -- the byte four places on is reached
+  abbrev pub There : ℕ → Type 0
+  There at = Reached Holds c s (marked_at c s at) (at + 1 + 1 + 1 + 1)
 
-  module _ (base : ℕ) where
-    pub stopping_none : marked_at c s base ≡ false → Holds (base + 1 + 1 + 1 + 1) → (first : ℕ) → Stopping base 0 first
-    stopping_none none h first j at e l m =
-        let there : base ≡ at = omega arith in
-        subst (λ (x : ℕ). Reached Holds c s (marked_at c s x) (x + 1 + 1 + 1 + 1)) there
-        (subst (λ (t : Bool). Reached Holds c s t (base + 1 + 1 + 1 + 1)) (sym none) (closed h))
-
-    pub stopping_next : (found : Bool) {k first least at : ℕ} → Stopping base k first → at ≡ base + k
-        → (found ≡ false → Reached Holds c s (marked_at c s at) (at + 1 + 1 + 1 + 1) → Reached Holds c s (marked_at c s (at + 1)) (at + 1 + 1 + 1 + 1 + 1))
-        → least ≤ first → (found ≡ true → least ≤ k) → Stopping base (k + 1) least
-    stopping_next found {k} {first} {least} {at} g w step less h j place d l m =
-        elim (dec_le j k) [
-          | yes q ↦ g j place d q (omega arith)
-          | no q ↦
-              let there : at + 1 ≡ place = omega (arith, lt_of_not-le q) in
-              subst (λ (x : ℕ). Reached Holds c s (marked_at c s x) (x + 1 + 1 + 1 + 1)) there
-              (step (not_found found (λ t. omega (arith, h t, lt_of_not-le q))) (g k at w (omega arith) (omega (arith, lt_of_not-le q))))
-        ]
+  -- so is the one after so many, where each reaches the next one
+  pub reached_all : (base count : ℕ) → marked_at c s base ≡ false → Holds (base + 1 + 1 + 1 + 1)
+      → ((k : ℕ) → k < count → There (base + k) → There (base + k + 1)) → There (base + count)
+  reached_all base zero none h next =
+      let there : base ≡ base + 0 = omega arith in
+      subst There there (subst (λ (t : Bool). Reached Holds c s t (base + 1 + 1 + 1 + 1)) (sym none) (closed h))
+  reached_all base (suc count) none h next =
+      let there : base + count + 1 ≡ base + suc count = omega arith in
+      subst There there (next count (omega arith) (reached_all base count none h (λ k l. next k (omega arith))))
 
 -- what holds from one place to those passed holds up to where `closed` says: a byte that is not released, or the release character before it
 pub closed_holds : (Holds : ℕ → ℕ → Type 0) (c : Characters) (s : List ℕ) (base count : ℕ) {from r : ℕ} → base + 4 ≡ from → marked_at c s base ≡ false

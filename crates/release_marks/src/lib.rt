@@ -11,7 +11,7 @@ use characters::Characters;
 use storing::is_service;
 
 // A byte is taken for released: one release character stands before it, or three. The four bytes before it
-// are named from the nearest on.
+// are named from the nearest on. (A struct of the four would be made anew for each byte, and taken apart again.)
 pub fn is_marked(c: Characters, b: u8, d: u8, e: u8, f: u8) -> bool
     ensures { result ≡ marked c b d e f }
 {
@@ -48,5 +48,5 @@ pub fn closed(s: &[u8], c: Characters, base: usize, count: usize) -> usize
     requires { (base + count + 4 ≤ length s.now) × (marked_at c s.now base ≡ false) }
     ensures { result ≡ closed_at c s.now base count }
 {
-    count - is_marked_at(s, c, base + count) as usize
+    count - usize::from(is_marked_at(s, c, base + count))
 }

@@ -16,7 +16,7 @@ use refusals::{Fault, Refusal};
 use refusing::{failed, number_of};
 use segments::{Messages, Segments};
 
-// Every figure is 0.
+// Every figure is 0. (They are named one by one, as the definition `no_figures` does, and not by a derived `Default`.)
 pub fn no_figures() -> Report
     ensures { result ≡ no_figures }
 {
@@ -45,7 +45,7 @@ fn with_accepted(report: Report, figures: Figures) -> Report
     }
 }
 
-// One refused piece more, under its number.
+// One refused piece more, under its number. (The counts stay an array by number: C is handed it so.)
 fn with_refused(report: Report, refusal: Refusal) -> Report
     requires { Within 65535 report × (number refusal.fault ≤ 13) }
     ensures { result ≡ with_refused report refusal }
@@ -67,7 +67,7 @@ fn counted(report: Report, judged: Result<Figures, Refusal>) -> Report
     }
 }
 
-// The figures over the pieces of a file.
+// The figures over the pieces of a file. (Where the next piece begins is known only when this one is cut, which no `for` would know.)
 fn figures_of(file: &[u8]) -> Report
     requires { length file.now ≤ most_file }
     ensures { result ≡ report_over (pieces file.now) }

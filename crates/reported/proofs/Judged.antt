@@ -1,5 +1,5 @@
 -- Which number a run of stages answers, and what the runs up to 9, of 10 to 12 and of 13 say of the whole. Assumes nothing.
-use Rattle.std.specs.Prelude.{if◌then◌else◌}
+use Rattle.std.specs.Prelude.{if◌then◌else◌, Some, None}
 use Prim.Native.Nat.{ℕ, ◌≤◌, ◌<◌}
 use mathlib.Core.Path.{◌≡◌, refl, sym, ap, ap₂, subst, ◌∙◌}
 use mathlib.Core.Bool.{Bool, true, false, ◌&&◌, ◌||◌, false≢true}
@@ -12,7 +12,6 @@ use borrow.Author.Tests.{leb-true, ne_eqb, eqb-false}
 use Rattle.lists.specs.Lists.{member, all, those, gather, maybe}
 use Rattle.lists.proofs.Tests.{says_all, gathered}
 use Rattle.lists.proofs.Texts.{and_left, and_right, and_both}
-use Rattle.characters.specs.Characters.{characters_of, body_start}
 use Rattle.refusals.specs.declared.Fault.{Fault}
 use Rattle.refusals.specs.declared.Refusal.{Refusal}
 use Rattle.refusals.specs.Refusals.{number, Stage, met, lowest, or_else, answering}
@@ -21,8 +20,7 @@ use Rattle.refusals.proofs.Stages.{met_member}
 use Rattle.stages.specs.Stages.{places_of, brackets, brackets_in, bracketed, stages_in, stages, refusal_of}
 use Rattle.stages.proofs.Stages.{bracketed_is, run_on}
 use Rattle.acknowledgements.specs.Received.{has_action_code}
-use Rattle.reported.specs.declared.Standing.TheVariants.{Reported, Unreported}
-use Rattle.reported.specs.Reporting.{action_place, standing_of}
+use Rattle.reported.specs.Reporting.{action_place, standing_with, standing_of}
 
 -- ---- the number that answers
 
@@ -108,26 +106,26 @@ module _ (s : List ℕ) where
 
   -- what is said of each
   said : {o : Option Refusal} (b : Bool) → refusal_of s ≡ o → has_action_code o ≡ b
-      → (if b then Reported (characters_of s) (body_start s) (action_place o) else Unreported) ≡ standing_of s
+      → (if b then Some (standing_with s (action_place o)) else None) ≡ standing_of s
   unfolding standing_of
   said {o} b d e =
-      ap (λ (t : Bool). if t then Reported (characters_of s) (body_start s) (action_place o) else Unreported) (sym e)
-      ∙ ap (λ (p : Option Refusal). if has_action_code p then Reported (characters_of s) (body_start s) (action_place p) else Unreported) (sym d)
+      ap (λ (t : Bool). if t then Some (standing_with s (action_place o)) else None) (sym e)
+      ∙ ap (λ (p : Option Refusal). if has_action_code p then Some (standing_with s (action_place p)) else None) (sym d)
 
-  pub early_refused : {r : Refusal} → answering (stages_in s 1 9) ≡ some r → Unreported ≡ standing_of s
+  pub early_refused : {r : Refusal} → answering (stages_in s 1 9) ≡ some r → None ≡ standing_of s
   unfolding or_else
   early_refused {r} h = said false (by_runs h refl refl) (not_reported r (inl (omega (arith, range s r 1 9 h))))
 
   module _ (early : answering (stages_in s 1 9) ≡ none) where
-    pub control_refused : {r : Refusal} → answering (stages_in s 10 12) ≡ some r → Reported (characters_of s) (body_start s) 17 ≡ standing_of s
+    pub control_refused : {r : Refusal} → answering (stages_in s 10 12) ≡ some r → Some (standing_with s 17) ≡ standing_of s
     unfolding or_else
     control_refused {r} h = let (low, high) = range s r 10 12 h in said true (by_runs early h refl) (reported_of r low high)
 
-    pub form_refused : answering (stages_in s 10 12) ≡ none → {r : Refusal} → answering (stages_in s 13 13) ≡ some r → Unreported ≡ standing_of s
+    pub form_refused : answering (stages_in s 10 12) ≡ none → {r : Refusal} → answering (stages_in s 13 13) ≡ some r → None ≡ standing_of s
     unfolding or_else
     form_refused e {r} h = said false (by_runs early e h) (not_reported r (inr (omega (arith, range s r 13 13 h))))
 
-    pub none_refused : answering (stages_in s 10 12) ≡ none → answering (stages_in s 13 13) ≡ none → Reported (characters_of s) (body_start s) 18 ≡ standing_of s
+    pub none_refused : answering (stages_in s 10 12) ≡ none → answering (stages_in s 13 13) ≡ none → Some (standing_with s 18) ≡ standing_of s
     unfolding or_else has_action_code maybe
     none_refused e h = said true (by_runs early e h) refl
 

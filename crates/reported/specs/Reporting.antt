@@ -8,19 +8,28 @@ use Rattle.stages.specs.Contents.{body_tokens}
 use Rattle.stages.specs.Stages.{refusal_of}
 use Rattle.elements.specs.Elements.{element_from, component_from}
 use Rattle.acknowledgements.specs.Received.{has_action_code, cannot_be_acknowledged}
+use Rattle.stage_opening.specs.declared.Found.{Found}
 use Rattle.acknowledgement_parts.specs.declared.Received.{Received}
 use Rattle.reported.specs.declared.Standing.{Standing}
-use Rattle.reported.specs.declared.Standing.TheVariants.{Reported, Unreported}
 
 -- "7 when accepted, 4 when refused": where the code stands among the words of an acknowledgement
 abbrev pub action_place : Option Refusal → ℕ
 action_place none = 18
 action_place (some r) = 17
 
--- what Judge's stages say
-unfoldable pub standing_of : List ℕ → Standing
-standing_of s =
-    if has_action_code (refusal_of s) then Reported (characters_of s) (body_start s) (action_place (refusal_of s)) else Unreported
+-- what was found, with an action code
+abbrev pub standing_by : Found → ℕ → Standing
+standing_by found action = record { characters = found.characters; start = found.start; action = action }
+
+-- what Judge's stages say, where an action code answers
+abbrev pub standing_with : List ℕ → ℕ → Standing
+standing_with s action = record { characters = characters_of s; start = body_start s; action = action }
+
+abbrev pub standing_in : List ℕ → Standing
+standing_in s = standing_with s (action_place (refusal_of s))
+
+unfoldable pub standing_of : List ℕ → Perhaps Standing
+standing_of s = if has_action_code (refusal_of s) then Some (standing_in s) else None
 
 -- the places begin the pieces of UNB
 pub record Takes (s : List ℕ) (r : Received) : Type 0 where

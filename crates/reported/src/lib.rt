@@ -5,12 +5,11 @@
 
 ghost use Rattle.std.specs.Prelude.{◌≡◌, true};
 ghost use Rattle.std.proofs.Math.Option.{none};
-ghost use Rattle.characters.specs.Characters.{characters_of, body_start};
 ghost use Rattle.refusals.specs.Refusals.{answering};
 ghost use Rattle.stages.specs.Stages.{stages_in, refusal_of};
 ghost use Rattle.stage_opening.specs.Runs.{found_by};
 ghost use Rattle.acknowledgements.specs.Received.{has_action_code};
-ghost use Rattle.reported.specs.Reporting.{action_place, standing_of, Reports};
+ghost use Rattle.reported.specs.Reporting.{standing_by, standing_in, standing_of, Reports};
 
 use acknowledgement_parts::Received;
 use characters::Characters;
@@ -23,70 +22,54 @@ const ACCEPTED: u32 = 18;
 
 const REFUSED: u32 = 17;
 
-// What Judge's stages say: the service characters, where the body begins, and the action code; or that the interchange is
-// refused by another number than 10, 11 and 12.
+// What Judge's stages say of an interchange that is not refused by another number than 10, 11 and 12: the service characters, where
+// the body begins, and the action code.
 #[derive(Clone, Copy)]
-pub enum Standing {
-    Reported {
-        characters: Characters,
-        start: usize,
-        action: u32,
-    },
-    Unreported,
+pub struct Standing {
+    pub characters: Characters,
+    pub start: usize,
+    pub action: u32,
 }
 
-// Of an input that 1 to 12 passed.
-fn standing_passed(s: &[u8], found: Found) -> Standing
-    requires { (answering (stages_in s.now 1 12) ≡ none) × (found ≡ found_by 12 s.now) }
-    ensures { result ≡ standing_of s.now }
+fn with_action(found: Found, action: u32) -> Standing
+    ensures { result ≡ standing_by found action }
 {
-    let Found {
-        characters,
-        start,
-        ..
-    } = found;
-    match judge::judge_length(s, found) {
-        Err(_) => Standing::Unreported,
-        Ok(_) => Standing::Reported {
-            characters,
-            start,
-            action: ACCEPTED,
-        },
+    Standing {
+        characters: found.characters,
+        start: found.start,
+        action,
     }
 }
 
+// Of an input that 1 to 12 passed.
+fn standing_passed(s: &[u8], found: Found) -> Option<Standing>
+    requires { (answering (stages_in s.now 1 12) ≡ none) × (found ≡ found_by 12 s.now) }
+    ensures { result ≡ standing_of s.now }
+{
+    judge::judge_length(s, found).ok()?;
+    Some(with_action(found, ACCEPTED))
+}
+
 // Of an input that 1 to 9 passed.
-fn standing_after(s: &[u8], found: Found) -> Standing
+fn standing_after(s: &[u8], found: Found) -> Option<Standing>
     requires { (answering (stages_in s.now 1 9) ≡ none) × (found ≡ found_by 9 s.now) }
     ensures { result ≡ standing_of s.now }
 {
-    let Found {
-        characters,
-        start,
-        ..
-    } = found;
-    match stage_control::check(s, characters, start) {
-        Err(_) => Standing::Reported {
-            characters,
-            start,
-            action: REFUSED,
-        },
+    match stage_control::check(s, found.characters, found.start) {
+        Err(_) => Some(with_action(found, REFUSED)),
         Ok(()) => standing_passed(s, found),
     }
 }
 
 // One stage after the other.
-fn standing_in_turn(s: &[u8]) -> Standing
+fn standing_in_turn(s: &[u8]) -> Option<Standing>
     ensures { result ≡ standing_of s.now }
 {
-    match judge::stages_to_9(s) {
-        Err(_) => Standing::Unreported,
-        Ok(found) => standing_after(s, found),
-    }
+    standing_after(s, judge::stages_to_9(s).ok()?)
 }
 
 // Most interchanges are accepted, and Judge's quick way finds that.
-fn standing_of(s: &[u8]) -> Standing
+fn standing_of(s: &[u8]) -> Option<Standing>
     ensures { result ≡ standing_of s.now }
 {
     match judge::quickly(s) {
@@ -95,22 +78,24 @@ fn standing_of(s: &[u8]) -> Standing
     }
 }
 
-// What is taken over from the UNB that begins at `start`, unless its reference is not as paper 01 asks, or its sender or
+// What is taken over from the UNB that begins the body, unless its reference is not as paper 01 asks, or its sender or
 // recipient is one empty value.
-fn taken_from(s: &[u8], c: Characters, start: usize, action: u32) -> Option<Received>
-    requires { (has_action_code (refusal_of s.now) ≡ true) × (c ≡ characters_of s.now) × (start ≡ body_start s.now) × (action ≡ action_place (refusal_of s.now)) }
+fn taken_from(s: &[u8], standing: Standing) -> Option<Received>
+    requires { (has_action_code (refusal_of s.now) ≡ true) × (standing ≡ standing_in s.now) }
     ensures { Reports s.now result }
 {
+    let Standing {
+        characters: c,
+        start,
+        action,
+    } = standing;
     let reference = element_at(s, c, start, 5);
-    if !is_reference(field_at(s, c, reference)) {
-        return None;
-    }
     let sender = element_at(s, c, start, 2);
-    if !holds_byte(s, c, sender, 1) {
-        return None;
-    }
     let recipient = element_at(s, c, start, 3);
-    if !holds_byte(s, c, recipient, 1) {
+    if !is_reference(field_at(s, c, reference))
+        || !holds_byte(s, c, sender, 1)
+        || !holds_byte(s, c, recipient, 1)
+    {
         return None;
     }
     let level = element_at(s, c, start, 1);
@@ -129,12 +114,5 @@ fn taken_from(s: &[u8], c: Characters, start: usize, action: u32) -> Option<Rece
 pub fn report_of(s: &[u8]) -> Option<Received>
     ensures { Reports s.now result }
 {
-    match standing_of(s) {
-        Standing::Unreported => None,
-        Standing::Reported {
-            characters,
-            start,
-            action,
-        } => taken_from(s, characters, start, action),
-    }
+    taken_from(s, standing_of(s)?)
 }

@@ -47,17 +47,12 @@ fn acknowledge_input(rt: &HostRuntime, source: Source) {
     printing::report(&rt.stderr(), acknowledge_bytes(rt, &buf[..n]));
 }
 
-fn acknowledge_arguments(rt: &HostRuntime, count: usize) {
-    for i in 1..count {
-        acknowledge_input(rt, Source::Argument(i));
-    }
-}
-
 fn main(rt: HostRuntime) {
     let count = inputs::argument_count(&rt);
     if count < 2 {
         acknowledge_input(&rt, Source::StandardInput);
-        return;
     }
-    acknowledge_arguments(&rt, count);
+    for i in 1..count {
+        acknowledge_input(&rt, Source::Argument(i));
+    }
 }

@@ -13,9 +13,9 @@ use std::io::Print;
 
 fn print_accepted(rt: &impl Print, figures: Figures) -> io::Result<()> {
     rt.write_all(b"accepted")?;
-    print_value(rt, figures.segments.0 as u64)?;
-    print_value(rt, figures.messages.0 as u64)?;
-    print_value(rt, figures.groups.0 as u64)?;
+    print_value(rt, u64::from(figures.segments.0))?;
+    print_value(rt, u64::from(figures.messages.0))?;
+    print_value(rt, u64::from(figures.groups.0))?;
     print_value(rt, figures.length as u64)?;
     rt.write_all(b"\n")
 }
@@ -36,17 +36,12 @@ fn judge_input(rt: &HostRuntime, source: Source) {
     printing::report(&rt.stderr(), print_judged(rt, judge::judge(&buf[..n])));
 }
 
-fn judge_arguments(rt: &HostRuntime, count: usize) {
-    for i in 1..count {
-        judge_input(rt, Source::Argument(i));
-    }
-}
-
 fn main(rt: HostRuntime) {
     let count = inputs::argument_count(&rt);
     if count < 2 {
         judge_input(&rt, Source::StandardInput);
-        return;
     }
-    judge_arguments(&rt, count);
+    for i in 1..count {
+        judge_input(&rt, Source::Argument(i));
+    }
 }

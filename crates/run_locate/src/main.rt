@@ -51,16 +51,10 @@ fn locate_input(rt: &HostRuntime, v: Numbers, source: Source) {
     printing::report(&rt.stderr(), print_located(rt, &buf[..n], v));
 }
 
-fn locate_arguments(rt: &HostRuntime, v: Numbers, count: usize) {
-    for i in 5..count {
-        locate_input(rt, v, Source::Argument(i));
-    }
-}
-
-// An argument that is missing, or longer than this buffer, is cut to no byte, and is no number either.
+// An argument that is missing, or longer than this buffer, is no number either.
 fn argument(rt: &HostRuntime, i: usize) -> Option<usize> {
     let mut text = [0u8; 32];
-    let n = inputs::argument(rt, i, &mut text);
+    let n = inputs::argument(rt, i, &mut text)?;
     inputs::number_of(&text[..n])
 }
 
@@ -88,7 +82,8 @@ fn main(rt: HostRuntime) {
     let count = inputs::argument_count(&rt);
     if count < 6 {
         locate_input(&rt, v, Source::StandardInput);
-        return;
     }
-    locate_arguments(&rt, v, count);
+    for i in 5..count {
+        locate_input(&rt, v, Source::Argument(i));
+    }
 }

@@ -1,7 +1,7 @@
 -- What Read, Write and Normalise say they stored stands in the fronts of the buffers that they were lent, and so lies within them. Assumes nothing.
-use Rattle.std.specs.Prelude.{Ok, Result}
+use Rattle.std.specs.Prelude.{Ok, Err, Result}
 use Prim.Native.Nat.{ℕ, ◌≤◌}
-use mathlib.Core.Path.{◌≡◌, sym, ap, subst, ◌∙◌}
+use mathlib.Core.Path.{◌≡◌, refl, sym, ap, subst, ◌∙◌}
 use mathlib.Core.List.{List, [], ◌∷◌}
 use mathlib.Core.Option.{Option, none}
 use native.Mathlib.Omega.{arith}
@@ -63,3 +63,8 @@ module _ (buffer s : List ℕ) {r : Stored} {n : ℕ} (says : told_stored r ≡ 
 -- the text of a respelling lies within the buffer: for whoever lends it on
 pub respelled_within : (r : Respelled) (buffer : List ℕ) (n : ℕ) → r ≡ Ok n → Fitting r buffer → n ≤ length buffer
 respelled_within r buffer n is fitting = subst (λ (x : Respelled). Fitting x buffer) is fitting
+
+-- it does, if the length does in the case in which there is one
+pub fitting_by : (r : Respelled) (buffer : List ℕ) → ((n : ℕ) → r ≡ Ok n → n ≤ length buffer) → Fitting r buffer
+fitting_by (Ok n) buffer h = h n refl
+fitting_by (Err refused) buffer h = tt

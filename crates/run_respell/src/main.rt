@@ -12,7 +12,7 @@ ghost use Rattle.run_respell.specs.Respelled.{Fitting};
 use answers::Unaccepted;
 use inputs::{ROOM, Source};
 use printing::{print_compared, print_line, print_refused};
-use refusals::Refusal;
+use refusals::{Fault, Refusal};
 use std::io;
 use std::io::Print;
 
@@ -35,17 +35,13 @@ fn compare_in_place(
     if buf.len() < count {
         return Ok(false);
     }
-    match normalise::normalise(spare, &buf[..count]) {
-        Ok(n) => compare_text(&spare[..n], buf, text),
-        Err(refusal) => Err(Unaccepted::First(refusal)),
-    }
+    let n = normalise::normalise(spare, &buf[..count]).map_err(Unaccepted::First)?;
+    compare_text(&spare[..n], buf, text)
 }
 
 fn compare_text(first: &[u8], buf: &mut [u8], text: &[u8]) -> Result<bool, Unaccepted> {
-    match normalise::normalise(buf, text) {
-        Ok(n) => Ok(texts::equal(first, &buf[..n])),
-        Err(refusal) => Err(Unaccepted::Second(refusal)),
-    }
+    let n = normalise::normalise(buf, text).map_err(Unaccepted::Second)?;
+    Ok(texts::equal(first, &buf[..n]))
 }
 
 fn print_text(
@@ -67,10 +63,7 @@ fn write_values(
 ) -> Result<usize, Unwritten>
     ensures { Fitting result output.new }
 {
-    match write::write(service, bytes, table, output) {
-        Ok(n) => Ok(n),
-        Err(refusal) => Err(Unwritten::Text(refusal)),
-    }
+    write::write(service, bytes, table, output).map_err(Unwritten::Text)
 }
 
 // An interchange of 32,000 bytes has at most as many bytes in values, and as many values, each of which
@@ -84,15 +77,13 @@ fn respell_into(
     ensures { Fitting result output.new }
 {
     let mut table = [0u32; refusals::MOST_NUMBERS];
-    match read::read(bytes, &mut table, input) {
-        Ok(listed) => write_values(
-            service,
-            &bytes[..listed.bytes],
-            &table[..listed.numbers],
-            output,
-        ),
-        Err(refusal) => Err(Unwritten::Input(refusal)),
-    }
+    let listed = read::read(bytes, &mut table, input).map_err(Unwritten::Input)?;
+    write_values(
+        service,
+        &bytes[..listed.bytes],
+        &table[..listed.numbers],
+        output,
+    )
 }
 
 // The stack. Whatever the compiler takes into one frame, the program holds four buffers and what Write
@@ -121,28 +112,22 @@ fn respell_input(rt: &HostRuntime, service: &[u8], source: Source) {
     printing::report(&rt.stderr(), respell(rt, service, &mut buf, n));
 }
 
-fn respell_arguments(rt: &HostRuntime, service: &[u8], count: usize) {
-    for i in 2..count {
-        respell_input(rt, service, Source::Argument(i));
-    }
-}
-
 // Write under these bytes, of no value at all, is refused for another reason than the bytes.
 fn are_usable(service: &[u8]) -> bool {
     let mut output = [0u8; 9];
-    match write::write(service, b"", &[], &mut output) {
-        Ok(_) => true,
-        Err(refusal) => {
-            let fault = refusal.fault;
-            refusing::number_of(fault) != 2
-        }
-    }
+    !matches!(
+        write::write(service, b"", &[], &mut output),
+        Err(Refusal {
+            fault: Fault::UnusableAdvice,
+            ..
+        })
+    )
 }
 
 fn main(rt: HostRuntime) {
-    // An argument that is longer is cut to no byte, and is no service either.
+    // An argument that is missing, or longer than this buffer, is no service either: it is taken as no byte.
     let mut service = [0u8; 8];
-    let n = inputs::argument(&rt, 1, &mut service);
+    let n = inputs::argument(&rt, 1, &mut service).unwrap_or(0);
     if !are_usable(&service[..n]) {
         let _ = rt.stderr().write_all(
             b"usage: run_respell SERVICE [FILE ..], where SERVICE is six usable bytes as ';*.! ~'\n",
@@ -152,7 +137,8 @@ fn main(rt: HostRuntime) {
     let count = inputs::argument_count(&rt);
     if count < 3 {
         respell_input(&rt, &service[..n], Source::StandardInput);
-        return;
     }
-    respell_arguments(&rt, &service[..n], count);
+    for i in 2..count {
+        respell_input(&rt, &service[..n], Source::Argument(i));
+    }
 }

@@ -73,11 +73,16 @@ fn put_file(rt: &HostRuntime, s: &mut [u8], argument: usize) -> io::Result<()> {
     print_shelved(rt, shelf::put(s, &buf[..n]))
 }
 
-// The number that an argument spells; one that no slot has where it spells none.
-fn number_at(rt: &HostRuntime, argument: usize) -> usize {
+// The number that an argument spells.
+fn number_at(rt: &HostRuntime, argument: usize) -> Option<usize> {
     let mut word = [0u8; 16];
-    let n = inputs::argument(rt, argument, &mut word);
-    inputs::number_of(&word[..n]).unwrap_or(1000000000)
+    let n = inputs::argument(rt, argument, &mut word)?;
+    inputs::number_of(&word[..n])
+}
+
+// The slot that it spells; where it spells none, one that no slot has, which is then printed as the place.
+fn slot_at(rt: &HostRuntime, argument: usize) -> usize {
+    number_at(rt, argument).unwrap_or(1000000000)
 }
 
 fn print_done(rt: &impl Print, outcome: Result<(), Refusal>, done: &[u8]) -> io::Result<()> {
@@ -90,11 +95,11 @@ fn print_done(rt: &impl Print, outcome: Result<(), Refusal>, done: &[u8]) -> io:
 // What a word asks for, by its first two letters, of the file or the slot that the next argument names.
 fn do_operation(rt: &HostRuntime, s: &mut [u8], word: usize, argument: usize) -> io::Result<()> {
     let mut letters = [0u8; 16];
-    inputs::argument(rt, word, &mut letters);
+    let _ = inputs::argument(rt, word, &mut letters);
     match letters[0] {
         b'p' => put_file(rt, s, argument),
-        b'g' => print_got(rt, s, number_at(rt, argument)),
-        b'r' => print_removed(rt, shelf::remove(s, number_at(rt, argument))),
+        b'g' => print_got(rt, s, slot_at(rt, argument)),
+        b'r' => print_removed(rt, shelf::remove(s, slot_at(rt, argument))),
         b'c' => print_done(rt, shelf_carrying::carry(s), b"carried"),
         b'b' => print_done(rt, shelf_carrying::carry_back(s), b"carried back"),
         _ if letters[1] == b'u' => print_sums(rt, shelf::sums(s)),
@@ -103,7 +108,8 @@ fn do_operation(rt: &HostRuntime, s: &mut [u8], word: usize, argument: usize) ->
 }
 
 fn do_arguments(rt: &HostRuntime, s: &mut [u8], count: usize) {
-    // Two arguments an operation, behind the program's name and the size.
+    // Two arguments an operation, behind the program's name and the size. (A `step_by` would begin an operation at a
+    // last word that has nothing behind it.)
     for pair in 1..count / 2 {
         printing::report(&rt.stderr(), do_operation(rt, s, 2 * pair, 2 * pair + 1));
     }
@@ -122,10 +128,8 @@ fn say_usage(rt: &HostRuntime) {
 
 fn main(rt: HostRuntime) {
     let mut buf = [0u8; 65537];
-    let size = number_at(&rt, 1);
-    if 65537 < size {
-        say_usage(&rt);
-        return;
+    match number_at(&rt, 1) {
+        Some(size) if size <= 65537 => play(&rt, &mut buf[..size]),
+        _ => say_usage(&rt),
     }
-    play(&rt, &mut buf[..size]);
 }

@@ -1,7 +1,7 @@
 -- How a segment ends, told past release characters that stand close together. Assumes nothing.
-use Rattle.segment_ends.specs.declared.Block.{Block}
-use Rattle.segment_ends.specs.declared.Block.TheVariants.{On, Stop}
 use Rattle.std.specs.Prelude.{ℕ, ◌+◌, ◌≤◌, ◌<◌, ◌≡◌, Bool, not, ◌&&◌, ◌||◌, List, eqb, get_or}
+use Rattle.std.specs.declared.ops.ControlFlow.{ControlFlow}
+use Rattle.std.specs.declared.ops.ControlFlow.TheVariants.{Continue, Break}
 use Rattle.characters.specs.declared.Characters.{Characters}
 use Rattle.values.specs.Tokens.{tokens_at}
 use Rattle.release_marks.specs.Marks.{marked_at, misread, Reached}
@@ -21,11 +21,15 @@ module _ (c : Characters) where
   unfoldable pub stops : Bool → Bool → ℕ → Bool
   stops this next a = misread c this next a || (not this && eqb a c.terminator)
 
+  -- the same of the byte four places on
+  abbrev pub stops_at : List ℕ → ℕ → Bool
+  stops_at s at = stops (marked_at c s at) (marked_at c s (at + 1)) (get_or s (at + 1 + 1 + 1 + 1) 0)
+
 -- so many of the thirty-two bytes that begin four places on are reached
 abbrev pub Stopped : Characters → List ℕ → ℕ → ℕ → Type 0
 Stopped c s from k = (k ≤ 32) × Reached (Told c s (from + 4)) c s (marked_at c s (from + k)) (from + k + 1 + 1 + 1 + 1)
 
 -- past a block: more bytes may be passed at a later place, or the way on stops at one
-abbrev pub PastBlock : Characters → List ℕ → ℕ → Block → Type 0
-PastBlock c s from (On to) = Told c s from to × (from < to)
-PastBlock c s from (Stop to) = Told c s from to
+abbrev pub PastBlock : Characters → List ℕ → ℕ → ControlFlow ℕ ℕ → Type 0
+PastBlock c s from (Continue to) = Told c s from to × (from < to)
+PastBlock c s from (Break to) = Told c s from to

@@ -1,7 +1,8 @@
 -- Laws of the next place at which a test passes: byte by byte, from a later place on, and what it says of a part of the list.
 -- Assumes nothing.
-use Rattle.std.specs.Prelude.{if◌then◌else◌}
-use Prim.Native.Nat.{ℕ, zero, suc, ◌+◌, ◌-◌, ◌≤◌, ◌<◌}
+use Rattle.std.specs.Prelude.{if◌then◌else◌, Option, None, Some, MatchOption}
+use Rattle.std.specs.Option.{unwrap_or}
+use Prim.Native.Nat.{ℕ, zero, suc, max, ◌+◌, ◌-◌, ◌≤◌, ◌<◌}
 use mathlib.Core.Path.{◌≡◌, refl, sym, ap, ◌∙◌}
 use mathlib.Core.Bool.{Bool, true, false, ◌||◌}
 use mathlib.Core.List.{List, [], ◌∷◌, ◌++◌}
@@ -95,26 +96,43 @@ module _ (t : ℕ → Bool) where
         neither false = refl
 
     module _ (i : ℕ) (h : i < length s) where
-      pub next_hit : t (get_or s i 0) ≡ true → i ≡ next_place t s i
+      next_hit : t (get_or s i 0) ≡ true → i ≡ next_place t s i
       unfolding next_place ahead
       next_hit e = sym (ap (λ (l : List ℕ). i + ahead t l) (drop_next s i h) ∙ ap (λ (n : ℕ). i + n) (if_true (t (get_or s i 0)) 0 (ahead t (drop (i + 1) s) + 1) e) ∙ none)
         where
           none : i + 0 ≡ i
           none = omega arith
 
-      pub next_miss : t (get_or s i 0) ≡ false → next_place t s i ≡ next_place t s (i + 1)
+      next_miss : t (get_or s i 0) ≡ false → next_place t s i ≡ next_place t s (i + 1)
       unfolding next_place ahead
       next_miss e = ap (λ (l : List ℕ). i + ahead t l) (drop_next s i h) ∙ ap (λ (n : ℕ). i + n) (if_false (t (get_or s i 0)) 0 (ahead t (drop (i + 1) s) + 1) e) ∙ one
         where
           one : i + (ahead t (drop (i + 1) s) + 1) ≡ i + 1 + ahead t (drop (i + 1) s)
           one = omega arith
 
-    pub next_end : (i : ℕ) → length s ≤ i → i ≡ next_place t s i
+    next_end : (i : ℕ) → length s ≤ i → i ≡ next_place t s i
     unfolding next_place ahead
     next_end i h = sym (ap (λ (l : List ℕ). i + ahead t l) (drop_of_length-le s h) ∙ none)
       where
         none : i + 0 ≡ i
         none = omega arith
+
+    next_over : (n i : ℕ) {j : ℕ} → i + n ≡ j → ((k : ℕ) → i ≤ k → k < j → (k < length s) × (t (get_or s k 0) ≡ false))
+        → next_place t s i ≡ next_place t s j
+    next_over zero i {j} e none = let there : i ≡ j = omega arith in ap (next_place t s) there
+    next_over (suc n) i e none =
+        let here = none i (omega arith) (omega arith) in
+        next_miss i here.0 here.1 ∙ next_over n (i + 1) (omega arith) (λ k l m. none k (omega arith) m)
+
+    -- the one that `find` finds among the places from one on is the next
+    pub next_found : (i : ℕ) (r : Option ℕ)
+        → MatchOption r ((k : ℕ) → i ≤ k → k < length s → t (get_or s k 0) ≡ false) (λ j. (i ≤ j) × (j < length s) × (t (get_or s j 0) ≡ true) × ((k : ℕ) → i ≤ k → k < j → t (get_or s k 0) ≡ false))
+        → unwrap_or r (max i (length s)) ≡ next_place t s i
+    next_found i None none =
+        let end : ℕ = max i (length s) in
+        next_end end (omega arith) ∙ sym (next_over (end - i) i (omega arith) (λ k l m. (omega (arith, m), none k l (omega (arith, m)))))
+    next_found i (Some j) found =
+        next_hit j found.1 found.2 ∙ sym (next_over (j - i) i (omega (arith, found.0)) (λ k l m. (omega (arith, m, found.1), found.3 k l m)))
 
     -- ---- from a later place on
 

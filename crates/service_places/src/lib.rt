@@ -15,12 +15,12 @@ use storing::is_service;
 pub const BLOCKS: usize = 1024;
 
 // One of the bytes is a service character. Nothing here branches on what a byte is, so that many bytes are asked at once.
-fn holds_service(c: Characters, s: &[u8]) -> bool
+pub fn holds_service(c: Characters, s: &[u8]) -> bool
     ensures { result ≡ any (is_service c) s.now }
 {
     let mut found = false;
-    for b in s {
-        found |= is_service(c, *b);
+    for &b in s {
+        found |= is_service(c, b);
     }
     found
 }
@@ -30,12 +30,9 @@ fn holds_service(c: Characters, s: &[u8]) -> bool
 fn next_place(c: Characters, s: &[u8], from: usize) -> usize
     ensures { result ≡ next_place (is_service c) s.now from }
 {
-    for at in from..s.len() {
-        if is_service(c, s[at]) {
-            return at;
-        }
-    }
-    from.max(s.len())
+    (from..s.len())
+        .find(|&at| is_service(c, s[at]))
+        .unwrap_or(from.max(s.len()))
 }
 
 // The same, where a place that is known from before is right unless it is passed.
@@ -49,7 +46,8 @@ fn place_from(c: Characters, s: &[u8], known: usize, from: usize) -> usize
     next_place(c, s, from)
 }
 
-// Stores the places, and returns the size of a block. Each byte is asked once.
+// Stores the places, and returns the size of a block. Each byte is asked once. (`iter_mut` would hand out the cells alone: what
+// is promised is told by the blocks' numbers, and the loop ends where the bytes do.)
 pub fn store_places(c: Characters, s: &[u8], places: &mut [usize; BLOCKS]) -> usize
     requires { length places.old ≡ blocks }
     ensures { Noted (is_service c) s.now result places.new }
@@ -70,7 +68,8 @@ pub fn store_places(c: Characters, s: &[u8], places: &mut [usize; BLOCKS]) -> us
 
 // ---- what they say
 
-// From a place on that is behind the first of its block: the rest of the block is asked, and the next block's place.
+// From a place on that is behind the first of its block: the rest of the block is asked, and the next block's place. (What is
+// lent stays as it is handed in, here and below: `value_lists` has the bytes, the size and the array of places each by itself.)
 fn holds_behind(
     c: Characters,
     s: &[u8],

@@ -3,7 +3,7 @@
 use Rattle.std.specs.Prelude.{Ok, Err, Result}
 use Prim.Native.Nat.{ℕ, ◌+◌, ◌≤◌, ◌<◌}
 use mathlib.Core.Path.{◌≡◌, refl, sym, ap, ap₂, subst, ◌∙◌}
-use mathlib.Core.Bool.{Bool, true, false}
+use mathlib.Core.Bool.{true, false}
 use mathlib.Core.List.{List, [], ◌∷◌}
 use mathlib.Core.Option.{none, some}
 use native.Mathlib.Omega.{arith}
@@ -29,10 +29,6 @@ use Rattle.shelf_summary.specs.Steps.{Heads, stored_back, shelved_of, after_put,
 use Rattle.shelf_summary.proofs.Backs.{back_same, back_copy, back_moved}
 use Rattle.shelf.specs.Parts.{stowed, cleared, PutsText, TakesText, PutsLent, RemovesLent}
 use Rattle.shelf.proofs.Spans.{removes_refused, removes_kept}
-
--- what the test of soundness said of a shelf of version 2
-pub as_two : (s : List ℕ) {l : Layout} {r b : Bool} → l ≡ version_two → r ≡ sound l s → r ≡ b → sound version_two s ≡ b
-as_two s e f g = sym (ap (λ (m : Layout). sound m s) e) ∙ sym f ∙ g
 
 -- ---- what the summary says
 

@@ -2,7 +2,7 @@
 use Rattle.std.specs.Prelude.{Ok, Err}
 use Prim.Native.Nat.{ℕ, ◌+◌, ◌≤◌, ◌<◌}
 use mathlib.Core.Path.{◌≡◌, sym, ap, ap₂, ◌∙◌}
-use mathlib.Core.Bool.{Bool, true, false}
+use mathlib.Core.Bool.{true, false}
 use mathlib.Core.List.{List}
 use mathlib.Core.Option.{none, some}
 use native.Mathlib.Omega.{arith}
@@ -64,9 +64,9 @@ module _ (l : Layout) (s form : List ℕ) where
 -- ---- an interchange that is put
 
 -- what is refused first
-pub puts_unsound : (l : Layout) (s input : List ℕ) {r : Bool} → r ≡ sound l s → r ≡ false → Puts l s input (Err nineteen) s
+pub puts_unsound : (l : Layout) (s input : List ℕ) → sound l s ≡ false → Puts l s input (Err nineteen) s
 unfolding told_shelved
-puts_unsound l s input e f = let d = put_refused l s input (put_unsound l s input (sym e ∙ f)) in (sym d.0, sym d.1)
+puts_unsound l s input e = let d = put_refused l s input (put_unsound l s input e) in (sym d.0, sym d.1)
 
 pub puts_judged : (l : Layout) (s input : List ℕ) (u : Summary) → Heads s u → sound l s ≡ true → {q : Refusal} → refusal_of input ≡ some q
     → PutsText l s input (Err q) s

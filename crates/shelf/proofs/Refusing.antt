@@ -2,53 +2,39 @@
 use Rattle.std.specs.Prelude.{Ok, Err}
 use Prim.Native.Nat.{ℕ, ◌≤◌, ◌<◌}
 use mathlib.Core.Path.{◌≡◌, refl, sym, ap, ◌∙◌}
-use mathlib.Core.Bool.{Bool, true, false, ◌&&◌}
-use mathlib.Core.List.{List}
+use mathlib.Core.Bool.{true, false, not, ◌&&◌}
+use mathlib.Core.List.{List, [], ◌∷◌}
 use mathlib.Core.Logic.{⊎_elim}
 use mathlib.Core.Option.{Option, none, some, none-ne-some}
 use native.Mathlib.Omega.{arith}
 use lib.Dec.{ltb}
 use lib.ListN.{length}
-use borrow.Author.Tests.{lt-ltb, le-ltb, ltb-true}
+use borrow.Author.Tests.{ltb-true}
 use Rattle.lists.proofs.Texts.{decided, and_left, and_right}
 use Rattle.refusals.specs.declared.Fault.TheVariants.{FreeSlot}
 use Rattle.refusals.specs.declared.Refusal.{Refusal}
-use Rattle.refusals.specs.Refusals.{outcome}
-use Rattle.shelves.specs.Layout.{Layout, slot_count, base, is_occupied}
+use Rattle.refusals.specs.Refusals.{met, place_if, answering, outcome}
+use Rattle.refusals.proofs.Stages.{one_place}
+use Rattle.shelves.specs.Layout.{Layout, slot_count, bit, map_of, base, is_occupied}
 use Rattle.shelves.specs.Soundness.{sound}
 use Rattle.shelves.specs.Operations.{slot_refusal}
-use Rattle.shelves.proofs.Answered.{nineteen, there, slot_unsound, slot_free, slot_there}
+use Rattle.shelves.proofs.Answered.{nineteen, sound_answers, there, slot_unsound, slot_free}
 use Rattle.shelves.proofs.Sound.{says_sound}
+use Rattle.shelf.specs.Parts.{asked_slot}
 
 module _ (l : Layout) (s : List ℕ) (slot : ℕ) where
-  -- which outcome it is
-  pub outcome_unsound : {r : Bool} → r ≡ sound l s → r ≡ false → Err nineteen ≡ outcome (slot_refusal l s slot)
+  -- 19, or what is asked of the slot
+  pub outcome_unsound : sound l s ≡ false → Err nineteen ≡ outcome (slot_refusal l s slot)
   unfolding outcome
-  outcome_unsound e f = ap outcome (sym (slot_unsound l s slot (sym e ∙ f)))
+  outcome_unsound e = ap outcome (sym (slot_unsound l s slot e))
+
+  pub asked_here : sound l s ≡ true → {map : ℕ} → map ≡ map_of s → asked_slot map slot ≡ outcome (slot_refusal l s slot)
+  unfolding asked_slot slot_refusal is_occupied
+  asked_here e m =
+      ap (λ (map : ℕ). asked_slot map slot) m
+      ∙ sym (ap outcome (sound_answers l s (met FreeSlot (place_if (not (ltb slot slot_count && is_occupied s slot)) slot) ∷ []) e))
 
   module _ (q : sound l s ≡ true) where
-    -- a slot above 63, a free one, and one that keeps a text
-    pub refusal_above : slot_count ≤ slot → slot_refusal l s slot ≡ some (record { fault = FreeSlot; place = slot })
-    refusal_above h = slot_free l s slot q (ap (λ (b : Bool). b && is_occupied s slot) (le-ltb slot slot_count h))
-
-    pub refusal_empty : slot < slot_count → is_occupied s slot ≡ false → slot_refusal l s slot ≡ some (record { fault = FreeSlot; place = slot })
-    refusal_empty h o = slot_free l s slot q (ap (λ (b : Bool). b && is_occupied s slot) (lt-ltb slot slot_count h) ∙ o)
-
-    pub refusal_kept : slot < slot_count → is_occupied s slot ≡ true → slot_refusal l s slot ≡ none
-    refusal_kept h o = slot_there l s slot q (ap (λ (b : Bool). b && is_occupied s slot) (lt-ltb slot slot_count h) ∙ o)
-
-    pub outcome_above : slot_count ≤ slot → Err (record { fault = FreeSlot; place = slot }) ≡ outcome (slot_refusal l s slot)
-    unfolding outcome
-    outcome_above h = ap outcome (sym (refusal_above h))
-
-    pub outcome_empty : slot < slot_count → is_occupied s slot ≡ false → Err (record { fault = FreeSlot; place = slot }) ≡ outcome (slot_refusal l s slot)
-    unfolding outcome
-    outcome_empty h o = ap outcome (sym (refusal_empty h o))
-
-    pub outcome_kept : slot < slot_count → is_occupied s slot ≡ true → Ok tt ≡ outcome (slot_refusal l s slot)
-    unfolding outcome
-    outcome_kept h o = ap outcome (sym (refusal_kept h o))
-
     there_by : slot_refusal l s slot ≡ none → there l s slot ≡ true
     there_by e =
         ⊎_elim
@@ -69,6 +55,17 @@ module _ (l : Layout) (s : List ℕ) (slot : ℕ) where
   -- its pair lies in the shelf
   pub passed_range : slot_refusal l s slot ≡ none → (base l ≤ length s) × (slot < slot_count)
   passed_range e = let h = passed_kept e in (((says_sound l s).0 h.0).least, h.1.0)
+
+-- ---- what is asked of the slot alone
+
+module _ (map slot : ℕ) where
+  pub slot_passes : (ltb slot slot_count && bit map slot) ≡ true → Ok tt ≡ asked_slot map slot
+  unfolding asked_slot outcome answering
+  slot_passes e = sym (ap outcome (one_place FreeSlot slot [] (ap not e)))
+
+  pub slot_fails : (ltb slot slot_count && bit map slot) ≡ false → Err (record { fault = FreeSlot; place = slot }) ≡ asked_slot map slot
+  unfolding asked_slot outcome
+  slot_fails e = sym (ap outcome (one_place FreeSlot slot [] (ap not e)))
 
 -- no refusal, where the outcome passed; this one, where it failed
 pub outcome_passed : (o : Option Refusal) → outcome o ≡ Ok tt → o ≡ none

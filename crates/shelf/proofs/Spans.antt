@@ -2,7 +2,7 @@
 use Rattle.std.specs.Prelude.{Ok, Err}
 use Prim.Native.Nat.{ℕ, ◌+◌, ◌-◌, ◌≤◌}
 use mathlib.Core.Path.{◌≡◌, sym, ap, ap₂, ◌∙◌}
-use mathlib.Core.Bool.{Bool, true, false}
+use mathlib.Core.Bool.{true, false}
 use mathlib.Core.List.{List, [], ◌∷◌}
 use mathlib.Core.Option.{none, some}
 use native.Mathlib.Nat.{add-sub_cancel_left, min-eq_left}
@@ -74,12 +74,12 @@ handed l whole slot {part} p e h b q =
 -- ---- the two numbers
 
 module _ (l : Layout) (s : List ℕ) where
-  pub counts_unsound : {r : Bool} → r ≡ sound l s → r ≡ false → Counts l s (Err nineteen)
+  pub counts_unsound : sound l s ≡ false → Counts l s (Err nineteen)
   unfolding told_slots
-  counts_unsound e f = sym (slots_refused l s (sym e ∙ f))
+  counts_unsound e = sym (slots_refused l s e)
 
-  pub counts_sound : {r : Bool} → r ≡ sound l s → r ≡ true → {m n k : ℕ} → m ≡ map_of s → n ≡ occupied_count m → k ≡ lowest_free_in m
+  pub counts_sound : sound l s ≡ true → {m n k : ℕ} → m ≡ map_of s → n ≡ occupied_count m → k ≡ lowest_free_in m
       → Counts l s (Ok (record { occupied = n; lowest_free = k }))
   unfolding told_slots occupied is_occupied occupied_count
-  counts_sound e f d p q =
-      ap₂ (λ (n k : ℕ). given (n ∷ k ∷ [])) (p ∙ ap occupied_count d) (lowest_by l s d q) ∙ sym (slots_given l s (sym e ∙ f))
+  counts_sound e d p q =
+      ap₂ (λ (n k : ℕ). given (n ∷ k ∷ [])) (p ∙ ap occupied_count d) (lowest_by l s d q) ∙ sym (slots_given l s e)

@@ -1,15 +1,17 @@
 -- What the parts of the shelf's operations leave: a text put where the shelf is sound, a kept text asked for, a pair stored without a text that
 -- was removed; and the operations that are lent the summary, over whose head the caller stores it. Assumes nothing.
+use Rattle.refusals.specs.declared.Fault.TheVariants.{FreeSlot}
 use Rattle.refusals.specs.declared.Refusal.{Refusal}
+use Rattle.refusals.specs.Refusals.{Outcome, met, place_if, answering, outcome}
 use Rattle.answers.specs.Answers.{Stored}
-use Rattle.std.specs.Prelude.{ℕ, ◌-◌, ◌≤◌, ◌<◌, ◌≡◌, Bool, false, List, eqb, ltb, length, if◌then◌else◌, Option, MatchOption, Result}
+use Rattle.std.specs.Prelude.{ℕ, ◌-◌, ◌≤◌, ◌<◌, ◌≡◌, Bool, false, not, ◌&&◌, List, [], ◌∷◌, eqb, ltb, length, if◌then◌else◌, Option, MatchOption, Result}
 use Rattle.std.proofs.Math.Option.{none, some}
 use Rattle.std.proofs.lemmas.List.Edits.{sets}
 use Rattle.lists.specs.Lists.{same, gather}
 use Rattle.stages.specs.Contents.{normal_form}
 use Rattle.stages.specs.Stages.{refusal_of}
 use Rattle.shelves.specs.declared.Summary.{Summary}
-use Rattle.shelves.specs.Layout.{Layout, version_two, slot_count, below, is_occupied, pair_place, start_of, length_of, text_of, end_of}
+use Rattle.shelves.specs.Layout.{Layout, version_two, slot_count, below, bit, is_occupied, pair_place, start_of, length_of, text_of, end_of}
 use Rattle.shelves.specs.Summary.{summary_of}
 use Rattle.shelves.specs.Operations.{pair_of, lowest_free, copy_of, got_offset, got_length, pair_without, texts_without}
 use Rattle.shelf_contracts.specs.Promises.{Puts, Removes}
@@ -58,6 +60,10 @@ module _ (l : Layout) where
   abbrev pub Lowers : (s : List ℕ) (removed : ℕ) → Type 0
   Lowers s removed =
       (k : ℕ) → k < slot_count → start_of l s removed < start_of l s k → length_of l s removed ≤ start_of l s k
+
+-- 20: a slot above 63, or one that is free in this map
+unfoldable pub asked_slot : (map slot : ℕ) → Outcome
+asked_slot map slot = outcome (answering (met FreeSlot (place_if (not (ltb slot slot_count && bit map slot)) slot) ∷ []))
 
 -- a slot's pair, start and length, after the text of another slot was removed
 unfoldable pub lowered_pair : (removed start size slot : ℕ) → (a n : ℕ) → List ℕ

@@ -5,7 +5,7 @@ ghost use Rattle.shelves.specs.Soundness.{sound};
 ghost use Rattle.shelf_layout.specs.Laid.{laid};
 ghost use Rattle.shelf.specs.Parts.{keeps_text, CopyAt};
 
-use shelf_layout::{Layout, length_of, start_of};
+use shelf_layout::{Layout, length_of, text_of};
 use slot_map::{SLOTS, is_occupied};
 
 // A slot keeps this text. Its length is asked first.
@@ -13,16 +13,9 @@ fn keeps(s: &[u8], l: Layout, map: u64, slot: usize, form: &[u8]) -> bool
     requires { (sound (laid l) s.now ≡ true) × (map ≡ map_of s.now) × (slot < 64) }
     ensures { result ≡ keeps_text (laid l) s.now form.now slot }
 {
-    if !is_occupied(map, slot) {
-        return false;
-    }
-    let length = length_of(s, l, slot);
-    if length != form.len() {
-        return false;
-    }
-    let start = start_of(s, l, slot);
-    let end = start + length;
-    texts::equal(&s[start..end], form)
+    is_occupied(map, slot)
+        && length_of(s, l, slot) == form.len()
+        && texts::equal(text_of(s, l, slot), form)
 }
 
 // The lowest occupied slot that keeps this text, if one does.

@@ -12,12 +12,12 @@ ghost use Rattle.shelves.specs.Operations.{slot_refusal};
 ghost use Rattle.shelf_contracts.specs.Promises.{Starts, Puts, Gets, Measures, Removes, Counts, Sums};
 ghost use Rattle.shelf_layout.specs.Laid.{laid};
 ghost use Rattle.shelf_summary.specs.Steps.{Heads, shelved_of, PutStays};
-ghost use Rattle.shelf.specs.Parts.{got_span, PutsLent, RemovesLent};
+ghost use Rattle.shelf.specs.Parts.{asked_slot, got_span, PutsLent, RemovesLent};
 
 use refusals::{Fault, Refusal};
 use refusing::failed;
 use shelf_layout::{Layout, length_of, map_of, start_of, version_two};
-use shelf_soundness::is_sound;
+use shelf_soundness::check_sound;
 use shelf_summary::{Placed, head_of, put_step, remove_step, shelved_of, store_head};
 use shelves::{Shelved, Slots, Summary, TwoSums};
 use slot_map::{SLOTS, is_occupied};
@@ -55,9 +55,7 @@ pub fn slots_of(s: &[u8], l: Layout) -> Result<Slots, Refusal>
     requires { l.pairs ≤ 65536 }
     ensures { Counts (laid l) s.now result }
 {
-    if !is_sound(s, l) {
-        return failed(Fault::UnsoundShelf, 0);
-    }
+    check_sound(s, l)?;
     let map = map_of(s);
     Ok(Slots {
         occupied: slot_map::count(map),
@@ -76,9 +74,7 @@ pub fn slots(s: &[u8]) -> Result<Slots, Refusal>
 pub fn sums(s: &[u8]) -> Result<TwoSums, Refusal>
     ensures { Sums version_two s.now result }
 {
-    if !is_sound(s, version_two()) {
-        return failed(Fault::UnsoundShelf, 0);
-    }
+    check_sound(s, version_two())?;
     let u = head_of(s);
     Ok(TwoSums {
         held: u.held,
@@ -112,30 +108,31 @@ fn put_on(s: &mut [u8], head: Summary, input: &[u8]) -> Result<Placed, Refusal>
 pub fn put(s: &mut [u8], input: &[u8]) -> Result<Shelved, Refusal>
     ensures { Puts version_two s.old input.now result s.new }
 {
-    if !is_sound(s, version_two()) {
-        return failed(Fault::UnsoundShelf, 0);
-    }
+    check_sound(s, version_two())?;
     let head = head_of(s);
     shelved_of(put_on(s, head, input))
 }
 
 // ---- Get
 
+// 20: passes a slot that is occupied in this map.
+fn check_slot(map: u64, slot: usize) -> Result<(), Refusal>
+    ensures { result ≡ asked_slot map slot }
+{
+    if slot < SLOTS && is_occupied(map, slot) {
+        Ok(())
+    } else {
+        failed(Fault::FreeSlot, slot)
+    }
+}
+
 // What get or remove of a slot is refused by.
 pub fn slot_refusal(s: &[u8], l: Layout, slot: usize) -> Result<(), Refusal>
     requires { l.pairs ≤ 65536 }
     ensures { result ≡ outcome (slot_refusal (laid l) s.now slot) }
 {
-    if !is_sound(s, l) {
-        return failed(Fault::UnsoundShelf, 0);
-    }
-    if SLOTS <= slot {
-        return failed(Fault::FreeSlot, slot);
-    }
-    if is_occupied(map_of(s), slot) {
-        return Ok(());
-    }
-    failed(Fault::FreeSlot, slot)
+    check_sound(s, l)?;
+    check_slot(map_of(s), slot)
 }
 
 // Which part of the shelf Get hands back; zero bytes at its start where refused.
@@ -214,9 +211,7 @@ fn remove_on(s: &mut [u8], head: Summary, slot: usize) -> Result<usize, Refusal>
 pub fn remove(s: &mut [u8], slot: usize) -> Result<usize, Refusal>
     ensures { Removes version_two s.old slot result s.new }
 {
-    if !is_sound(s, version_two()) {
-        return failed(Fault::UnsoundShelf, 0);
-    }
+    check_sound(s, version_two())?;
     let head = head_of(s);
     remove_on(s, head, slot)
 }

@@ -10,28 +10,26 @@ ghost use Rattle.shelf_layout.specs.Laid.{laid};
 ghost use Rattle.shelf_summary.specs.Steps.{Heads};
 ghost use Rattle.shelf.specs.Parts.{Lowers, lowered_pair, cleared, TakesText};
 
-use refusals::{Fault, Refusal};
-use refusing::failed;
+use crate::check_slot;
+use refusals::Refusal;
 use shelf_layout::{Layout, length_of, put_pair, start_of};
 use shelves::Summary;
-use slot_map::{SLOTS, is_occupied};
+use slot_map::SLOTS;
 
 // Stores a slot's pair as it is after `size` bytes at `start`, the text of another slot, were taken out.
 fn lower_start(s: &mut [u8], l: Layout, removed: usize, start: usize, size: usize, slot: usize)
     requires { (base (laid l) ≤ length s.old) × (slot < 64) × (start < start_of (laid l) s.old slot → size ≤ start_of (laid l) s.old slot) }
     ensures { s.new ≡ sets s.old (pair_place (laid l) slot) (lowered_pair removed start size slot (start_of (laid l) s.old slot) (length_of (laid l) s.old slot)) }
 {
-    if slot == removed {
-        put_pair(s, l, slot, 0, 0);
-        return;
-    }
     let at = start_of(s, l, slot);
     let n = length_of(s, l, slot);
-    if start < at {
+    if slot == removed {
+        put_pair(s, l, slot, 0, 0);
+    } else if start < at {
         put_pair(s, l, slot, at - size, n);
-        return;
+    } else {
+        put_pair(s, l, slot, at, n);
     }
-    put_pair(s, l, slot, at, n);
 }
 
 // Stores each slot's pair as it is without the text of one of them.
@@ -59,12 +57,7 @@ pub fn take_text(s: &mut [u8], u: Summary, slot: usize) -> Result<usize, Refusal
     requires { (sound version_two s.old ≡ true) × Heads s.old u }
     ensures { TakesText version_two s.old slot result s.new }
 {
-    if SLOTS <= slot {
-        return failed(Fault::FreeSlot, slot);
-    }
-    if !is_occupied(u.map, slot) {
-        return failed(Fault::FreeSlot, slot);
-    }
+    check_slot(u.map, slot)?;
     let l = shelf_layout::version_two();
     let size = length_of(s, l, slot);
     take_out(s, l, u, slot, size);

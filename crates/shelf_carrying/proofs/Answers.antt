@@ -1,22 +1,18 @@
--- What each direction answers, from what was found; and a layout that was made is the one that is meant. Assumes nothing.
+-- What each direction answers, from what was found. Assumes nothing.
 use Rattle.std.specs.Prelude.{Ok}
 use Prim.Native.Nat.{ℕ, ◌+◌, ◌≤◌, ◌<◌}
 use mathlib.Core.Path.{◌≡◌, sym, ap, ◌∙◌}
-use mathlib.Core.Bool.{Bool, true, false}
+use mathlib.Core.Bool.{true, false}
 use mathlib.Core.List.{List}
 use lib.ListN.{length}
 use Rattle.refusals.specs.declared.Fault.TheVariants.{UnsoundShelf, NoRoom}
 use Rattle.refusals.specs.Refusals.{failed_at, Outcome}
-use Rattle.shelves.specs.Layout.{Layout, version_one, version_two, end_of}
+use Rattle.shelves.specs.Layout.{version_one, version_two, end_of}
 use Rattle.shelves.specs.Soundness.{sound}
 use Rattle.shelves.specs.Answers.{told_outcome}
 use Rattle.carrying.specs.Carrying.{carried, carried_back}
 use Rattle.carrying.specs.Promises.{Carries, CarriesBack}
 use Rattle.carrying.proofs.Answered.{refusal_unsound, refusal_roomless, refusal_none, carry_refused, carry_done, back_unsound, back_none, back_refused, back_done}
-
--- a layout that was made, and what was found of the shelf in it
-pub found-sound : (s : List ℕ) (meant : Layout) {l : Layout} {r b : Bool} → l ≡ meant → r ≡ sound l s → r ≡ b → sound meant s ≡ b
-found-sound s meant e f g = sym (ap (λ (m : Layout). sound m s) e) ∙ sym f ∙ g
 
 module _ (s : List ℕ) {r : Outcome} where
   pub carries-unsound : r ≡ failed_at UnsoundShelf 0 → sound version_one s ≡ false → Carries s r s

@@ -20,7 +20,7 @@ use shelf_layout::{
     DUPLICATES_PLACE, HELD_PLACE, Layout, base, length_of, map_of, put_heading, put_pair, start_of,
     version_one, version_two,
 };
-use shelf_soundness::is_sound;
+use shelf_soundness::check_sound;
 use slot_map::{SLOTS, is_occupied};
 
 // ---- the starts
@@ -34,9 +34,9 @@ fn shift_start(s: &mut [u8], from: Layout, to: Layout, map: u64, slot: usize)
         let start = base(to) + (start_of(s, to, slot) - base(from));
         let size = length_of(s, to, slot);
         put_pair(s, to, slot, start, size);
-        return;
+    } else {
+        put_pair(s, to, slot, 0, 0);
     }
-    put_pair(s, to, slot, 0, 0);
 }
 
 fn shift_starts(s: &mut [u8], from: Layout, to: Layout, map: u64)
@@ -69,9 +69,7 @@ fn carry_up(s: &mut [u8])
 pub fn carry(s: &mut [u8]) -> Result<(), Refusal>
     ensures { Carries s.old result s.new }
 {
-    if !is_sound(s, version_one()) {
-        return failed(Fault::UnsoundShelf, 0);
-    }
+    check_sound(s, version_one())?;
     if s.len() - shelf_layout::end_of(s, version_one()) < 8 {
         return failed(Fault::NoRoom, 8);
     }
@@ -96,9 +94,7 @@ fn carry_down(s: &mut [u8])
 pub fn carry_back(s: &mut [u8]) -> Result<(), Refusal>
     ensures { CarriesBack s.old result s.new }
 {
-    if !is_sound(s, version_two()) {
-        return failed(Fault::UnsoundShelf, 0);
-    }
+    check_sound(s, version_two())?;
     carry_down(s);
     Ok(())
 }

@@ -1,12 +1,14 @@
 // What stands where in a shelf (requests 2026-04 and 2026-06), read and stored: the map, a slot's start and length, how
 // many bytes the texts have together, and where the free bytes begin. It promises the numbers that
 // `shelves` reads there, in any layout. Whether the shelf is sound is left to `shelf_soundness`.
+// (What becomes of another width by `as`, here and in the crates above, has no `from` in the library: it is cut to the
+// width that was read, or crosses between `usize` and a width that is named.)
 #![tactic(auto)]
 
 ghost use Rattle.std.specs.Prelude.{◌≡◌, ◌++◌, ◌+◌, ◌*◌, ◌≤◌, ◌<◌, length};
 ghost use Rattle.std.proofs.lemmas.List.Edits.{sets};
 ghost use Rattle.numbers.specs.Numbers.{in_bytes};
-ghost use Rattle.shelves.specs.Layout.{version_one, version_two, base as base_of, map_of, held_figure, duplicates_of, heading, pair_place, start_of, length_of, held as held_in, end_of};
+ghost use Rattle.shelves.specs.Layout.{version_one, version_two, base as base_of, map_of, held_figure, duplicates_of, heading, pair_place, start_of, length_of, text_of, held as held_in, end_of};
 ghost use Rattle.shelves.specs.Operations.{pair_of};
 ghost use Rattle.shelf_layout.specs.Laid.{laid, kept_in};
 
@@ -93,6 +95,16 @@ pub fn length_of(s: &[u8], l: Layout, slot: usize) -> usize
     ensures { (result ≡ length_of (laid l) s.now slot) × (result < 4294967296) }
 {
     get(s, l.pairs + slot * 8 + 4, 4) as usize
+}
+
+// The text of a slot, which lies in the shelf.
+pub fn text_of(s: &[u8], l: Layout, slot: usize) -> &[u8]
+    requires { (base_of (laid l) ≤ length s.now) × (slot < 64) × (start_of (laid l) s.now slot + length_of (laid l) s.now slot ≤ length s.now) }
+    ensures { result.now ≡ text_of (laid l) s.now slot }
+{
+    let start = start_of(s, l, slot);
+    let end = start + length_of(s, l, slot);
+    &s[start..end]
 }
 
 // How many bytes a slot keeps.

@@ -3,3 +3,4 @@ pub mod Ranges
 pub mod Gathered
 pub mod Forms
 pub mod Whole
+pub mod Asking

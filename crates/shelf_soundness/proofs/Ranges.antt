@@ -1,19 +1,18 @@
 -- A slot's pair and text, from the numbers that were read. Assumes nothing.
-use Prim.Native.Nat.{ℕ, ◌+◌, ◌-◌, ◌≤◌, ◌<◌}
+use Prim.Native.Nat.{ℕ, ◌+◌, ◌≤◌}
 use mathlib.Core.Path.{◌≡◌, sym, ap, ap₂, ◌∙◌}
 use mathlib.Core.Bool.{Bool, true, false, not, ◌&&◌, ◌||◌}
 use mathlib.Core.List.{List}
-use native.Mathlib.Nat.{add-sub_cancel_left}
 use native.Mathlib.Omega.{arith}
 use lib.Dec.{eqb, leb}
-use lib.ListN.{length, take, drop, length-drop}
+use lib.ListN.{length, drop, length-drop}
 use lib.Seq.{length-take-le}
 use Rattle.lists.specs.Lists.{same}
 use Rattle.lists.proofs.Texts.{if_true, if_false, same_length}
 use Rattle.lists.proofs.Tests.{fails, says_same}
 use Rattle.shelves.specs.Layout.{Layout, total, base, is_occupied, start_of, length_of, text_of, end_of}
 use Rattle.shelves.specs.Soundness.{is_normal_form, lies, apart, differ, is_blank_pair}
-use Rattle.shelf_soundness.specs.Clauses.{placed, sum_in, parted, formed, Ranged}
+use Rattle.shelf_soundness.specs.Clauses.{placed, sum_in, parted, formed}
 
 module _ (l : Layout) (s : List ℕ) where
   module _ (k : ℕ) where
@@ -32,10 +31,6 @@ module _ (l : Layout) (s : List ℕ) where
         ∙ sym (if_false (is_occupied s k) (lies l s k) (is_blank_pair l s k) o)
 
     -- ---- its text
-
-    pub text_is : {a n : ℕ} → a ≡ start_of l s k → n ≡ length_of l s k → take (a + n - a) (drop a s) ≡ text_of l s k
-    unfolding text_of
-    text_is {a} {n} p q = ap₂ (λ (i j : ℕ). take i (drop j s)) (add-sub_cancel_left a n ∙ q) p
 
     pub text_length : start_of l s k + length_of l s k ≤ length s → length (text_of l s k) ≡ length_of l s k
     unfolding text_of
@@ -56,10 +51,6 @@ module _ (l : Layout) (s : List ℕ) where
     pub formed_free : is_occupied s k ≡ false → true ≡ formed l s k
     unfolding formed
     formed_free o = sym (if_false (is_occupied s k) (is_normal_form (text_of l s k)) true o)
-
-    -- a text of a shelf is no longer than the shelf
-    pub in_shelf : Ranged l s → k < 64 → is_occupied s k ≡ true → {a n : ℕ} → a ≡ start_of l s k → n ≡ length_of l s k → a + n ≤ length s
-    in_shelf g i o p q = omega (arith, g.within k i o, p, q)
 
   -- ---- two texts
 

@@ -10,7 +10,7 @@ ghost use Rattle.shelf_layout.specs.Laid.{laid};
 ghost use Rattle.shelf_soundness.specs.Clauses.{Says, Ranged, formed, Formed};
 
 use answers::Figures;
-use shelf_layout::{Layout, length_of, start_of};
+use shelf_layout::{Layout, text_of};
 use slot_map::{SLOTS, is_occupied};
 
 // A text that Judge accepted, and of which it said this, begins with the advice of its normal form.
@@ -37,12 +37,7 @@ fn is_formed(s: &[u8], l: Layout, map: u64, slot: usize) -> bool
     requires { Ranged (laid l) s.now × (map ≡ map_of s.now) × (slot < 64) }
     ensures { result ≡ formed (laid l) s.now slot }
 {
-    if is_occupied(map, slot) {
-        let start = start_of(s, l, slot);
-        let end = start + length_of(s, l, slot);
-        return is_normal_form(&s[start..end]);
-    }
-    true
+    !is_occupied(map, slot) || is_normal_form(text_of(s, l, slot))
 }
 
 pub fn are_formed(s: &[u8], l: Layout, map: u64) -> bool

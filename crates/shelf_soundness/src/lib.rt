@@ -1,14 +1,18 @@
 // Whether a shelf is sound (requests 2026-04 and 2026-06), for any bytes. It promises the answer that `shelves` gives. Each
-// kept text is judged once; the rest takes little beside that.
+// kept text is judged once; the rest takes little beside that. (A shelf, its layout and its map stay three parameters: a
+// struct of them would be taken apart at once, since every clause speaks of `laid l`, of `s` and of a slot.)
 #![tactic(auto)]
 
-ghost use Rattle.std.specs.Prelude.{◌≡◌, ◌≤◌, eqb, length};
+ghost use Rattle.std.specs.Prelude.{◌≡◌, ◌≤◌, eqb, length, [], ◌∷◌};
 ghost use Rattle.lists.specs.Lists.{begins, all};
+ghost use Rattle.refusals.specs.Refusals.{answering, outcome};
 ghost use Rattle.shelves.specs.Layout.{base, map_of, end_of, heading};
+ghost use Rattle.shelves.specs.Operations.{unsound};
 ghost use Rattle.shelves.specs.Soundness.{is_sized, is_summed, sound};
 ghost use Rattle.shelf_layout.specs.Laid.{laid};
 ghost use Rattle.shelf_soundness.specs.Clauses.{Says, Ranged, Kept};
 
+use refusals::{Fault, Refusal};
 use shelf_layout::Layout;
 
 mod forming;
@@ -83,4 +87,19 @@ pub fn is_sound(s: &[u8], l: Layout) -> bool
         return false;
     }
     is_kept_well(s, l, map, end)
+}
+
+// 19: passes a sound shelf.
+pub fn check_sound(s: &[u8], l: Layout) -> Result<(), Refusal>
+    requires { l.pairs ≤ 65536 }
+    ensures { result ≡ outcome (answering (unsound (laid l) s.now ∷ [])) }
+{
+    if is_sound(s, l) {
+        Ok(())
+    } else {
+        Err(Refusal {
+            fault: Fault::UnsoundShelf,
+            place: 0,
+        })
+    }
 }

@@ -2,12 +2,12 @@
 // their bytes, which are taken once, and compared byte by byte only where these are the same.
 ghost use Rattle.std.specs.Prelude.{◌≡◌, true, ◌<◌};
 ghost use Rattle.lists.specs.Lists.{same};
-ghost use Rattle.shelves.specs.Layout.{map_of, is_occupied, text_of};
+ghost use Rattle.shelves.specs.Layout.{map_of, is_occupied, text_of as text_in};
 ghost use Rattle.shelves.specs.Soundness.{apart};
 ghost use Rattle.shelf_layout.specs.Laid.{laid};
 ghost use Rattle.shelf_soundness.specs.Clauses.{Says, Ranged, sum_in, Summed, parted, AloneAt, Alone};
 
-use shelf_layout::{Layout, length_of, start_of};
+use shelf_layout::{Layout, length_of, start_of, text_of};
 use slot_map::{SLOTS, is_occupied};
 
 // The sum of the bytes of what a slot keeps.
@@ -16,11 +16,10 @@ fn sum_in(s: &[u8], l: Layout, map: u64, slot: usize) -> u32
     ensures { result ≡ sum_in (laid l) s.now slot }
 {
     if is_occupied(map, slot) {
-        let start = start_of(s, l, slot);
-        let end = start + length_of(s, l, slot);
-        return texts::sum(&s[start..end]);
+        texts::sum(text_of(s, l, slot))
+    } else {
+        0
     }
-    0
 }
 
 fn sums_of(s: &[u8], l: Layout, map: u64) -> [u32; 64]
@@ -37,20 +36,11 @@ fn sums_of(s: &[u8], l: Layout, map: u64) -> [u32; 64]
 // Two kept texts have the same bytes. Their lengths and sums are asked first.
 fn are_same(s: &[u8], l: Layout, sums: &[u32; 64], one: usize, other: usize) -> bool
     requires { Ranged (laid l) s.now × Summed (laid l) s.now sums.now × ((one < 64) × (is_occupied s.now one ≡ true)) × ((other < 64) × (is_occupied s.now other ≡ true)) }
-    ensures { result ≡ same (text_of (laid l) s.now one) (text_of (laid l) s.now other) }
+    ensures { result ≡ same (text_in (laid l) s.now one) (text_in (laid l) s.now other) }
 {
-    let length = length_of(s, l, one);
-    if length != length_of(s, l, other) {
-        return false;
-    }
-    if sums[one] != sums[other] {
-        return false;
-    }
-    let a = start_of(s, l, one);
-    let b = start_of(s, l, other);
-    let a_end = a + length;
-    let b_end = b + length;
-    texts::equal(&s[a..a_end], &s[b..b_end])
+    length_of(s, l, one) == length_of(s, l, other)
+        && sums[one] == sums[other]
+        && texts::equal(text_of(s, l, one), text_of(s, l, other))
 }
 
 // One text ends before the other begins.

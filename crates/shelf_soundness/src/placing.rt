@@ -15,9 +15,10 @@ fn is_placed(s: &[u8], l: Layout, map: u64, end: usize, slot: usize) -> bool
     let start = start_of(s, l, slot);
     let length = length_of(s, l, slot);
     if is_occupied(map, slot) {
-        return (shelf_layout::base(l) <= start) & (start + length <= end);
+        (shelf_layout::base(l) <= start) & (start + length <= end)
+    } else {
+        (start == 0) & (length == 0)
     }
-    (start == 0) & (length == 0)
 }
 
 pub fn are_placed(s: &[u8], l: Layout, map: u64, end: usize) -> bool

@@ -13,7 +13,8 @@ use refusals::Refusal;
 use shelf_layout::{DUPLICATES_PLACE, HELD_PLACE, MAP_PLACE};
 use shelves::{Shelved, Summary};
 
-// What a put did: a new text of so many bytes in a slot, or the slot of the copy that it found.
+// What a put did: a new text of so many bytes in a slot, or the slot of the copy that it found. (It is no `Shelved`: a
+// caller is not told the bytes, and the summary must be.)
 #[derive(Clone, Copy)]
 pub enum Placed {
     New { slot: usize, size: u32 },
@@ -84,6 +85,7 @@ pub fn after_put(u: Summary, placed: Result<Placed, Refusal>) -> Summary
     requires { PutFits u placed }
     ensures { result ≡ after_put u placed }
 {
+    // (Nested patterns in one match were tried: a proof does not see what the inner one matched.)
     match placed {
         Ok(done) => match done {
             Placed::New { slot, size } => put_new(u, slot, size),
@@ -125,9 +127,8 @@ pub fn remove_step(u: &mut Summary, slot: usize, taken: Result<usize, Refusal>)
 pub fn shelved_of(placed: Result<Placed, Refusal>) -> Result<Shelved, Refusal>
     ensures { result ≡ shelved_of placed }
 {
-    let done = placed?;
-    match done {
-        Placed::New { slot, .. } => Ok(Shelved::New(slot)),
-        Placed::Copy(slot) => Ok(Shelved::Copy(slot)),
-    }
+    Ok(match placed? {
+        Placed::New { slot, .. } => Shelved::New(slot),
+        Placed::Copy(slot) => Shelved::Copy(slot),
+    })
 }

@@ -1,6 +1,6 @@
 // The map of occupied slots (request 2026-04: "slot k is the bit worth 2^k"): a slot asked, occupied and
 // freed, and the two numbers that "are read off the map", how many slots are occupied and the lowest
-// that is free. It promises what `shelves` says of these.
+// that is free. It promises what `shelves` says of these. (The library has no `from` of a `u32` to a `usize`.)
 #![tactic(auto)]
 
 ghost use Rattle.std.specs.Prelude.{◌≡◌, true, false, ◌+◌, ◌-◌, ◌<◌, ◌^◌};
@@ -39,7 +39,8 @@ pub fn count(map: u64) -> usize
     u64::count_ones(map) as usize
 }
 
-// The lowest free slot, 64 where none is: the trailing zeros of the complemented map.
+// The lowest free slot, 64 where none is: the trailing zeros of the complemented map. (64, and no `None`: so
+// `hverolda_shelf_slots` says it to C, by `lowest_free` of `shelves`.)
 pub fn lowest_free(map: u64) -> usize
     ensures { result ≡ lowest_free_in map }
 {

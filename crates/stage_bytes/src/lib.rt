@@ -26,7 +26,8 @@ fn releases(c: Characters, b: u8) -> bool
 }
 
 // A line break may stand after these four bytes: after another one, or after a terminator that is not
-// released. More than two release characters before it are left to the walk over the tokens.
+// released. More than two release characters before it are left to the walk over the tokens. (The bytes stay parameters of
+// their own, here and below: a struct of them would be made anew for each byte, and taken apart again.)
 fn may_break(c: Characters, fourth: u8, third: u8, second: u8, before: u8) -> bool
     ensures { result ≡ may_break c fourth third second before }
 {
@@ -69,14 +70,12 @@ fn opening_is_orderly(c: Characters, level: u8, a: u8, b: u8, d: u8, e: u8) -> b
     first & last
 }
 
-// All bytes from a place on are orderly. Fewer than four are left to the walk over the tokens.
+// All bytes from a place on are orderly. Fewer than four are left to the walk over the tokens. (`windows(5)` would have the
+// same five bytes named by `w[0]` to `w[4]`.)
 fn all_orderly(s: &[u8], c: Characters, level: u8, start: usize) -> bool
     ensures { result ≡ all_orderly c level (drop start s.now) }
 {
-    if s.len() <= start {
-        return false;
-    }
-    if s.len() - start < 4 {
+    if s.len().saturating_sub(start) < 4 {
         return false;
     }
     let mut found = service_apart(c)
@@ -98,10 +97,8 @@ fn ends_outside(s: &[u8], level: u8) -> bool {
 pub fn in_level(s: &[u8], c: Characters, level: u8, start: usize) -> Result<(), Refusal>
     ensures { result ≡ outcome (leveled level (tokens_at c s.now start)) }
 {
-    if !ends_outside(s, level) {
-        if all_in_level(s, start, level) {
-            return Ok(());
-        }
+    if !ends_outside(s, level) && all_in_level(s, start, level) {
+        return Ok(());
     }
     if all_orderly(s, c, level, start) {
         return Ok(());
@@ -109,6 +106,7 @@ pub fn in_level(s: &[u8], c: Characters, level: u8, start: usize) -> Result<(), 
     first_outside(s, c, level, start)
 }
 
+// (How far a token goes no `for` would know.)
 fn first_outside(s: &[u8], c: Characters, level: u8, start: usize) -> Result<(), Refusal>
     ensures { result ≡ outcome (leveled level (tokens_at c s.now start)) }
 {
@@ -121,15 +119,8 @@ fn first_outside(s: &[u8], c: Characters, level: u8, start: usize) -> Result<(),
                 }
                 at = next;
             }
-            Lexed::Separator { next, .. } => {
-                at = next;
-            }
-            Lexed::Stray { next } => {
-                at = next;
-            }
-            Lexed::End => {
-                return Ok(());
-            }
+            Lexed::Separator { next, .. } | Lexed::Stray { next } => at = next,
+            Lexed::End => return Ok(()),
         }
     }
 }

@@ -24,7 +24,8 @@ use tags::kind_at;
 use trimmed_values::same_value;
 use walk::{beginning, stepped};
 
-// Where the references of the headers that passed last begin; the input's length before the first.
+// Where the references of the headers that passed last begin; the input's length before the first. (It stays for none: the value that begins
+// there is empty, so that a trailer's reference differs from it without an `Option` being asked.)
 #[derive(Clone, Copy)]
 pub struct Headers {
     pub unb: usize,
@@ -32,7 +33,8 @@ pub struct Headers {
     pub unh: usize,
 }
 
-// The header that a trailer of this kind closes.
+// The header that a trailer of this kind closes. (0 where the kind is no trailer's, here and in `true_count`, as `header_kept` and `count_due`
+// say it: nobody looks at it then.)
 pub fn header_of(h: Headers, kind: Kind) -> usize
     ensures { result ≡ header_kept h kind }
 {
@@ -70,9 +72,10 @@ fn groups_or_messages(w: Walk) -> u32
     ensures { result ≡ groups_or_messages w }
 {
     if w.groups.0 == 0 {
-        return w.messages.0;
+        w.messages.0
+    } else {
+        w.groups.0
     }
-    w.groups.0
 }
 
 // The count that a trailer of this kind has to give.
@@ -113,7 +116,8 @@ fn trailer_control(
     Ok(())
 }
 
-// One segment. A segment that has a count is a trailer.
+// One segment. A segment that has a count is a trailer. (What it is held against stays three parameters, here and in `ordinary_controls` and
+// `clean_walk`: `controlled_by` and `Controls` are told so of each, and a struct would be taken apart again at once.)
 pub fn segment_control(
     s: &[u8],
     c: Characters,
@@ -138,6 +142,7 @@ pub fn segment_control(
     trailer_control(s, c, at, reference, counted, header, count)
 }
 
+// (Where a segment ends no `for` would know.)
 pub fn check(s: &[u8], c: Characters, start: usize) -> Result<(), Refusal>
     requires { length s.now ≤ most_bytes }
     ensures { result ≡ outcome (controlled (tokens_at c s.now start)) }

@@ -1,5 +1,5 @@
 -- The level that a header names, from the values of its name and its version where they are spelled. Assumes nothing.
-use Rattle.std.specs.Prelude.{if◌then◌else◌}
+use Rattle.std.specs.Prelude.{if◌then◌else◌, Option as Perhaps, None, Some}
 use Prim.Native.Nat.{ℕ}
 use mathlib.Core.Path.{◌≡◌, refl, sym, ap, ap₂, ◌∙◌}
 use mathlib.Core.Bool.{Bool, true, false, not, ◌&&◌, ◌||◌, and-false}
@@ -20,7 +20,7 @@ use Rattle.elements.specs.Values.{value_in}
 use Rattle.trimmed_values.specs.Trimmed.{value_from, is_unrepeated}
 use Rattle.trimmed_values.proofs.Trimmed.{in_turn_lem}
 use Rattle.trimmed_values.proofs.Contents.{first_repeat, repeat_read, value_read}
-use Rattle.stage_level.specs.Heading.{is_version, numbered}
+use Rattle.stage_level.specs.Heading.{is_version}
 
 -- a repeat names its level, and version 4, by its first two values
 named : (c : Characters) (o : Option (List (List ℕ)))
@@ -61,9 +61,9 @@ fourth none = refl
 fourth (some values) = refl
 
 module _ (c : Characters) (s : List ℕ) (start : ℕ) {name : ℕ} (e : ElementAt c s start 1 name) where
-  -- the level that the header at `start` names, 0 for none
-  abbrev header_level : ℕ
-  header_level = maybe 0 (λ level. level) (level_of c (segment_at c s start))
+  -- the level that the header at `start` names
+  abbrev header_level : Perhaps ℕ
+  header_level = maybe None Some (level_of c (segment_at c s start))
 
   -- and the fifth byte of its normal form
   abbrev header_repetition : ℕ
@@ -77,9 +77,9 @@ module _ (c : Characters) (s : List ℕ) (start : ℕ) {name : ℕ} (e : Element
       repeat_read (tokens_at c s start) 1
       ∙ ap (λ (b : Bool). if b then first_repeat (tokens_at c s start) 1 else none) (ap is_unrepeated (sym e.0) ∙ h)
 
-  pub level_repeated : is_unrepeated (tokens_at c s name) ≡ false → 0 ≡ header_level
+  pub level_repeated : is_unrepeated (tokens_at c s name) ≡ false → None ≡ header_level
   unfolding maybe level_of
-  level_repeated h = sym (ap (λ (o : Option (List (List ℕ))). maybe 0 (λ level. level) (maybe none (level_in c) o)) (identifier h))
+  level_repeated h = sym (ap (λ (o : Option (List (List ℕ))). maybe None Some (maybe none (level_in c) o)) (identifier h))
 
   pub repetition_repeated : is_unrepeated (tokens_at c s name) ≡ false → 32 ≡ header_repetition
   unfolding maybe normal_repetition has_version4 at
@@ -106,16 +106,16 @@ module _ (c : Characters) (s : List ℕ) (start : ℕ) {name : ℕ} (e : Element
         (spelled_value (maybe none level_named) 0 refl ∙ ap (λ (ts : List Token). level_named (value_in ts)) (sym e.0))
 
     -- it is not ours
-    pub level_other : is_version c (value_in (tokens_at c s version)) ≡ false → 0 ≡ header_level
+    pub level_other : is_version c (value_in (tokens_at c s version)) ≡ false → None ≡ header_level
     unfolding maybe
     level_other o =
-        ap (maybe 0 (λ level. level)) (sym (by_values ∙ if_false (is_version c (value_in (tokens_at c s version))) _ none o))
+        ap (maybe None Some) (sym (by_values ∙ if_false (is_version c (value_in (tokens_at c s version))) _ none o))
 
     -- it is ours, and the name tells
-    pub level_ours : is_version c (value_in (tokens_at c s version)) ≡ true → numbered (value_in (tokens_at c s name)) ≡ header_level
-    unfolding numbered
+    pub level_ours : is_version c (value_in (tokens_at c s version)) ≡ true
+        → maybe None Some (level_named (value_in (tokens_at c s name))) ≡ header_level
     level_ours o =
-        ap (maybe 0 (λ level. level)) (sym (by_values ∙ if_true (is_version c (value_in (tokens_at c s version))) _ none o))
+        ap (maybe None Some) (sym (by_values ∙ if_true (is_version c (value_in (tokens_at c s version))) _ none o))
 
     -- the version gives the fifth byte
     pub repetition_is : {b : Bool} → b ≡ same (value_in (tokens_at c s version)) (text "4") → (if b then 42 else 32) ≡ header_repetition

@@ -4,15 +4,15 @@
 // is left to others.
 #![tactic(auto)]
 
-ghost use Rattle.std.specs.Prelude.{◌≡◌, [], ◌∷◌};
+ghost use Rattle.std.specs.Prelude.{◌≡◌, [], ◌∷◌, None, Some};
 ghost use Rattle.lists.specs.Lists.{maybe};
-ghost use Rattle.levels.specs.Levels.{level_of};
+ghost use Rattle.levels.specs.Levels.{level_named, level_of};
 ghost use Rattle.values.specs.Tokens.{tokens_at};
 ghost use Rattle.values.specs.Trimming.{contents_of};
 ghost use Rattle.stages.specs.Contents.{normal_repetition};
 ghost use Rattle.scanner.specs.Scan.{segment_at};
 ghost use Rattle.elements.specs.Values.{value_in};
-ghost use Rattle.stage_level.specs.Heading.{is_version, numbered};
+ghost use Rattle.stage_level.specs.Heading.{is_version};
 
 use characters::Characters;
 use elements::{component_at, element_at};
@@ -27,34 +27,34 @@ fn is_version(s: &[u8], c: Characters, at: usize) -> bool
         || (c.repetition == b' ' && (is_text(s, c, at, b"1") || is_text(s, c, at, b"2")))
 }
 
-// The level that the value which begins at a place names.
-fn level_named(s: &[u8], c: Characters, at: usize) -> u8
-    ensures { result ≡ numbered (value_in (tokens_at c s.now at)) }
+// The level that the value which begins at a place names. (It stays a number: the definition of `in_level` compares it with a byte's
+// class.)
+#[tactic(auto, unfolding(levels::specs::Levels::level_named, lists::specs::Lists::maybe))]
+fn level_named(s: &[u8], c: Characters, at: usize) -> Option<u8>
+    ensures { result ≡ maybe None Some (level_named (value_in (tokens_at c s.now at))) }
 {
     if is_text(s, c, at, b"UNOA") {
-        return 2;
+        return Some(2);
     }
-    if is_text(s, c, at, b"UNOB") {
-        return 1;
-    }
-    0
+    is_text(s, c, at, b"UNOB").then_some(1)
 }
 
-// The level that the header which begins at `start` names: 2 for level A, 1 for level B, 0 where level
+// The level that the header which begins at `start` names: 2 for level A, 1 for level B, none where level
 // or version are not ours, or element 1 has more than one repeat. The name is the first value of element
 // 1, the version its second.
-pub fn level_of(s: &[u8], c: Characters, start: usize) -> u8
-    ensures { result ≡ maybe 0 (λ level. level) (level_of c (segment_at c s.now start)) }
+pub fn level_of(s: &[u8], c: Characters, start: usize) -> Option<u8>
+    ensures { result ≡ maybe None Some (level_of c (segment_at c s.now start)) }
 {
     let at = element_at(s, c, start, 1);
     if is_unrepeated(s, c, at) && is_version(s, c, component_at(s, c, at, 1)) {
         level_named(s, c, at)
     } else {
-        0
+        None
     }
 }
 
-// The fifth byte of the normal form, by the version that the header which begins at `start` names.
+// The fifth byte of the normal form, by the version that the header which begins at `start` names. (It asks the same element as `level_of`:
+// one function for both would take a closure for the test and one for the answer.)
 pub fn normal_repetition(s: &[u8], c: Characters, start: usize) -> u8
     ensures { result ≡ normal_repetition (contents_of (segment_at c s.now start) ∷ []) }
 {

@@ -14,10 +14,19 @@ not_or : (a b : Bool) → not (a || b) ≡ (not a && not b)
 not_or true b = refl
 not_or false b = refl
 
-pub separates_tests : (b : ℕ) {visible up low number : Bool} → visible ≡ between 33 126 b → up ≡ between 65 90 b → low ≡ between 97 122 b
-    → number ≡ between 48 57 b → ((visible && not (up || low || number)) || eqb b 28 || eqb b 29 || eqb b 31) ≡ separates b
+-- digits are asked for first, or last
+digits_last : (number up low : Bool) → ((number || up) || low) ≡ ((up || low) || number)
+digits_last true true low = refl
+digits_last true false true = refl
+digits_last true false false = refl
+digits_last false true low = refl
+digits_last false false true = refl
+digits_last false false false = refl
+
+pub separates_tests : (b : ℕ) {visible named : Bool} → visible ≡ between 33 126 b
+    → named ≡ ((between 48 57 b || between 65 90 b) || between 97 122 b) → ((visible && not named) || eqb b 28 || eqb b 29 || eqb b 31) ≡ separates b
 unfolding separates upper lower digit member
-separates_tests b v u l n = simp (v, u, l, n, or_assoc, or-false)
+separates_tests b v n = simp (v, n ∙ digits_last (between 48 57 b) (between 65 90 b) (between 97 122 b), or_assoc, or-false)
 
 pub differ_tests : (x a b c : ℕ) → not (eqb x a || eqb x b || eqb x c) ≡ not (member x (a ∷ b ∷ c ∷ []))
 unfolding member

@@ -6,7 +6,7 @@
 
 ghost use Rattle.std.specs.Prelude.{◌≡◌, not, ◌||◌, [], ◌∷◌, ◌++◌, ◌+◌, get_or, drop, if◌then◌else◌};
 ghost use Rattle.lists.specs.Lists.{text, begins, member, all_differ, all};
-ghost use Rattle.characters.specs.Characters.{between, separates, usable, advised, plus_characters, star_characters, characters_of, body_start, bad_advice, opens};
+ghost use Rattle.characters.specs.Characters.{separates, usable, advised, plus_characters, star_characters, characters_of, body_start, bad_advice, opens};
 ghost use Rattle.stage_opening.specs.Optional.{optional};
 ghost use Rattle.stage_opening.specs.Runs.{progress};
 
@@ -18,19 +18,11 @@ use segments::Walk;
 
 // ---- when six bytes are usable
 
-fn is_between(low: u8, high: u8, b: u8) -> bool
-    ensures { result ≡ between low high b }
-{
-    (low <= b) & (b <= high)
-}
-
 // A byte that may be a separator, a terminator or a release character.
 fn may_separate(b: u8) -> bool
     ensures { result ≡ separates b }
 {
-    let letter = is_between(b'A', b'Z', b) | is_between(b'a', b'z', b);
-    let named = letter | is_between(b'0', b'9', b);
-    (is_between(33, 126, b) & !named) | (b == 28) | (b == 29) | (b == 31)
+    (b.is_ascii_graphic() & !b.is_ascii_alphanumeric()) | (b == 28) | (b == 29) | (b == 31)
 }
 
 // The first differs from each of the others.
@@ -40,7 +32,8 @@ fn differs(x: u8, a: u8, b: u8, c: u8) -> bool
     !((x == a) | (x == b) | (x == c))
 }
 
-// The repetition separator and the release character, of which each may be none, may separate.
+// The repetition separator and the release character, of which each may be none, may separate. (A space stays for none: the advice spells it
+// so, and C is handed the six bytes as they are.)
 fn optional_separate(c: Characters) -> bool
     ensures { result ≡ all separates (optional c) }
 {
@@ -93,13 +86,7 @@ fn byte_at(s: &[u8], at: usize) -> u8
 fn byte_stands(s: &[u8], at: usize, after: usize, b: u8) -> bool
     ensures { result ≡ begins (b ∷ []) (drop (at + after) s.now) }
 {
-    if s.len() <= at {
-        return false;
-    }
-    if s.len() - at <= after {
-        return false;
-    }
-    b == s[at + after]
+    at < s.len() && (after < s.len() - at && b == s[at + after])
 }
 
 // `UN` and a third byte stand at a place.
@@ -168,10 +155,7 @@ fn characters_of(s: &[u8]) -> Characters
 pub fn body_start(s: &[u8]) -> usize
     ensures { result ≡ body_start s.now }
 {
-    if is_advised(s) {
-        return after_breaks(s, 9);
-    }
-    0
+    if is_advised(s) { after_breaks(s, 9) } else { 0 }
 }
 
 fn has_bad_advice(s: &[u8]) -> bool
@@ -191,7 +175,8 @@ fn is_opening(s: &[u8]) -> bool
 
 // What a run of stages finds of an input: its service characters and where its body begins; the level
 // that UNB names, once stage 7 has passed, and the walk over its segments, once stage 9 has. Before
-// that the level is 0, and the walk has passed no segment.
+// that the level is 0, and the walk has passed no segment. (Neither is an `Option`: `found_by`, by which every run of stages promises
+// what it finds, has them so.)
 #[derive(Clone, Copy)]
 pub struct Found {
     pub characters: Characters,

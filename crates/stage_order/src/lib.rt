@@ -8,38 +8,32 @@ ghost use Rattle.std.specs.Prelude.{◌≤◌, ◌≡◌, length};
 ghost use Rattle.values.specs.Tokens.{tokens_at};
 ghost use Rattle.scanner.specs.Scan.{segment_at};
 ghost use Rattle.walk_laws.specs.Walking.{section_begun};
-ghost use Rattle.stage_order.specs.Ordering.{section_from, misplaced_at, completed, ordered_as};
+ghost use Rattle.stage_order.specs.Ordering.{section_from, completed, ordered_as};
 ghost use Rattle.refusals.specs.Limits.{most_bytes};
 
 use characters::Characters;
 use elements::element_at;
 use refusals::{Fault, Refusal};
+use refusing::failed;
 use scanner::segment_end;
 use segments::{Kind, Section, Walk};
 use tags::kind_at;
 use trimmed_values::{is_alone, is_text};
 use walk::{beginning, begun, fits, is_complete, is_marker, stepped};
 
-fn misplaced(place: usize) -> Result<Walk, Refusal>
-    ensures { result ≡ misplaced_at place }
-{
-    Err(Refusal {
-        fault: Fault::MisplacedSegment,
-        place,
-    })
-}
-
 // "or the end before UNZ"
 fn complete(w: Walk, end: usize) -> Result<Walk, Refusal>
     ensures { result ≡ completed end w }
 {
     if is_complete(w) {
-        return Ok(w);
+        Ok(w)
+    } else {
+        failed(Fault::MisplacedSegment, end)
     }
-    misplaced(end)
 }
 
-// The section that the element which begins at `from` names: a single component `D` or `S`.
+// The section that the element which begins at `from` names: a single component `D` or `S`. (`Section::None` stays a section, here and in
+// the walk: the definition `turn` of `control_elements` puts the three in order, and `walk_over` of `segments` takes each.)
 fn section_named(s: &[u8], c: Characters, from: usize) -> Section
     ensures { result ≡ section_from (tokens_at c s.now from) }
 {
@@ -60,11 +54,13 @@ pub fn section_at(s: &[u8], c: Characters, at: usize, kind: Kind) -> Section
     ensures { result ≡ section_begun kind (segment_at c s.now at) }
 {
     if is_marker(kind) {
-        return section_named(s, c, element_at(s, c, at, 1));
+        section_named(s, c, element_at(s, c, at, 1))
+    } else {
+        Section::None
     }
-    Section::None
 }
 
+// (Where a segment ends no `for` would know.)
 pub fn check(s: &[u8], c: Characters, start: usize) -> Result<Walk, Refusal>
     requires { length s.now ≤ most_bytes }
     ensures { result ≡ ordered_as (length s.now) (tokens_at c s.now start) }
@@ -75,7 +71,7 @@ pub fn check(s: &[u8], c: Characters, start: usize) -> Result<Walk, Refusal>
         let kind = kind_at(s, c, at);
         let section = section_at(s, c, at, kind);
         if !fits(walk, kind, section) {
-            return misplaced(at);
+            return failed(Fault::MisplacedSegment, at);
         }
         walk = begun(stepped(walk, kind), section);
         at = segment_end(s, c, at);

@@ -1,5 +1,5 @@
 -- The walk of stage (4 5 6) from a place on, by what the scanner says of the segment that begins there. Assumes nothing.
-use Rattle.std.specs.Prelude.{if◌then◌else◌}
+use Rattle.std.specs.Prelude.{if◌then◌else◌, Err}
 use Prim.Native.Nat.{ℕ, ◌≤◌, ◌<◌}
 use mathlib.Core.Path.{◌≡◌, refl, sym, ap, ap₂, ◌∙◌, subst}
 use mathlib.Core.Bool.{Bool, true, false}
@@ -17,10 +17,12 @@ use Rattle.values.specs.Tokens.{Token, byte, separator, fault, Segment, ends, se
 use Rattle.values.specs.Values.{ended_by}
 use Rattle.segments.specs.Tags.{tag_rule}
 use Rattle.stage_walks.specs.Walks.{refuse, first_in, first_fault, worded_segment, worded}
+use Rattle.scanner.specs.declared.Scanned.{Scanned}
 use Rattle.scanner.specs.declared.Scanned.TheVariants.{Ended, Stray, Unended}
 use Rattle.scanner.specs.Scan.{Scanning, ended, stray, unended, scanned, Scans, segment_at}
 use Rattle.scanner.proofs.Segments.{stands, segments_end, segment_start_lem}
 use Rattle.values.proofs.Ends.{ended_after}
+use Rattle.stage_segments.specs.Segment.{Refuses, Passes}
 use Rattle.tags.proofs.Reading.{through_hit, through_miss}
 
 -- ---- how the first segment ends
@@ -146,3 +148,13 @@ module _ (c : Characters) (s : List ℕ) (at : ℕ) where
       pub worded_next : tag_rule (segment_at c s at) ≡ true → worded size (tokens_at c s at) ≡ worded size (tokens_at c s next)
       unfolding or_else
       worded_next e = answers (ruled e) ∙ ap (worded size) (sym (told (ended (tokens_at c s next)) h.0).2)
+
+module _ (c : Characters) (s : List ℕ) (at : ℕ) (inside : at < length s) where
+  -- the segment that begins there is refused
+  pub worded_refused : {r : Refusal} → Passes c s at (Err r) → worded (length s) (tokens_at c s at) ≡ some r
+  worded_refused {r} (found, h, e) = step found h e
+    where
+      step : (found : Scanned) → Scans c s at found → Refuses c s at found r → worded (length s) (tokens_at c s at) ≡ some r
+      step (Ended next) h e = worded_broken c s at (length s) inside h e.0 ∙ ap some (sym e.1)
+      step (Stray place) h e = worded_stray c s at (length s) inside h ∙ ap some (sym e)
+      step Unended h e = worded_unended c s at (length s) inside h ∙ ap some (sym e)

@@ -20,6 +20,7 @@ use segments::Kind;
 use table_walk::through_table;
 use tags::kind_at;
 
+// (`is_header` and `is_trailer` stay two: a `matches!` takes no kind from a parameter, and `Kind` derives no `==`.)
 fn is_header(kind: Kind) -> bool
     ensures { result ≡ is Unh kind }
 {
@@ -48,11 +49,11 @@ fn body_at(s: &[u8], c: Characters, table: &[u8], from: usize) -> Result<usize, 
     match through_table(s, c, table, from) {
         Err(next) => failed(Fault::UnmatchedBody, place_in(s, c, next.at)),
         Ok(next) => {
-            let at = next.at;
-            if is_trailer(kind_at(s, c, at)) {
-                return Ok(at);
+            if is_trailer(kind_at(s, c, next.at)) {
+                Ok(next.at)
+            } else {
+                failed(Fault::UnmatchedBody, place_in(s, c, next.at))
             }
-            failed(Fault::UnmatchedBody, place_in(s, c, at))
         }
     }
 }
@@ -62,13 +63,14 @@ pub fn check(s: &[u8], c: Characters, table: &[u8], start: usize) -> Result<(), 
     ensures { result ≡ stopped_at (first_stop (structure_of table.now) (segments (tokens_at c s.now start))) }
 {
     let mut at = start;
+    // (No `for`: where a segment or a message ends only its bytes tell.)
     while at < s.len() {
         let next = segment_end(s, c, at);
-        if is_header(kind_at(s, c, at)) {
-            at = body_at(s, c, table, next)?;
+        at = if is_header(kind_at(s, c, at)) {
+            body_at(s, c, table, next)?
         } else {
-            at = next;
-        }
+            next
+        };
     }
     Ok(())
 }

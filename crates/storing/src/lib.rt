@@ -108,7 +108,7 @@ pub fn is_service(c: Characters, b: u8) -> bool
 }
 
 // Puts a byte of a value as it is spelled, and returns the place after it. The release character is put
-// first, and where there is none to put, the byte takes its place.
+// first, and where there is none to put, the byte takes its place. (`as` makes 0 or 1 of the test, as `usize::from` would.)
 pub fn put_byte<S: Sink>(buffer: &mut [u8], at: usize, c: Characters, b: u8) -> usize
     requires { at + length (spell_byte c b) ≤ S.room buffer.old }
     ensures { (buffer.new ≡ S.holds buffer.old at (spell_byte c b)) × (result ≡ at + length (spell_byte c b)) }
@@ -131,7 +131,7 @@ pub fn put_value<S: Sink>(buffer: &mut [u8], at: usize, c: Characters, value: &[
     end
 }
 
-// Stores an advice at the front.
+// Stores an advice at the front. (An array of the nine bytes, copied, would name them just so.)
 pub fn put_advice(buffer: &mut [u8], c: Characters)
     requires { 9 ≤ length buffer.old }
     ensures { buffer.new ≡ sets buffer.old 0 (advice_of c) }

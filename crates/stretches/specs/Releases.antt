@@ -1,13 +1,13 @@
 -- Release characters in a stretch: with the same service characters a release character stands, and the service character that it takes.
 -- Assumes nothing.
 use Rattle.std.specs.Prelude.{ℕ, ◌+◌, ◌≤◌, ◌<◌, ◌≡◌, Bool, true, false, not, ◌&&◌, ◌||◌, List, eqb, length, get_or}
+use Rattle.std.specs.declared.ops.ControlFlow.{ControlFlow}
+use Rattle.std.specs.declared.ops.ControlFlow.TheVariants.{Continue, Break}
 use Rattle.characters.specs.declared.Characters.{Characters}
 use Rattle.characters.specs.declared.Role.TheVariants.{Release}
 use Rattle.characters.specs.Characters.{role, is_service, has_release, is_break}
 use Rattle.release_marks.specs.Marks.{marked_at, misread, Reached}
 use Rattle.verbatim.specs.Verbatim.{idle}
-use Rattle.stretches.specs.declared.Passed.{Passed}
-use Rattle.stretches.specs.declared.Passed.TheVariants.{On, Ended}
 use Rattle.stretches.specs.Stretches.{halts}
 
 -- the five service characters are the same; there is a release character, and it is no separator
@@ -50,6 +50,6 @@ Stopped c s from k =
     × ((n : Characters) → alike c n ≡ true → Reached (Passes c n s (from + 4)) c s (marked_at c s (from + k)) (from + k + 1 + 1 + 1 + 1))
 
 -- from a place up to another, which lies behind it where the stretch goes on
-abbrev pub PassesBlock : Characters → List ℕ → ℕ → Passed → Type 0
-PassesBlock c s from (On to) = PassesAlike c s from to × (from < to)
-PassesBlock c s from (Ended to) = PassesAlike c s from to
+abbrev pub PassesBlock : Characters → List ℕ → ℕ → ControlFlow ℕ ℕ → Type 0
+PassesBlock c s from (Continue to) = PassesAlike c s from to × (from < to)
+PassesBlock c s from (Break to) = PassesAlike c s from to

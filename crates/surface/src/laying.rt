@@ -1,5 +1,8 @@
 // The structs that cross to C, made of the answers. Each function promises what the definition in
-// specs/ says of the paper's number and values.
+// specs/ says of the paper's number and values. (Here and in the other files of this kind each struct is written out,
+// zeros too, as the definition is that it is held against: `..default()` would not say which fields are zero. And two
+// matches stand one in the other: of a nested pattern a proof does not see what the inner one matched, as
+// `shelf_summary` tried.)
 ghost use Rattle.std.specs.Prelude.{◌≡◌, [], ◌∷◌};
 ghost use Rattle.refusals.specs.Refusals.{number};
 ghost use Rattle.answers.specs.Answers.{given, accepted, refused, refused_input, told_judged, told_stored, told_compared, told_located, told_listed};

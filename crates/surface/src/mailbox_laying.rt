@@ -10,7 +10,8 @@ use mailbox_files::Report;
 use pieces::Ending;
 use refusals::Refusal;
 
-// The figures beside a number and a place.
+// The figures beside a number and a place. (`refused` is a local: of an array that a literal takes from a field a
+// proof is not told the length.)
 fn figures_beside(report: Report, number: u32, place: usize) -> MorningFigures
     ensures { (result ≡ beside number place report) × (length report.refused ≡ 14) }
 {

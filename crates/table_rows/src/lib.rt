@@ -1,6 +1,7 @@
 // The entries of a table (request 2026-08), read where they stand: "eight big-endian bytes an entry". It
 // promises the entry that `message_tables` reads there. Whether an entry fits is left to
-// `table_soundness`, and what it takes to `table_walk`.
+// `table_soundness`, and what it takes to `table_walk`. (`as` cuts a number to the two bytes that were read: the library
+// has no `from` of a `u64` to a `usize`.)
 #![tactic(auto)]
 
 ghost use Rattle.std.specs.Prelude.{◌+◌, ◌*◌, ◌≤◌, ◌<◌, ◌≡◌, length, drop};
@@ -14,7 +15,7 @@ use big_endian::get;
 pub const ROW_BYTES: usize = 8;
 
 // A tag of three bytes; zeros are a group's own.
-#[derive(Clone, Copy, PartialEq, Eq)]
+#[derive(Clone, Copy, Default, PartialEq, Eq)]
 pub struct Tag {
     pub first: u8,
     pub second: u8,
@@ -35,11 +36,7 @@ pub struct Row {
 pub fn no_tag() -> Tag
     ensures { result ≡ record { first = 0; second = 0; third = 0 } }
 {
-    Tag {
-        first: 0,
-        second: 0,
-        third: 0,
-    }
+    Tag::default()
 }
 
 pub fn same_tag(a: Tag, b: Tag) -> bool

@@ -99,7 +99,8 @@ fn still_open(ends: &[usize; 10], depth: usize, next: usize) -> usize
     0
 }
 
-// The first of so many entries that does not fit. A segment is passed like a group that holds nothing.
+// The first of so many entries that does not fit. A segment is passed like a group that holds nothing. (Where the open
+// groups end stands in an array with the depth beside it, since memory is fixed.)
 fn scan(table: &[u8], whole: usize, most: usize) -> Result<(), Refusal>
     requires { (whole ≡ whole_entries table.now) × (most ≡ asked whole) }
     ensures { result ≡ found_at (scanned most_entries 0 false [] (entries_of table.now)) }
@@ -134,12 +135,12 @@ fn check_size(table: &[u8]) -> Result<(), Refusal>
 {
     let whole = table.len() / ROW_BYTES;
     if MOST < whole {
-        return failed(Fault::UnsoundTable, MOST);
+        failed(Fault::UnsoundTable, MOST)
+    } else if table.len() % ROW_BYTES == 0 {
+        Ok(())
+    } else {
+        failed(Fault::UnsoundTable, whole)
     }
-    if table.len() % ROW_BYTES == 0 {
-        return Ok(());
-    }
-    failed(Fault::UnsoundTable, whole)
 }
 
 // 21: the lowest entry at fault.

@@ -24,7 +24,7 @@ use tags::word_at;
 const LEVELS: usize = 9;
 
 // Where the walk stands: the place of the segment that comes next, and its tag, zeros where it has none
-// of three bytes.
+// of three bytes. (Zeros, and no `Option`: a lead is never zeros, so that one comparison of tags tells.)
 #[derive(Clone, Copy)]
 pub struct Next {
     pub at: usize,
@@ -40,7 +40,8 @@ struct Walk<'a> {
 }
 
 // An entry, for the walk: whether it is mandatory, its most repeats, the tag with which each of them
-// begins, and the entries that a repeat holds behind that, from a number up to another.
+// begins, and the entries that a repeat holds behind that, from a number up to another. (`mandatory` is read off the
+// entry's byte once; it chooses no other way through the code.)
 #[derive(Clone, Copy)]
 pub struct Part {
     pub mandatory: bool,
@@ -55,13 +56,14 @@ fn tag_at(s: &[u8], c: Characters, at: usize) -> Tag
 {
     let word = word_at(s, c, at);
     if word.size == 3 {
-        return Tag {
+        Tag {
             first: word.second,
             second: word.third,
             third: word.fourth,
-        };
+        }
+    } else {
+        no_tag()
     }
-    no_tag()
 }
 
 // The walk stands before the segment at a place.
@@ -149,6 +151,7 @@ fn level(w: &Walk, from: usize, end: usize, depth: usize, next: Next) -> Result<
     }
     let mut here = next;
     let mut number = from;
+    // (No `for`: how far the next entry of a level stands behind this one only this one tells.)
     while number < end {
         let part = part_at(w.table, number);
         if is_missed(part, here) {

@@ -1,6 +1,6 @@
 // Tags, and other short values: a value by its size and its last four bytes, with the separator that
 // ends it; the kind of segment that begins at a place, and whether its tag keeps the rule for tags.
-// What the segment then holds is left to others.
+// What the segment then holds is left to others. (How far a token goes no `for` would know, so that each walk over tokens is a `loop`.)
 #![tactic(auto)]
 
 ghost use Rattle.std.specs.Prelude.{◌<◌, ◌≡◌, ◌||◌, [], ◌∷◌, leb, true};
@@ -18,7 +18,8 @@ use scanner::{Lexed, lex};
 use segments::Kind;
 
 // A value's size and its last four bytes, with zeros in front of fewer; the rank of the separator that
-// ends it, 4 where the input ends first; and the place after that separator.
+// ends it, 4 where the input ends first; and the place after that separator. (4 stays for none: `rank <= 2` then says no by itself,
+// where an `Option` would be asked `is_some_and(|rank| rank <= 2)`.)
 #[derive(Clone, Copy)]
 pub struct Word {
     pub size: usize,
@@ -92,14 +93,12 @@ pub fn word_at(s: &[u8], c: Characters, from: usize) -> Word
     }
 }
 
-// The kind of segment that a tag of three bytes names.
+// The kind of segment that a tag of three bytes names. (They stay three parameters, here and below: they come from a word, a table's row or
+// the input, and an array would be filled only to be asked.)
 pub fn kind_named(first: u8, second: u8, third: u8) -> Kind
     ensures { result ≡ kind_named (first ∷ second ∷ third ∷ []) }
 {
-    if first != b'U' {
-        return Kind::User;
-    }
-    if second != b'N' {
+    if first != b'U' || second != b'N' {
         return Kind::User;
     }
     match third {
@@ -114,7 +113,8 @@ pub fn kind_named(first: u8, second: u8, third: u8) -> Kind
     }
 }
 
-// The segment that begins at a place is a user segment by its first byte, as most are.
+// The segment that begins at a place is a user segment by its first byte, as most are. (A `matches!` with a guard was tried; a
+// proof is not told what the guard asked.)
 fn begins_as_user(s: &[u8], c: Characters, at: usize) -> bool
     ensures { result ≡ true → User ≡ kind_of (segment_at c s.now at) }
 {
@@ -139,7 +139,8 @@ pub fn kind_at(s: &[u8], c: Characters, at: usize) -> Kind
     }
 }
 
-// A byte that a tag may hold.
+// A byte that a tag may hold. (`is_ordinary` of `ordinary_runs` says the same without a branch, for many bytes at once: no more than the
+// library's two tests is said twice.)
 fn tag_byte(b: u8) -> bool
     ensures { result ≡ (upper b || digit b) }
 {
@@ -167,16 +168,10 @@ fn well_named(first: u8, second: u8, third: u8, rank: u8) -> bool
     if !is_tag(first, second, third) {
         return false;
     }
-    if first != b'U' {
+    if first != b'U' || second != b'N' {
         return true;
     }
-    if second != b'N' {
-        return true;
-    }
-    if is_user(kind_named(first, second, third)) {
-        return false;
-    }
-    rank <= 2
+    !is_user(kind_named(first, second, third)) && rank <= 2
 }
 
 // The element that goes on at a place ends before another repeat of it begins.
@@ -211,14 +206,12 @@ pub fn tag_holds(s: &[u8], c: Characters, at: usize) -> bool
     ensures { result ≡ tag_rule (segment_at c s.now at) }
 {
     let word = word_at(s, c, at);
-    if word.size != 3 {
-        return false;
-    }
-    if !well_named(word.second, word.third, word.fourth, word.rank) {
+    if word.size != 3 || !well_named(word.second, word.third, word.fourth, word.rank) {
         return false;
     }
     if word.rank <= 2 {
-        return word.rank <= 1;
+        word.rank <= 1
+    } else {
+        ends_unrepeated(s, c, word.next)
     }
-    ends_unrepeated(s, c, word.next)
 }

@@ -24,13 +24,15 @@ fn stays(s: &[u8], c: Characters, from: usize, rank: u8, number: usize) -> bool
     ensures { result ≡ stays_in rank number (tokens_at c s.now from) }
 {
     if number == 0 {
-        return from < s.len();
+        from < s.len()
+    } else {
+        holds_byte(s, c, from, rank)
     }
-    holds_byte(s, c, from, rank)
 }
 
 // Where the value stands and how long it is spelled there, by element, repeat and component, in the contents of the segment that begins at `start`. The
-// input may not end inside a segment: a value that nothing ends has no length.
+// input may not end inside a segment: a value that nothing ends has no length. (The three numbers stay apart, here and in `locate`: C gives
+// them so, and the definition of `value_at` takes them so.)
 pub fn value_at(
     s: &[u8],
     c: Characters,
@@ -81,7 +83,7 @@ fn is_ended(next: NextByte) -> bool
     matches!(next, NextByte::Ended { .. })
 }
 
-// The values that begin at two places are the same.
+// The values that begin at two places are the same. (Each is read by its own places, which no `zip` knows.)
 pub fn same_value(s: &[u8], c: Characters, first: usize, second: usize) -> bool
     ensures { result ≡ same (value_in (tokens_at c s.now first)) (value_in (tokens_at c s.now second)) }
 {

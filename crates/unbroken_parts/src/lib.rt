@@ -12,7 +12,7 @@ use line_breaks::{put_unbroken, unbroken_length};
 use storing::copy;
 
 // Where it says yes, no byte from a place on is below the space. The loop never ends early, so that many
-// bytes are asked at once.
+// bytes are asked at once. (The index stays: a slice from `start` on is there only where `start` is no place behind the end.)
 pub fn is_unbroken(s: &[u8], start: usize) -> bool
     ensures { result ≡ true → Unbroken s.now start }
 {
@@ -23,7 +23,8 @@ pub fn is_unbroken(s: &[u8], start: usize) -> bool
     whole
 }
 
-// How long the text from a place up to another is without its breaks; `whole` says that it has none.
+// How long the text from a place up to another is without its breaks; `whole` says that it has none. (It is found when it runs,
+// once for a text: two functions, here and below, would leave each caller the same `if`.)
 pub fn length_between(s: &[u8], whole: bool, from: usize, to: usize) -> usize
     requires { (from ≤ to) × (to ≤ length s.now) × (whole ≡ true → Unbroken s.now from) }
     ensures { result ≡ length (unbroken (drop from (take to s.now))) }

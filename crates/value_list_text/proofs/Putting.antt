@@ -1,4 +1,5 @@
 -- A text put record by record into any sink, as far as it is not over 32,000 bytes. Assumes nothing.
+use Rattle.std.specs.Prelude.{None}
 use Prim.Native.Nat.{ℕ, ◌≤◌, ◌<◌}
 use mathlib.Core.Path.{◌≡◌, refl, sym, ap, subst, ◌∙◌}
 use mathlib.Core.List.{List, [], ◌∷◌, ◌++◌}
@@ -14,10 +15,10 @@ use Rattle.emission_laws.proofs.Steps.{emitted_append}
 use Rattle.held_separators.specs.Putting.{Fits, Puts}
 use Rattle.operations.specs.ValueList.{Item}
 use Rattle.refusals.specs.Limits.{most_bytes}
-use Rattle.value_list_text.specs.Composing.{record_tokens, list_tokens, first_measure, composed_text, HasRoom, Composes}
+use Rattle.value_list_text.specs.Composing.{record_tokens, list_tokens, first_measure, composed_text, short_length, HasRoom, Composes}
 use Rattle.value_list_text.proofs.Composed.{ended_total}
 use Rattle.value_list_text.proofs.Rows.{row_next, row_end, Gone, gone_most, gone_next, gone_end}
-use Rattle.value_list_text.proofs.Lengths.{capped_over, capped_last}
+use Rattle.value_list_text.proofs.Lengths.{short_over}
 
 -- What is left of the records, put from here, gives what all of them, put at the start, give; the text is not over 32,000 bytes yet.
 pub record Underway (holds : List ℕ → ℕ → List ℕ → List ℕ) (room : List ℕ → ℕ) (c : Characters) (whole : List Item) (l₀ l₁ : List ℕ) (m : Measure) (left : List Item)
@@ -28,8 +29,8 @@ pub record Underway (holds : List ℕ → ℕ → List ℕ → List ℕ) (room :
 
 -- a text that is too long is given up
 pub given_up : {holds : List ℕ → ℕ → List ℕ → List ℕ} (c : Characters) (whole : List Item) {l₀ put : List ℕ} → most_bytes < length (composed_text c whole)
-    → Composes holds c whole l₀ put 32001
-given_up c whole h = record { measured = capped_over (length (composed_text c whole)) h; whole = λ s. absurd (omega arith) }
+    → Composes holds c whole l₀ put None
+given_up c whole h = record { measured = short_over (length (composed_text c whole)) h; whole = λ s. absurd (omega arith) }
 
 module _ {holds : List ℕ → ℕ → List ℕ → List ℕ} {room : List ℕ → ℕ} (laws : SinkLaws holds room) (c : Characters) (whole : List Item) where
   pub underway_start : (l₀ : List ℕ) {m : Measure} → m ≡ first_measure → Underway holds room c whole l₀ l₀ m whole
@@ -60,7 +61,7 @@ module _ {holds : List ℕ → ℕ → List ℕ → List ℕ} {room : List ℕ �
       }
 
       -- what is put is too long, and so is the text
-      pub too_long : {put : List ℕ} {n : Measure} → n ≡ after c m (record_tokens l) → most_bytes < n.total → Composes holds c whole l₀ put 32001
+      pub too_long : {put : List ℕ} {n : Measure} → n ≡ after c m (record_tokens l) → most_bytes < n.total → Composes holds c whole l₀ put None
       too_long {n = n} e h = given_up c whole (omega (arith, gone_most c whole n (gone_next c whole m g l ls d e), h))
 
     -- the last segment is ended
@@ -69,11 +70,10 @@ module _ {holds : List ℕ → ℕ → List ℕ → List ℕ} {room : List ℕ �
       unfolding after
       end_fits r = let ended = gone_end c whole m g {n = after c m (separator 0 0 ∷ [])} d refl in omega (arith, r, u.same_room, u.short, ended, ended_total c m {n = after c m (separator 0 0 ∷ [])} refl)
 
-      pub underway_end : {l₂ : List ℕ} {n : Measure} → Puts holds c l₁ m (separator 0 0 ∷ []) l₂ n → Composes holds c whole l₀ l₂ n.total
+      pub underway_end : {l₂ : List ℕ} {n : Measure} → Puts holds c l₁ m (separator 0 0 ∷ []) l₂ n → Composes holds c whole l₀ l₂ (short_length n.total)
       unfolding emitted
       underway_end {l₂} {n} p =
-          let last = gone_end c whole m g d p.1 in
           record {
-            measured = last ∙ capped_last (length (composed_text c whole)) (omega (arith, last, ended_total c m p.1, u.short));
+            measured = ap short_length (gone_end c whole m g d p.1);
             whole = λ s. sym (passed (separator 0 0 ∷ []) [] (row_end d) p ∙ laws.none l₂ n.total);
           }

@@ -16,8 +16,8 @@ use Rattle.emission_laws.proofs.Steps.{goes_on}
 use Rattle.held_separators.specs.Putting.{value_byte, value_tokens}
 use Rattle.operations.specs.ValueList.{Item, rank_of, entries, value_in, listed_in}
 use Rattle.value_lists.specs.declared.Record.{Record}
-use Rattle.value_lists.specs.Records.{entry_of, record_at, well_listed}
-use Rattle.value_lists.proofs.Records.{read_next, records_end, good_value, good_rest}
+use Rattle.value_lists.specs.Records.{entry_of, well_listed}
+use Rattle.value_lists.proofs.Records.{good_value, good_rest}
 use Rattle.value_list_text.specs.Composing.{record_tokens, list_tokens, first_measure, composed_text, item_of}
 use Rattle.value_list_text.proofs.Composed.{record_holds, whole_length}
 
@@ -109,53 +109,42 @@ pub listed_few : (bytes table : List ℕ) → 3 * length (listed_in bytes table)
 unfolding listed_in
 listed_few bytes table = omega (arith, entries_few table, length-map {B = Item} (entries table) (λ e. record { kind = e.kind; value = value_in bytes e }))
 
-module _ (bytes table : List ℕ) (at : ℕ) where
-  -- from a place of the table on three numbers more are a record more
-  pub listed_next : {r : Record} → at + 3 ≤ length table → entry_of r ≡ record_at table at
-      → listed_in bytes (drop at table) ≡ item_of bytes r ∷ listed_in bytes (drop (at + 3) table)
+module _ (bytes : List ℕ) where
+  -- a record in front of others
+  pub listed_next : (left rest : List ℕ) (r : Record) → entries left ≡ entry_of r ∷ entries rest → listed_in bytes left ≡ item_of bytes r ∷ listed_in bytes rest
   unfolding listed_in
-  listed_next h d = ap (map (λ e. record { kind = e.kind; value = value_in bytes e })) (read_next table at h d)
+  listed_next left rest r d = ap (map (λ e. record { kind = e.kind; value = value_in bytes e })) d
 
-  pub listed_end : length table ≤ at + 2 → listed_in bytes (drop at table) ≡ []
+  pub listed_end : (left : List ℕ) → entries left ≡ [] → listed_in bytes left ≡ []
   unfolding listed_in
-  listed_end h = ap (map (λ e. record { kind = e.kind; value = value_in bytes e })) (records_end table at h)
+  listed_end left d = ap (map (λ e. record { kind = e.kind; value = value_in bytes e })) d
 
--- The records before a place of the table are passed, and what is left of it is good.
-pub record Reached (c : Characters) (bytes table : List ℕ) (m : Measure) (at : ℕ) : Type 0 where
-  pub gone : Gone c (listed_in bytes table) m (listed_in bytes (drop at table))
-  pub good : well_listed bytes (drop at table) ≡ true
-  pub inside : at ≤ length table
+-- The records before those that are left of a table are passed, and what is left is good.
+pub record Reached (c : Characters) (bytes table : List ℕ) (m : Measure) (left : List ℕ) : Type 0 where
+  pub gone : Gone c (listed_in bytes table) m (listed_in bytes left)
+  pub good : well_listed bytes left ≡ true
 
 module _ (c : Characters) (bytes table : List ℕ) where
-  pub reached_start : well_listed bytes table ≡ true → {m : Measure} → m ≡ first_measure → Reached c bytes table m 0
-  reached_start w d = record { gone = gone_start c (listed_in bytes table) d; good = w; inside = omega arith }
+  pub reached_start : well_listed bytes table ≡ true → {m : Measure} → m ≡ first_measure → Reached c bytes table m table
+  reached_start w d = record { gone = gone_start c (listed_in bytes table) d; good = w }
 
-  module _ (m : Measure) {at : ℕ} (g : Reached c bytes table m at) where
-    pub at_most : m.total ≤ length (composed_text c (listed_in bytes table))
-    at_most = gone_most c (listed_in bytes table) m g.gone
-
-    pub next_value : {r : Record} → at + 3 ≤ length table → entry_of r ≡ record_at table at → r.start + r.size ≤ length bytes
-    next_value h d = good_value bytes (drop at table) (drop (at + 3) table) (read_next table at h d) g.good
+  module _ (m : Measure) {left : List ℕ} (g : Reached c bytes table m left) (r : Record) (rest : List ℕ) (d : entries left ≡ entry_of r ∷ entries rest) where
+    pub next_value : r.start + r.size ≤ length bytes
+    next_value = good_value bytes left rest d g.good
 
     -- the text is at least as long as the next value
-    pub long_value : {r : Record} → at + 3 ≤ length table → entry_of r ≡ record_at table at → r.size ≤ length (composed_text c (listed_in bytes table))
+    pub long_value : r.size ≤ length (composed_text c (listed_in bytes table))
     unfolding value_in
-    long_value {r} h d = omega (
+    long_value = omega (
       arith,
-      next_value h d,
+      next_value,
       length-take r.size (drop r.start bytes),
       length-drop r.start bytes,
-      gone_long c (listed_in bytes table) m g.gone (item_of bytes r) (listed_in bytes (drop (at + 3) table)) (listed_next bytes table at h d),
+      gone_long c (listed_in bytes table) m g.gone (item_of bytes r) (listed_in bytes rest) (listed_next bytes left rest r d),
     )
 
-    pub reached_next : {r : Record} {n : Measure} → at + 3 ≤ length table → entry_of r ≡ record_at table at → n ≡ after c m (record_tokens (item_of bytes r))
-        → Reached c bytes table n (at + 3)
-    reached_next {r} h d e = record {
-      gone = gone_next c (listed_in bytes table) m g.gone (item_of bytes r) (listed_in bytes (drop (at + 3) table)) (listed_next bytes table at h d) e;
-      good = good_rest bytes (drop at table) (drop (at + 3) table) (read_next table at h d) g.good;
-      inside = h;
+    pub reached_next : {n : Measure} → n ≡ after c m (record_tokens (item_of bytes r)) → Reached c bytes table n rest
+    reached_next e = record {
+      gone = gone_next c (listed_in bytes table) m g.gone (item_of bytes r) (listed_in bytes rest) (listed_next bytes left rest r d) e;
+      good = good_rest bytes left rest d g.good;
     }
-
-    -- the last segment is ended
-    pub reached_end : {n : Measure} → length table ≤ at + 2 → n ≡ after c m (separator 0 0 ∷ []) → n.total ≡ length (composed_text c (listed_in bytes table))
-    reached_end h e = gone_end c (listed_in bytes table) m g.gone (listed_end bytes table at h) e

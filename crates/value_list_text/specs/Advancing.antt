@@ -1,13 +1,12 @@
 -- Records passed one after the other, where what is held back may differ by what the next separator of an element or a segment drops.
 -- Assumes nothing.
-use Rattle.std.specs.Prelude.{ℕ, ◌+◌, ◌≤◌, ◌<◌, ◌≡◌, List, length}
+use Rattle.std.specs.Prelude.{ℕ, ◌+◌, ◌≤◌, ◌≡◌, List, length}
 use Rattle.lists.specs.Lists.{gather}
 use Rattle.characters.specs.declared.Characters.{Characters}
 use Rattle.values.specs.Tokens.{Token}
 use Rattle.emission_laws.specs.declared.Measure.{Measure}
 use Rattle.emission_laws.specs.Emission.{waiting, emitted, after}
 use Rattle.operations.specs.ValueList.{Item}
-use Rattle.refusals.specs.Limits.{most_bytes}
 use Rattle.value_list_text.specs.Composing.{record_tokens}
 
 -- the tokens of records
@@ -18,12 +17,6 @@ records_tokens items = gather record_tokens items
 pub record Alike (m n : Measure) : Type 0 where
   pub total : m.total ≡ n.total
   pub elements : m.held.elements ≡ n.held.elements
-
--- The measure past records, which is known as long as the text is not over 32,000 bytes: each record holds back one separator at most.
-pub record Advanced (c : Characters) (m : Measure) (items : List Item) (r : Measure) : Type 0 where
-  pub known : r.total ≤ most_bytes → Alike r (after c m (records_tokens items))
-  pub over : most_bytes < r.total → most_bytes < (after c m (records_tokens items)).total
-  pub few : r.total ≤ most_bytes → waiting r.held ≤ waiting m.held + length items
 
 -- Records put where the text ends, and the measure past them.
 pub record Appended (holds : List ℕ → ℕ → List ℕ → List ℕ) (c : Characters) (buffer : List ℕ) (m : Measure) (items : List Item) (put : List ℕ) (r : Measure)

@@ -1,5 +1,5 @@
 -- The text of a value list: an advice, and what its records emit as tokens, from left to right. Assumes nothing.
-use Rattle.std.specs.Prelude.{ℕ, ◌≤◌, ◌≡◌, min, true, List, [], ◌∷◌, ◌++◌, ltb, length, if◌then◌else◌}
+use Rattle.std.specs.Prelude.{ℕ, ◌≤◌, ◌≡◌, min, true, List, [], ◌∷◌, ◌++◌, ltb, length, Option, Some, None, if◌then◌else◌}
 use Rattle.lists.specs.Lists.{text}
 use Rattle.characters.specs.declared.Characters.{Characters}
 use Rattle.values.specs.Tokens.{Token, separator}
@@ -39,9 +39,9 @@ module _ (c : Characters) where
 abbrev pub item_of : Bytes → Record → Item
 item_of bytes r = record { kind = r.kind; value = value_in bytes (entry_of r) }
 
--- a length, 32,001 standing for any above 32,000
-unfoldable pub capped : ℕ → ℕ
-capped n = if ltb most_bytes n then 32001 else n
+-- a length that a text may have, and none above 32,000
+unfoldable pub short_length : ℕ → Option ℕ
+short_length n = if ltb most_bytes n then None else Some n
 
 -- What is asked of a value list that is stored as a text: 15 does not refuse it, 1 and 14 do not refuse the text.
 pub record Storable (c : Characters) (bytes table buffer : List ℕ) : Type 0 where
@@ -55,6 +55,6 @@ abbrev pub HasRoom : (room : List ℕ → ℕ) → List ℕ → List ℕ → Typ
 HasRoom room composed buffer = min (length composed) 18446744073709551615 ≤ room buffer
 
 -- What is put of records behind an advice, and the length of the text: one over 32,000 bytes may be put in part.
-pub record Composes (holds : List ℕ → ℕ → List ℕ → List ℕ) (c : Characters) (items : List Item) (buffer put : List ℕ) (n : ℕ) : Type 0 where
-  pub measured : n ≡ capped (length (composed_text c items))
+pub record Composes (holds : List ℕ → ℕ → List ℕ → List ℕ) (c : Characters) (items : List Item) (buffer put : List ℕ) (n : Option ℕ) : Type 0 where
+  pub measured : n ≡ short_length (length (composed_text c items))
   pub whole : length (composed_text c items) ≤ most_bytes → put ≡ holds buffer 8 (emitted c nothing (list_tokens items))

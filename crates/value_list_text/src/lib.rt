@@ -8,7 +8,7 @@ ghost use Rattle.emission_laws.specs.Emission.{waiting};
 ghost use Rattle.held_separators.specs.Putting.{Fits, Puts};
 ghost use Rattle.operations.specs.ValueList.{rank_of, listed_in};
 ghost use Rattle.value_lists.specs.Records.{well_listed};
-ghost use Rattle.value_list_text.specs.Composing.{record_tokens, first_measure, composed_text, capped, item_of, Storable, HasRoom, Composes};
+ghost use Rattle.value_list_text.specs.Composing.{record_tokens, first_measure, composed_text, short_length, item_of, Storable, HasRoom, Composes};
 ghost use Rattle.refusals.specs.Limits.{most_numbers, most_spelled};
 
 use characters::Characters;
@@ -17,7 +17,7 @@ use held_separators::{nothing_held, put_separator, put_value};
 use storing::{Measured, Sink, Stored, put_advice};
 use value_lists::{Record, record_at, value_of};
 
-// The rank of the separator in front of a record of a kind.
+// The rank of the separator in front of a record of a kind. (Both are numbers, as `value_lists` and `held_separators` say.)
 pub fn rank_of(kind: u32) -> u8
     ensures { result ≡ rank_of kind }
 {
@@ -56,32 +56,40 @@ pub fn put_record<S: Sink>(
     put_value::<S>(buffer, kept, c, value_of(bytes, r))
 }
 
+// A length that a text may have, of which no more is asked.
+pub fn short_length(n: usize) -> Option<usize>
+    ensures { result ≡ short_length n }
+{
+    (n <= refusals::MOST_BYTES).then_some(n)
+}
+
 // Puts the records from the advice's last byte on, and returns the length of the text: the first ends the advice as it
-// would end a segment. A text over 32,000 bytes is given up where that is seen, and 32,001 is returned.
-fn put_records<S: Sink>(buffer: &mut [u8], c: Characters, bytes: &[u8], table: &[u32]) -> usize
+// would end a segment. A text over 32,000 bytes is given up where that is seen.
+fn put_records<S: Sink>(
+    buffer: &mut [u8],
+    c: Characters,
+    bytes: &[u8],
+    table: &[u32],
+) -> Option<usize>
     requires { (well_listed bytes.now table.now ≡ true) × (length table.now ≤ most_numbers) × HasRoom S.room (composed_text c (listed_in bytes.now table.now)) buffer.old }
     ensures { Composes S.holds c (listed_in bytes.now table.now) buffer.old buffer.new result }
 {
     let mut m = first_measure();
-    for k in 0..table.len() / 3 {
-        let r = record_at(table, 3 * k);
-        if refusals::MOST_BYTES < r.size as usize {
-            return 32001;
-        }
+    for numbers in table.chunks_exact(3) {
+        let r = record_at(numbers, 0);
+        short_length(r.size as usize)?;
         m = put_record::<S>(buffer, m, c, bytes, r);
-        if refusals::MOST_BYTES < m.total {
-            return 32001;
-        }
+        short_length(m.total)?;
     }
-    put_separator::<S>(buffer, m, c, 0).total
+    short_length(put_separator::<S>(buffer, m, c, 0).total)
 }
 
 // ---- the text
 
-// The length of the text; 32,001 where it is over 32,000 bytes.
-pub fn text_length(c: Characters, bytes: &[u8], table: &[u32]) -> usize
+// The length of the text, where it is no more than 32,000 bytes.
+pub fn text_length(c: Characters, bytes: &[u8], table: &[u32]) -> Option<usize>
     requires { (well_listed bytes.now table.now ≡ true) × (length table.now ≤ most_numbers) }
-    ensures { result ≡ capped (length (composed_text c (listed_in bytes.now table.now))) }
+    ensures { result ≡ short_length (length (composed_text c (listed_in bytes.now table.now))) }
 {
     put_records::<Measured>(&mut [], c, bytes, table)
 }

@@ -1,7 +1,8 @@
 -- Laws of a table's records: three numbers are the next one, the first that fails answers, and what holds of a good list.
 -- Assumes nothing.
-use Rattle.std.specs.Prelude.{if◌then◌else◌}
-use Rattle.std.proofs.Common.{◌≡◌, ℕ, suc, ◌+◌, ◌*◌, ◌%◌, ◌<◌, ◌≤◌, Bool, true, false, not, ◌&&◌, ◌||◌, eqb, ltb, List, [], ◌∷◌, ◌++◌, length, get_or, drop, sym, refl, ap, subst, ◌∙◌, ap₂, add-one, arith, length-drop, ltb-false, le-ltb, lt-ltb, eq-eqb, ne_eqb}
+use Rattle.std.specs.Prelude.{if◌then◌else◌, MatchOption}
+use Rattle.std.specs.List.{slice_get, Contains}
+use Rattle.std.proofs.Common.{◌≡◌, ℕ, zero, suc, ◌+◌, ◌%◌, ◌<◌, ◌≤◌, Bool, true, false, not, ◌&&◌, ◌||◌, eqb, ltb, List, [], ◌∷◌, ◌++◌, length, get_or, drop, sym, refl, ap, subst, ◌∙◌, ap₂, add-one, arith, length-drop, ltb-false, le-ltb, lt-ltb, eq-eqb, ne_eqb}
 use mathlib.Core.Option.{none, some, some-ne-none}
 use borrow.Author.Tests.{not-true}
 use Rattle.lists.specs.Lists.{all, any, at, maybe}
@@ -60,6 +61,23 @@ module _ (table : List ℕ) (i : ℕ) where
       few (a ∷ []) k = refl
       few (a ∷ b ∷ []) k = refl
       few (a ∷ b ∷ d ∷ l) k = absurd (omega arith)
+
+-- a record that was read from three numbers stands in front of those of the numbers behind them
+pub records_cut : (numbers rest : List ℕ) {table : List ℕ} {e : Entry} → table ≡ numbers ++ rest → length numbers ≡ 3 → e ≡ record_at numbers 0
+    → entries table ≡ e ∷ entries rest
+unfolding entries
+records_cut [] rest d h k = absurd (omega arith)
+records_cut (a ∷ []) rest d h k = absurd (omega arith)
+records_cut (a ∷ b ∷ []) rest d h k = absurd (omega arith)
+records_cut (a ∷ b ∷ z ∷ []) rest d h k = ap entries d ∙ ap (λ (x : Entry). x ∷ entries rest) (sym k)
+records_cut (a ∷ b ∷ z ∷ f ∷ more) rest d h k = absurd (omega arith)
+
+module _ {es rest : List Entry} {e : Entry} (d : es ≡ e ∷ rest) where
+  pub entry_first : Contains es e
+  entry_first = subst (λ (l : List Entry). Contains l e) (sym d) (0, omega arith, refl)
+
+  pub entry_later : (x : Entry) → Contains rest x → Contains es x
+  entry_later x (k, low, there) = subst (λ (l : List Entry). Contains l x) (sym d) (suc k, omega arith, there)
 
 -- ---- the first that fails
 
@@ -149,21 +167,15 @@ module _ (table : List ℕ) where
         (ap not (eq-eqb (length table % 3) 0 thirds))
         ∙ ap (λ (l : List Entry). maybe false (λ e. not (eqb e.kind 0)) (at l 0)) d
 
-    pub empty_good : length table ≡ 0 → bad_table table ≡ false
+    -- which is its first number, if there is one
+    pub first_told : {b : Bool} → MatchOption (slice_get table 0) (b ≡ false) (λ k. b ≡ not (eqb k 0)) → bad_table table ≡ b
     unfolding at maybe
-    empty_good h = first_asked (records_end table 0 (omega arith))
-
-    module _ (some : length table ≡ 0 → ⊥) where
-      first_record_lem : entries table ≡ record_at table 0 ∷ entries (drop 3 table)
-      first_record_lem = records_next table 0 (omega arith)
-
-      pub first_bad : (get_or table 0 0 ≡ 0 → ⊥) → bad_table table ≡ true
-      unfolding at maybe
-      first_bad h = first_asked first_record_lem ∙ ap not (ne_eqb (get_or table 0 0) 0 h)
-
-      pub first_good : get_or table 0 0 ≡ 0 → bad_table table ≡ false
-      unfolding at maybe
-      first_good h = first_asked first_record_lem ∙ ap not (eq-eqb (get_or table 0 0) 0 h)
+    first_told {b} = step table refl
+      where
+        step : (xs : List ℕ) → table ≡ xs → MatchOption (slice_get xs 0) (b ≡ false) (λ k. b ≡ not (eqb k 0)) → bad_table table ≡ b
+        step [] e h = first_asked (records_end table 0 (omega (arith, ap length e))) ∙ sym h
+        step (k ∷ ks) e h =
+            first_asked (records_next table 0 (omega (arith, thirds, ap length e))) ∙ ap (λ (l : List ℕ). not (eqb (get_or l 0 0) 0)) e ∙ sym h
 
 -- ---- a record
 
@@ -183,17 +195,19 @@ module _ (bytes : List ℕ) (e : Entry) (low : e.kind ≤ 3) (there : e.start + 
   begins_segment h d = d ∙ sym (by_start ∙ ap (λ (t : Bool). t && leads_break (value_in bytes e)) (eq-eqb e.kind 0 h))
 
 -- a value's first byte
-pub leads_none : (value : List ℕ) → length value ≡ 0 → false ≡ leads_break value
+pub leads_first : (value : List ℕ) {b : Bool} → MatchOption (slice_get value 0) (b ≡ false) (λ x. b ≡ is_break x) → b ≡ leads_break value
 unfolding leads_break at maybe
-leads_none [] h = refl
-leads_none (b ∷ bs) h = absurd (omega arith)
-
-pub leads_byte : (value : List ℕ) → (length value ≡ 0 → ⊥) → is_break (get_or value 0 0) ≡ leads_break value
-unfolding leads_break at maybe
-leads_byte [] h = absurd (h refl)
-leads_byte (b ∷ bs) h = refl
+leads_first [] h = h
+leads_first (b ∷ bs) h = h
 
 -- ---- a good list
+
+-- what passes for all passes for each
+all_tells : (t : Entry → Bool) (es : List Entry) → all t es ≡ true → (e : Entry) → Contains es e → t e ≡ true
+unfolding all
+all_tells t [] h e (k, low, there) = absurd (omega arith)
+all_tells t (x ∷ es) h e (zero, low, there) = ap t (sym there) ∙ and_left (t x) (all t es) h
+all_tells t (x ∷ es) h e (suc k, low, there) = all_tells t es (and_right (t x) (all t es) h) e (k, omega arith, there)
 
 module _ (bytes : List ℕ) where
   abbrev passes : Entry → Bool
@@ -236,39 +250,14 @@ module _ (bytes : List ℕ) where
     pub good_rest : well_listed bytes rest ≡ true
     good_rest = and_right (passes e) (well_listed bytes rest) next_good
 
--- ---- record by record
-
--- The records of a good list before number n pass.
-pub record Asked (f : Fault) (fails : Entry → Bool) (bytes table : List ℕ) (n : ℕ) : Type 0 where
-  pub moved : first_record f fails 0 (entries table) ≡ first_record f fails n (entries (drop (3 * n) table))
-  pub good : well_listed bytes (drop (3 * n) table) ≡ true
-
-module _ (f : Fault) (fails : Entry → Bool) (bytes table : List ℕ) where
-  pub asked_start : well_listed bytes table ≡ true → Asked f fails bytes table 0
-  asked_start w = record { moved = refl; good = w }
-
-  module _ (n : ℕ) (g : Asked f fails bytes table n) where
-    -- a record is read
-    module _ {e : Entry} (h : 3 * n + 3 ≤ length table) (d : e ≡ record_at table (3 * n)) where
-      next : entries (drop (3 * n) table) ≡ e ∷ entries (drop (3 * n + 3) table)
-      next = read_next table (3 * n) h d
-
-      pub asked_value : e.start + e.size ≤ length bytes
-      asked_value = good_value bytes (drop (3 * n) table) (drop (3 * n + 3) table) next g.good
-
-      pub asked_fails : fails e ≡ true → first_record f fails 0 (entries table) ≡ refuse f n
-      asked_fails t = g.moved ∙ first_fails f fails n next t
-
-      pub asked_passes : fails e ≡ false → Asked f fails bytes table (n + 1)
-      asked_passes t =
-          let on : 3 * n + 3 ≡ 3 * (n + 1) = omega arith in record {
-            moved = g.moved ∙ first_passes f fails n next t ∙ ap (λ (k : ℕ). first_record f fails (n + 1) (entries (drop k table))) on;
-            good = subst (λ (k : ℕ). well_listed bytes (drop k table) ≡ true) on
-                (good_rest bytes (drop (3 * n) table) (drop (3 * n + 3) table) next g.good);
-          }
-
-    pub asked_end : length table ≤ 3 * n + 2 → first_record f fails 0 (entries table) ≡ none
-    asked_end h = g.moved ∙ first_none f fails n (records_end table (3 * n) h)
+-- each record of a good list has its value within the bytes
+pub value_inside : (bytes table : List ℕ) → well_listed bytes table ≡ true → (e : Entry) → Contains (entries table) e → e.start + e.size ≤ length bytes
+unfolding well_listed bad_entry
+value_inside bytes table w e h =
+    let high : Bool = ltb 3 e.kind in
+    let outside : Bool = ltb (length bytes) (e.start + e.size) in
+    let sound : bad_entry bytes e ≡ false = not-true (bad_entry bytes e) (all_tells (passes bytes) (entries table) w e h) in
+    ltb-false (length bytes) (e.start + e.size) (or_none_right high outside (or_none_left (high || outside) (broken_start bytes e) sound))
 
 -- ---- 16
 

@@ -3,13 +3,13 @@
 // of the lowest record which fails. What is written of a list that passes is left to others.
 #![tactic(auto)]
 
-ghost use Rattle.std.specs.Prelude.{◌≡◌, ◌+◌, ◌≤◌, Bool, true, length};
+ghost use Rattle.std.specs.Prelude.{◌≡◌, ◌+◌, ◌≤◌, Bool, true, Contains, length};
 ghost use Rattle.std.specs.List.{list_any};
 ghost use Rattle.characters.specs.Characters.{is_service};
 ghost use Rattle.refusals.specs.declared.Fault.TheVariants.{BadList, NeedsRelease};
 ghost use Rattle.refusals.specs.Refusals.{met, lowest, outcome};
 ghost use Rattle.values.specs.Spelling.{leads_break};
-ghost use Rattle.operations.specs.ValueList.{entries, value_in};
+ghost use Rattle.operations.specs.ValueList.{Entry, entries, value_in};
 ghost use Rattle.operations.specs.Write.{numbers_where, bad_entry, bad_list, lacks_release, lacks_repetition, cannot_stand};
 ghost use Rattle.value_lists.specs.declared.Record.{Record};
 ghost use Rattle.service_places.specs.Places.{Noted};
@@ -43,7 +43,8 @@ pub fn record_at(table: &[u32], at: usize) -> Record
     }
 }
 
-// The value of a record.
+// The value of a record. (A `usize` is had of a `u32` by `as`, here and wherever numbers of a table become places: the language
+// has no `From` between them, and `try_from` would name an error that cannot come.)
 pub fn value_of(bytes: &[u8], r: Record) -> &[u8]
     requires { r.start + r.size ≤ length bytes.now }
     ensures { result.now ≡ value_in bytes.now (entry_of r) }
@@ -59,7 +60,7 @@ pub fn value_of(bytes: &[u8], r: Record) -> &[u8]
 fn leads_break(value: &[u8]) -> bool
     ensures { result ≡ leads_break value.now }
 {
-    !value.is_empty() && is_break(value[0])
+    value.first().is_some_and(|b| is_break(*b))
 }
 
 // The kind is above 3, or the value does not end within the bytes, or it begins a segment with a break.
@@ -71,12 +72,14 @@ fn is_bad(bytes: &[u8], r: Record) -> bool
         || (r.kind == 0 && leads_break(value_of(bytes, r)))
 }
 
-fn check_records(bytes: &[u8], table: &[u32]) -> Result<(), Refusal>
-    ensures { result ≡ outcome (first_record BadList (bad_entry bytes.now) 0 (entries table.now)) }
+// The first record of which the test says that it fails.
+fn check_each<F: Fn(Record) -> bool>(table: &[u32], fault: Fault, fails: F) -> Result<(), Refusal>
+    requires { (r : Record) → Contains (entries table.now) (entry_of r) → F.pre fails r }
+    ensures { (test : Entry → Bool) → ((r : Record) (t : Bool) → F.post fails r t → t ≡ test (entry_of r)) → result ≡ outcome (first_record fault test 0 (entries table.now)) }
 {
-    for n in 0..table.len() / 3 {
-        if is_bad(bytes, record_at(table, 3 * n)) {
-            return failed(Fault::BadList, n);
+    for (n, numbers) in table.chunks_exact(3).enumerate() {
+        if fails(record_at(numbers, 0)) {
+            return failed(fault, n);
         }
     }
     Ok(())
@@ -87,18 +90,18 @@ fn check_records(bytes: &[u8], table: &[u32]) -> Result<(), Refusal>
 pub fn check_list(bytes: &[u8], table: &[u32]) -> Result<(), Refusal>
     ensures { result ≡ outcome (lowest (met BadList (bad_list bytes.now table.now))) }
 {
-    if refusals::MOST_NUMBERS < table.len() || table.len() % 3 != 0 {
+    if refusals::MOST_NUMBERS < table.len()
+        || table.len() % 3 != 0
+        || table.first().is_some_and(|kind| *kind != 0)
+    {
         return failed(Fault::BadList, 0);
     }
-    match table.first() {
-        None => Ok(()),
-        Some(0) => check_records(bytes, table),
-        Some(_) => failed(Fault::BadList, 0),
-    }
+    check_each(table, Fault::BadList, |r| is_bad(bytes, r))
 }
 
 // ---- 16
 
+// (`service_places` has this test for a block's bytes, all of which it asks: this one ends at the first that passes.)
 fn holds_service(c: Characters, value: &[u8]) -> bool
     ensures { result ≡ list_any (is_service c) value.now }
 {
@@ -125,26 +128,6 @@ fn cannot_stand(c: Characters, bytes: &[u8], r: Record) -> bool
     lacks_release(c, value_of(bytes, r)) | lacks_repetition(c, r.kind)
 }
 
-// The first record of which the test says that it cannot stand.
-fn check_each<F: Fn(Characters, &[u8], Record) -> bool>(
-    c: Characters,
-    bytes: &[u8],
-    table: &[u32],
-    fails: F,
-) -> Result<(), Refusal>
-    requires good { well_listed bytes.now table.now ≡ true }
-    requires callable { (r : Record) → r.start + r.size ≤ length bytes.now → F.pre fails c bytes r }
-    requires tests { (r : Record) (t : Bool) → F.post fails c bytes r t → t ≡ cannot_stand c bytes.now (entry_of r) }
-    ensures { result ≡ outcome (first_record NeedsRelease (cannot_stand c bytes.now) 0 (entries table.now)) }
-{
-    for n in 0..table.len() / 3 {
-        if fails(c, bytes, record_at(table, 3 * n)) {
-            return failed(Fault::NeedsRelease, n);
-        }
-    }
-    Ok(())
-}
-
 // The same test where there is no release character, by the places of the service characters.
 fn cannot_stand_there(
     c: Characters,
@@ -168,17 +151,18 @@ fn check_by_places(c: Characters, bytes: &[u8], table: &[u32]) -> Result<(), Ref
 {
     let mut places = [0usize; service_places::BLOCKS];
     let size = service_places::store_places(c, bytes, &mut places);
-    check_each(c, bytes, table, |c, bytes, r| {
+    check_each(table, Fault::NeedsRelease, |r| {
         cannot_stand_there(c, bytes, size, &places, r)
     })
 }
 
 // The lengths of all records are above four times the number of bytes: many values overlap. Any answer
-// is right, also where a sum wraps; this one says which way is the shorter.
+// is right, also where a sum wraps; this one says which way is the shorter. (`sum` of the library would have to be proved not to
+// wrap.)
 fn overlaps(bytes: &[u8], table: &[u32]) -> bool {
     let mut sum: u64 = 0;
-    for k in 0..table.len() / 3 {
-        sum = sum.wrapping_add(u64::from(table[3 * k + 2]));
+    for numbers in table.chunks_exact(3) {
+        sum = sum.wrapping_add(u64::from(numbers[2]));
     }
     bytes.len() < (sum / 4) as usize
 }
@@ -191,5 +175,5 @@ pub fn check_release(c: Characters, bytes: &[u8], table: &[u32]) -> Result<(), R
     if c.release == b' ' && overlaps(bytes, table) {
         return check_by_places(c, bytes, table);
     }
-    check_each(c, bytes, table, cannot_stand)
+    check_each(table, Fault::NeedsRelease, |r| cannot_stand(c, bytes, r))
 }

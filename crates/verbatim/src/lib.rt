@@ -23,7 +23,7 @@ pub fn normal_characters(mark: u8, repetition: u8) -> Characters
     }
 }
 
-// The service characters are those of a normal form with this fifth byte.
+// The service characters are those of a normal form with this fifth byte. (`Characters` has no `==`: it would be asked here alone.)
 pub fn is_normal(c: Characters, repetition: u8) -> bool
     ensures { result ≡ is_normal c repetition }
 {

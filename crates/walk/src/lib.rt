@@ -31,7 +31,8 @@ pub fn beginning() -> Walk
 
 // A segment of this kind is allowed where the walk stands. Outside every message: "one or more groups, or
 // one or more messages, not both; then UNZ"; in a group: "A group is UNG, one or more messages, UNE."; in a
-// message: "any number of user segments and UNS, UNT".
+// message: "any number of user segments and UNS, UNT". (By standing and then by kind, as the paper's rules go: one match over both would name
+// a standing for each of its kinds.)
 fn allowed(w: Walk, kind: Kind) -> bool
     ensures { result ≡ allowed_by w kind }
 {
@@ -94,8 +95,7 @@ fn kept(kind: Kind, section: Section) -> Section
 {
     match kind {
         Kind::Unh => Section::None,
-        Kind::Unb | Kind::Ung | Kind::Uns | Kind::Unt | Kind::Une | Kind::Unz | Kind::User =>
-            section,
+        _ => section,
     }
 }
 
@@ -126,15 +126,12 @@ pub fn stepped(w: Walk, kind: Kind) -> Walk
     after
 }
 
-// The turn of a section in a message.
+// The turn of a section in a message: they stand in their order. (The definition `follows` of `walk_laws` compares turns; a derived order
+// of sections would have to be held against them first.)
 fn turn_of(section: Section) -> u8
     ensures { result ≡ turn section }
 {
-    match section {
-        Section::None => 0,
-        Section::Detail => 1,
-        Section::Summary => 2,
-    }
+    section as u8
 }
 
 // "each at most once in a message, D before S if both stand": the section that a UNS names comes after
@@ -145,7 +142,7 @@ fn may_follow(last: Section, section: Section) -> bool
     turn_of(last) < turn_of(section)
 }
 
-// Only a UNS begins a section.
+// Only a UNS begins a section. (`matches!` says here, and of other kinds elsewhere, what `kind == Kind::Uns` would by a derive.)
 pub fn is_marker(kind: Kind) -> bool
     ensures { result ≡ is_marker kind }
 {
@@ -173,7 +170,7 @@ fn later(last: Section, section: Section) -> Section
 {
     match section {
         Section::None => last,
-        Section::Detail | Section::Summary => section,
+        _ => section,
     }
 }
 

@@ -3,11 +3,13 @@
 // gives: a refused Write leaves its whole output zero.
 #![tactic(auto)]
 
-ghost use Rattle.std.specs.Prelude.{◌≡◌, true, ◌≤◌, length, take};
-ghost use Rattle.characters.specs.Characters.{six_bytes, usable};
+ghost use Rattle.std.specs.Prelude.{◌≡◌, [], ◌∷◌, length};
+ghost use Rattle.lists.specs.Lists.{maybe};
+ghost use Rattle.characters.specs.Characters.{six_bytes};
 ghost use Rattle.stages.specs.Stages.{refusal_of};
+ghost use Rattle.answers.specs.Answers.{given, refused, told_stored};
 ghost use Rattle.contracts.specs.Promises.{Writes};
-ghost use Rattle.write.specs.Writing.{Written, Refuses, WritesAfter, Passed};
+ghost use Rattle.write.specs.Writing.{Refuses, cleared, Tries, service_of, size_in};
 
 use characters::Characters;
 use refusals::{Fault, Refusal};
@@ -21,61 +23,58 @@ pub fn refuse(output: &mut [u8], r: Refusal) -> Result<usize, Refusal>
     Err(r)
 }
 
-// The same, by a fault and the place at which it is met.
-pub fn refuse_at(output: &mut [u8], fault: Fault, place: usize) -> Result<usize, Refusal>
-    ensures { Refuses (record { fault = fault; place = place }) output.old result output.new }
+// Hands an answer on, and leaves the whole output zero where it is a refusal. (`or_else` was tried: what its closure leaves in
+// the output no proof can tell.)
+pub fn cleared(output: &mut [u8], answer: Result<usize, Refusal>) -> Result<usize, Refusal>
+    ensures { (result ≡ answer) × (output.new ≡ cleared answer output.old) }
 {
-    refuse(output, Refusal { fault, place })
-}
-
-// 3 to 13, as Judge answers for the text that stands in front.
-pub fn write_judged(output: &mut [u8], n: usize) -> Result<usize, Refusal>
-    requires { n ≤ length output.old }
-    ensures { Written (refusal_of (take n output.old)) n output.old output.old result output.new }
-{
-    match judge::judge(&output[..n]) {
+    match answer {
+        Ok(n) => Ok(n),
         Err(r) => refuse(output, r),
-        Ok(_) => Ok(n),
     }
 }
 
-// 1 and 14, then the text itself.
-fn write_text(
-    service: &[u8],
-    c: Characters,
-    bytes: &[u8],
-    table: &[u32],
-    output: &mut [u8],
-) -> Result<usize, Refusal>
-    requires { (c ≡ six_bytes service.now) × (usable c ≡ true) × Passed bytes.now table.now }
-    ensures { WritesAfter 3 service.now bytes.now table.now output.old result output.new }
+// ---- stage by stage
+
+// 2, or the characters that six bytes say in the advice's order.
+pub fn check_service(service: &[u8]) -> Result<Characters, Refusal>
+    ensures { result ≡ service_of service.now }
 {
-    let n = value_list_text::text_length(c, bytes, table);
-    if refusals::MOST_BYTES < n {
-        return refuse_at(output, Fault::TooLong, 0);
+    if service.len() == 6 {
+        let c = characters_of(service);
+        if stage_opening::is_usable(c) {
+            return Ok(c);
+        }
     }
-    if output.len() < n {
-        return refuse_at(output, Fault::BufferShort, n);
-    }
-    value_list_text::put_text(output, c, bytes, table);
-    write_judged(output, n)
+    Err(Refusal {
+        fault: Fault::UnusableAdvice,
+        place: 0,
+    })
 }
 
-// 16, and what follows it.
-fn write_released(
-    service: &[u8],
-    c: Characters,
-    bytes: &[u8],
-    table: &[u32],
-    output: &mut [u8],
-) -> Result<usize, Refusal>
-    requires { (c ≡ six_bytes service.now) × (usable c ≡ true) × Passed bytes.now table.now }
-    ensures { WritesAfter 2 service.now bytes.now table.now output.old result output.new }
+// 1 and 14, or the length of the text, which is none where it is over 32,000 bytes.
+pub fn check_size(length: Option<usize>, room: usize) -> Result<usize, Refusal>
+    ensures { result ≡ size_in room length }
 {
-    match value_lists::check_release(c, bytes, table) {
-        Err(r) => refuse(output, r),
-        Ok(()) => write_text(service, c, bytes, table, output),
+    let n = length.ok_or(Refusal {
+        fault: Fault::TooLong,
+        place: 0,
+    })?;
+    if room < n {
+        return Err(Refusal {
+            fault: Fault::BufferShort,
+            place: n,
+        });
     }
+    Ok(n)
+}
+
+// 3 to 13, as Judge answers for the text, or its length.
+pub fn judged_length(text: &[u8]) -> Result<usize, Refusal>
+    ensures { told_stored result ≡ maybe (given (length text.now ∷ [])) refused (refusal_of text.now) }
+{
+    judge::judge(text)?;
+    Ok(text.len())
 }
 
 // Six bytes in the advice's order.
@@ -93,24 +92,21 @@ pub fn characters_of(service: &[u8]) -> Characters
     }
 }
 
-// 2, and what follows it.
-fn write_listed(
+// One stage after the other: 15, 2, 16, then 1 and 14, then 3 to 13 for the text that is stored.
+fn try_write(
     service: &[u8],
     bytes: &[u8],
     table: &[u32],
     output: &mut [u8],
 ) -> Result<usize, Refusal>
-    requires { Passed bytes.now table.now }
-    ensures { WritesAfter 1 service.now bytes.now table.now output.old result output.new }
+    ensures { Tries service.now bytes.now table.now output.old result output.new }
 {
-    if service.len() != 6 {
-        return refuse_at(output, Fault::UnusableAdvice, 0);
-    }
-    let c = characters_of(service);
-    if stage_opening::is_usable(c) {
-        return write_released(service, c, bytes, table, output);
-    }
-    refuse_at(output, Fault::UnusableAdvice, 0)
+    value_lists::check_list(bytes, table)?;
+    let c = check_service(service)?;
+    value_lists::check_release(c, bytes, table)?;
+    let n = check_size(value_list_text::text_length(c, bytes, table), output.len())?;
+    value_list_text::put_text(output, c, bytes, table);
+    judged_length(&output[..n])
 }
 
 // Writes the interchange that the value list and the service bytes say: any slices.
@@ -122,8 +118,6 @@ pub fn write(
 ) -> Result<usize, Refusal>
     ensures { Writes service.now bytes.now table.now output.old result output.new }
 {
-    match value_lists::check_list(bytes, table) {
-        Err(r) => refuse(output, r),
-        Ok(()) => write_listed(service, bytes, table, output),
-    }
+    let tried = try_write(service, bytes, table, output);
+    cleared(output, tried)
 }

@@ -4,6 +4,9 @@ use native.Mathlib.Omega.{arith}
 use Rattle.acknowledgement_parts.specs.declared.Part.{Part}
 use Rattle.acknowledgement_parts.specs.Parts.{lent_in, part_items, Puttable}
 use Rattle.lent_elements.specs.Leading.{Advances}
+use Rattle.value_list_text.specs.Composing.{Composes}
+use Rattle.value_list_text.proofs.Lengths.{short_tells, short_tells_over}
+use Rattle.acknowledge.specs.Rows.{row}
 use Rattle.acknowledge.proofs.Rows.{underway_start, part_ready, underway_next, underway_over, end_fits, underway_end}
 use Rattle.acknowledge.proofs.put_parts.Goals as goal
 
@@ -21,13 +24,15 @@ put_part-m-requires g c =
     subst (λ (p : Part). Puttable g.S.Sink.room x.c c.loop-i.output x.s.now x.r.characters (lent_in x.lent.now) p c.loop-i.m) (sym c.part_at.ensures)
     (part_ready g.met.S.Sink.laws x.c x.s.now (lent_in x.lent.now) x.r x.output.now c.loop-i.invariant h (known.fine i h) known.short c.requires.1)
 
-pub returns-then-m-gt-MOST_BYTES : goal.returns-then-m-gt-MOST_BYTES
-returns-then-m-gt-MOST_BYTES g c =
+pub returns-in_err-short_length : goal.returns-in_err-short_length
+returns-in_err-short_length g c =
     let x = c.args in
     let i = c.loop-i.i in
     let h = c.loop-i-test.true in
     let past = subst (λ (p : Part). Advances g.S.Sink.holds x.c c.loop-i.output c.loop-i.m (part_items x.s.now x.r.characters (lent_in x.lent.now) p) c.put_part-m.new.buffer c.put_part-m.result) c.part_at.ensures c.put_part-m.ensures in
-    underway_over g.met.S.Sink.laws x.c x.s.now (lent_in x.lent.now) x.r x.output.now c.loop-i.invariant h (c.requires.0.0.fine i h) past c.if-m-gt-MOST_BYTES.true
+    subst (Composes _ x.c (row x.s.now (lent_in x.lent.now) x.r) _ _) (sym c.from_residual.ensures)
+    (underway_over g.met.S.Sink.laws x.c x.s.now (lent_in x.lent.now) x.r x.output.now c.loop-i.invariant h (c.requires.0.0.fine i h) past
+    (short_tells_over _ c.short_length.ensures c.in_err-short_length.was))
 
 pub loop-i-preserved : goal.loop-i-preserved
 loop-i-preserved g c =
@@ -35,7 +40,7 @@ loop-i-preserved g c =
     let i = c.loop-i.i in
     let h = c.loop-i-test.true in
     let past = subst (λ (p : Part). Advances g.S.Sink.holds x.c c.loop-i.output c.loop-i.m (part_items x.s.now x.r.characters (lent_in x.lent.now) p) c.put_part-m.new.buffer c.put_part-m.result) c.part_at.ensures c.put_part-m.ensures in
-    underway_next g.met.S.Sink.laws x.c x.s.now (lent_in x.lent.now) x.r x.output.now c.loop-i.invariant h (c.requires.0.0.fine i h) past (omega (arith, c.if-m-gt-MOST_BYTES.false))
+    underway_next g.met.S.Sink.laws x.c x.s.now (lent_in x.lent.now) x.r x.output.now c.loop-i.invariant h (c.requires.0.0.fine i h) past (short_tells _ c.short_length.ensures c.in_ok-short_length.was).1
 
 pub put_separator-requires : goal.put_separator-requires
 put_separator-requires g c =
@@ -46,4 +51,5 @@ put_separator-requires g c =
 pub returns : goal.returns
 returns g c =
     let x = c.args in
-    underway_end g.met.S.Sink.laws x.c x.s.now (lent_in x.lent.now) x.r x.output.now c.loop-i.invariant c.loop-i-test.false c.put_separator.ensures
+    subst (Composes _ x.c (row x.s.now (lent_in x.lent.now) x.r) _ _) (sym c.short_length-2.ensures)
+    (underway_end g.met.S.Sink.laws x.c x.s.now (lent_in x.lent.now) x.r x.output.now c.loop-i.invariant c.loop-i-test.false c.put_separator.ensures)

@@ -3,7 +3,8 @@
 use mathlib.Core.Path.{sym, ◌∙◌, subst}
 use native.Mathlib.Omega.{arith}
 use Rattle.scanner.proofs.Scanning.{scans_as}
-use Rattle.clean_walk.specs.Clean.{Steps}
+use Rattle.ordinary_controls.proofs.Standing.{told_if}
+use Rattle.clean_walk.specs.Clean.{Steps, Cleans}
 use Rattle.clean_walk.proofs.Going.{going_begun, going_within, going_next, going_end}
 use Rattle.clean_walk.proofs.clean_walk.Goals as goal
 
@@ -23,9 +24,6 @@ step_at-requires c = (
   going_within _ _ _ c.loop-at.invariant (omega arith),
 )
 
-pub returns-in_default-step_at : goal.returns-in_default-step_at
-returns-in_default-step_at c = tt
-
 pub loop-at-smaller : goal.loop-at-smaller
 loop-at-smaller c =
     let h = scans_as _ _ _ c.segment_ended.ensures c.in-Ended.is in
@@ -37,12 +35,12 @@ loop-at-preserved c =
     let args = c.args in
     going_next args.c args.s.now args.start state.invariant c.loop-at-test.true
     (scans_as _ _ _ c.segment_ended.ensures c.in-Ended.is)
-    (subst (Steps args.c args.s.now state.at state.kept.walk state.kept.headers) c.in-Some.is c.step_at.ensures)
-
-pub returns-then-is_complete : goal.returns-then-is_complete
-returns-then-is_complete c =
-    let state = c.loop-at in
-    going_end _ _ _ state.invariant c.loop-at-test.false (sym c.is_complete.ensures ∙ c.if-is_complete.true)
+    (subst (Steps args.c args.s.now state.at state.kept.walk state.kept.headers) c.in_ok-kept.was c.step_at.ensures)
 
 pub returns : goal.returns
-returns c = tt
+returns c =
+    let state = c.loop-at in
+    let args = c.args in
+    told_if (Cleans args.c args.s.now args.start) tt c.is_complete.result state.kept.walk
+    (λ e. going_end _ _ _ state.invariant c.loop-at-test.false (sym c.is_complete.ensures ∙ e))
+    c.then_some.ensures

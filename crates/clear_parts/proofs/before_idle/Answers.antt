@@ -1,22 +1,15 @@
--- `clear_parts::before_idle` meets its contract. The loop's invariant: nothing is idle up to the `k`th byte, unless `first` bytes come before
--- it. Assumes nothing.
-use mathlib.Core.Path.{sym, ◌∙◌}
-use native.Mathlib.Omega.{arith}
-use Rattle.first_found.proofs.Firsts.{upto_next}
-use Rattle.clear_parts.proofs.before_idle.Invariants.{Stands}
+-- `clear_parts::before_idle` meets its contract: nothing is idle at a byte at which nothing is found. Assumes nothing.
+use Rattle.std.proofs.Common.{rules, arith, ◌≡◌, ◌+◌, ◌<◌, length, false}
+use lib.ListN.{get_or}
+use Rattle.first_found.proofs.Firsts.{told_between}
+use Rattle.verbatim.specs.Verbatim.{idle}
 use Rattle.clear_parts.proofs.before_idle.Goals as goal
 
-pub loop-k-preserved : goal.loop-k-preserved
-loop-k-preserved c =
-    let x = c.args in
-    let state = c.loop-k in
-    let asked = c.is_idle in
-    let found = c.least-first in (
-      omega arith,
-      λ k l m n.
-          upto_next (Stands x.c x.s.now) asked.result state.first found.result state.invariant.1 (λ e. (omega arith, rw c.from.ensures at (sym asked.ensures ∙ e))) (omega arith)
-          (λ t. omega (arith, c.place_found.ensures t)) k l (omega arith) n,
-    )
-
 pub returns : goal.returns
-returns c = let inv = c.loop-k.invariant in (omega arith, λ k l m. inv.1 k l (omega arith) (omega arith))
+returns c =
+    let x = c.args in
+    let (most, none) = c.before_first.ensures in (
+      most,
+      told_between (λ p. (p + 1 < length x.s.now) × (idle x.c (get_or x.s.now p 0) (get_or x.s.now (p + 1) 0) ≡ false))
+          (λ j l. (omega arith, search (rules, none j l))),
+    )

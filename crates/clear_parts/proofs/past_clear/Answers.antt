@@ -11,7 +11,7 @@ pub returns-then-s-at-le64 : goal.returns-then-s-at-le64
 returns-then-s-at-le64 c = c.loop-at.invariant
 
 pub before_idle-count-requires : goal.before_idle-count-requires
-before_idle-count-requires c = (c.requires, omega arith)
+before_idle-count-requires c = omega arith
 
 pub returns-then-count-lt64 : goal.returns-then-count-lt64
 returns-then-count-lt64 c =

@@ -20,6 +20,6 @@ overflow_add-result c =
     let h = five_spell c.args.f c.requires.1 (omega arith) in
     omega arith
 
-pub returns : goal.returns
+pub returns-else-f-ge6 : goal.returns-else-f-ge6
 unfolding with_digit
-returns c = simp (lt-ltb _ _ c.if-f-ge6.false) (omega arith)
+returns-else-f-ge6 c = simp (lt-ltb _ _ c.if-f-ge6.false) (omega arith)

@@ -16,9 +16,6 @@ separators-passed-requires c = omega arith
 pub returns-then-passed-ge15 : goal.returns-then-passed-ge15
 returns-then-passed-ge15 c = c.loop-at.invariant
 
-pub returns-then-left-from : goal.returns-then-left-from
-returns-then-left-from c = c.loop-at.invariant
-
 pub overflow_add-at : goal.overflow_add-at
 overflow_add-at c = omega arith
 

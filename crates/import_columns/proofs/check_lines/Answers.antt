@@ -1,7 +1,7 @@
 -- `import_columns::check_lines` meets its contract. The loop's invariant: what the text has is what it has from here on. What is left of the text falls. Assumes nothing.
 use mathlib.Core.Path.{◌∙◌}
 use native.Mathlib.Omega.{arith}
-use Rattle.import_columns.proofs.Checks.{checking_start, checking_other, checking_idle, checking_ahead, checking_next, checking_done, checking_end}
+use Rattle.import_columns.proofs.Checks.{checking_start, checking_other, checking_idle, checking_ahead, checking_next, checking_told}
 use Rattle.import_columns.proofs.check_lines.Goals as goal
 
 pub loop-at-init : goal.loop-at-init
@@ -42,12 +42,7 @@ loop-at-preserved c =
     checking_next c.args.s.now state.at state.p state.n state.least state.invariant c.in_ok-l.l (c.line_at.ensures.some c.in_ok-l.l c.in_ok-l.was)
     (omega (arith, c.if-rank_of-least.false, c.rank_of.ensures)) c.least_after-least.ensures
 
-pub returns-then-least-eq0 : goal.returns-then-least-eq0
-returns-then-least-eq0 c =
-    let state = c.loop-at in
-    checking_done c.args.s.now state.at state.p state.n state.least state.invariant c.requires c.loop-at-test.false c.if-least-eq0.true
-
 pub returns : goal.returns
 returns c =
     let state = c.loop-at in
-    checking_end c.args.s.now state.at state.p state.n state.least state.invariant c.loop-at-test.false c.if-least-eq0.false
+    c.then_some.ensures ∙ checking_told c.args.s.now state.at state.p state.n state.least state.invariant c.requires c.loop-at-test.false

@@ -11,7 +11,7 @@ returns-then-l c =
     let l = c.args.l in
     c.rank_of.ensures ∙ sym (if_true (eqb l.start l.end) (rank_of l.kind) 0 (eq-eqb l.start l.end c.if-l.true))
 
-pub returns : goal.returns
-returns c =
+pub returns-else-l : goal.returns-else-l
+returns-else-l c =
     let l = c.args.l in
     sym (if_false (eqb l.start l.end) (rank_of l.kind) 0 (ne_eqb l.start l.end c.if-l.false))

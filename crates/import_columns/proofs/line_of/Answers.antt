@@ -6,6 +6,7 @@ use lib.ListN.{length}
 use Rattle.column_walk.specs.declared.Line.{Line}
 use Rattle.column_walk.specs.Walk.{Sought}
 use Rattle.import_columns.proofs.Lines.{numbers_missing, start_inside, end_inside, end_missing, feed_missing, line_stands, sought_none, sought_some}
+use Rattle.import_columns.proofs.line_of.Goals.{then-end-s-via-then-end-s, then-end-s-via-else-end-s+then-s-end-ne10}
 use Rattle.import_columns.proofs.line_of.Goals as goal
 
 pub numbers_end-requires : goal.numbers_end-requires
@@ -27,21 +28,19 @@ pub returns-then-end-s : goal.returns-then-end-s
 returns-then-end-s c =
     let x = c.args in
     let (there, after) = c.in_ok-start.ensures in
-    sought_none x.s.now x.at x.position x.kind
-    (end_missing x.s.now x.at x.position there c.in_ok-start.start after c.value_end-end.result c.value_end-end.ensures (omega (arith, c.if-end-s.true)))
+    let start = c.in_ok-start.start in
+    let end = c.value_end-end.result in
+    let stop = c.value_end-end.ensures in
+    sought_none x.s.now x.at x.position x.kind (elim c.then-end-s.branch [
+      | then-end-s-via-then-end-s w ↦ end_missing x.s.now x.at x.position there start after end stop (omega (arith, w.if-end-s.true))
+      | then-end-s-via-else-end-s+then-s-end-ne10 w ↦ feed_missing x.s.now x.at x.position there start after end stop w.if-s-end-ne10.true
+    ])
 
 pub bounds-s-end : goal.bounds-s-end
 bounds-s-end c =
     let x = c.args in
     let (there, after) = c.in_ok-start.ensures in
     omega (arith, c.if-end-s.false, end_inside x.s.now x.at x.position there c.in_ok-start.start after c.value_end-end.result c.value_end-end.ensures)
-
-pub returns-then-s-end-ne10 : goal.returns-then-s-end-ne10
-returns-then-s-end-ne10 c =
-    let x = c.args in
-    let (there, after) = c.in_ok-start.ensures in
-    sought_none x.s.now x.at x.position x.kind
-    (feed_missing x.s.now x.at x.position there c.in_ok-start.start after c.value_end-end.result c.value_end-end.ensures c.if-s-end-ne10.true)
 
 pub returns : goal.returns
 returns c =

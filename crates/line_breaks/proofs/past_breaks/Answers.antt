@@ -1,29 +1,14 @@
--- `line_breaks::past_breaks` meets its contract. The loop's invariant: the place after the breaks from the start is the one after the breaks
--- from `at`. Assumes nothing.
-use mathlib.Core.Path.{◌≡◌, refl, sym, ◌∙◌}
-use lib.ListN.{length}
-use native.Mathlib.Omega.{arith}
-use borrow.Author.Tests.{not-true, not-false}
-use Rattle.line_breaks.proofs.Passing.{after_break, after_none, after_all_lem}
+-- `line_breaks::past_breaks` meets its contract: the bytes before the one that is found are breaks. Assumes nothing.
+use Rattle.std.proofs.Common.{rules, ◌≡◌, true, false, ◌∙◌}
+use Rattle.std.proofs.lemmas.Iterator.{first_from_Range}
+use lib.ListN.{get_or}
+use Rattle.characters.specs.Characters.{is_break}
+use Rattle.line_breaks.proofs.Passing.{after_found}
 use Rattle.line_breaks.proofs.past_breaks.Goals as goal
-
-pub loop-at-init : goal.loop-at-init
-loop-at-init c = refl
-
-pub returns-then-not-is_break : goal.returns-then-not-is_break
-returns-then-not-is_break c =
-    let told = c.is_break in
-    let loop = c.loop-at in
-    after_none _ loop.at (omega arith) (sym told.ensures ∙ not-true told.result c.if-not-is_break.true-raw) ∙ sym loop.invariant
-
-pub loop-at-preserved : goal.loop-at-preserved
-loop-at-preserved c =
-    let told = c.is_break in
-    let loop = c.loop-at in
-    loop.invariant ∙ after_break _ loop.at (omega arith) (sym told.ensures ∙ not-false told.result c.if-not-is_break.false-raw)
 
 pub returns : goal.returns
 returns c =
-    let loop = c.loop-at in
-    let all : length c.args.s.now ≡ loop.at = omega arith in
-    all ∙ after_all_lem _ loop.at (omega arith) ∙ sym loop.invariant
+    let s = c.args.s.now in
+    c.unwrap_or.ensures
+    ∙ after_found s c.args.from c.find.result c.requires
+    (first_from_Range _ _ _ _ (λ k. is_break (get_or s k 0) ≡ false) (λ k. is_break (get_or s k 0) ≡ true) c.find.ensures.ran (λ k q r. search rules) (λ k q r. search rules))

@@ -1,6 +1,5 @@
 -- `locate::part` meets its contract: the part that `part_of` names. Assumes nothing.
 use mathlib.Core.Path.{refl}
-use borrow.Author.Rules.{rules}
 use Rattle.locate.proofs.Locating.{handed}
 use Rattle.locate.proofs.part.Goals as goal
 

@@ -26,11 +26,13 @@ put_part-reached-requires g c =
     let n = c.normal_characters-n in
     let five : n.result.repetition ≡ x.repetition = ap (λ (k : Characters). k.repetition) n.ensures in
     let enough = fits_with g.S.Sink.room x.c x.s.now x.buffer.now (record { total = x.from; at = x.start }) (sym n.ensures) room in (
-      short,
-      omega arith,
-      omega (arith, so_far.measured.low, so_far.measured.on),
-      ap₂ ◌&&◌ c.is_quiet.ensures c.is_quiet-2.ensures,
-      rest_fits g.met.S.Sink.laws x.c n.result x.s.now so_far enough,
+      (
+        short,
+        omega arith,
+        omega (arith, so_far.measured.low, so_far.measured.on),
+        ap₂ ◌&&◌ c.is_quiet.ensures c.is_quiet-2.ensures,
+        rest_fits g.met.S.Sink.laws x.c n.result x.s.now so_far enough,
+      ),
       so_far.measured.sound (good, seen),
       n.ensures ∙ ap (normal_characters x.c.mark) (sym five),
       omega (arith, printed, five),

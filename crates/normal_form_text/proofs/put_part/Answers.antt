@@ -10,7 +10,8 @@ use Rattle.normal_form_text.proofs.put_part.Goals as goal
 pub put_between-total-requires : goal.put_between-total-requires
 put_between-total-requires g c =
     let x = c.args in
-    let (short, inside, low, calm, room, sound, form, printed, whole) = c.requires in
+    let (starts, sound, form, printed, whole) = c.requires in
+    let (short, inside, low, calm, room) = starts in
     let clear = c.clear_end-to.ensures in
     let mid : Reached = record { total = x.from.total; at = c.clear_end-to.result } in
     let enough = fits_with g.S.Sink.room x.by.c x.s.now x.buffer.now x.from form room in
@@ -19,7 +20,8 @@ put_between-total-requires g c =
 pub put_rest-requires : goal.put_rest-requires
 put_rest-requires g c =
     let x = c.args in
-    let (short, inside, low, calm, room, sound, form, printed, whole) = c.requires in
+    let (starts, sound, form, printed, whole) = c.requires in
+    let (short, inside, low, calm, room) = starts in
     let clear = c.clear_end-to.ensures in
     let (put, to) = c.put_between-total.ensures in
     let mid : Reached = record { total = c.put_between-total.result; at = c.clear_end-to.result } in
@@ -29,7 +31,8 @@ put_rest-requires g c =
 pub returns : goal.returns
 returns g c =
     let x = c.args in
-    let (short, inside, low, calm, room, sound, form, printed, whole) = c.requires in
+    let (starts, sound, form, printed, whole) = c.requires in
+    let (short, inside, low, calm, room) = starts in
     let clear = c.clear_end-to.ensures in
     let (put, to) = c.put_between-total.ensures in
     let mid : Reached = record { total = c.put_between-total.result; at = c.clear_end-to.result } in

@@ -1,5 +1,4 @@
 -- `parties::element_after` meets its contract: the next element, twice. Assumes nothing.
-use borrow.Author.Rules.{rules}
 use Rattle.parties.proofs.Finding.{element_again}
 use Rattle.parties.proofs.element_after.Goals as goal
 

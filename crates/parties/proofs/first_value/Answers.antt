@@ -1,7 +1,6 @@
 -- `parties::first_value` meets its contract: no byte stands from the element on, or its first value ends where it ends. Assumes nothing.
 use mathlib.Core.Path.{sym, ◌∙◌}
 use native.Mathlib.Omega.{arith}
-use borrow.Author.Rules.{rules}
 use borrow.Author.Tests.{not-true, not-false}
 use Rattle.parties.proofs.Finding.{value_none, value_some}
 use Rattle.parties.proofs.first_value.Goals as goal

@@ -13,7 +13,7 @@ first_value-requires c =
     let t = told_accepted x.s.now c.judge.ensures c.in_ok-figures.was in
     let body = c.body_start in
     let second = c.element_after-second in
-    let sender = c.run_end-sender in
+    let sender = c.past_plain-sender in
     (whole_from x.s.now t.0 t.1 body.ensures second.result 2 second.ensures.0, sender.ensures)
 
 pub first_value-requires-2 : goal.first_value-requires-2
@@ -22,9 +22,9 @@ first_value-requires-2 c =
     let t = told_accepted x.s.now c.judge.ensures c.in_ok-figures.was in
     let body = c.body_start in
     let second = c.element_after-second in
-    let sender = c.run_end-sender in
+    let sender = c.past_plain-sender in
     let third = c.next_element-third in
-    let recipient = c.run_end-recipient in
+    let recipient = c.past_plain-recipient in
     let to-third = element_past c.in_ok-figures.figures.characters x.s.now body.result second.result sender.result third.result 0 2 second.ensures.0 sender.ensures third.ensures in
     (whole_from x.s.now t.0 t.1 body.ensures third.result 3 to-third, recipient.ensures)
 
@@ -34,12 +34,12 @@ first_value-requires-3 c =
     let t = told_accepted x.s.now c.judge.ensures c.in_ok-figures.was in
     let body = c.body_start in
     let second = c.element_after-second in
-    let sender = c.run_end-sender in
+    let sender = c.past_plain-sender in
     let third = c.next_element-third in
-    let recipient = c.run_end-recipient in
+    let recipient = c.past_plain-recipient in
     let to-third = element_past c.in_ok-figures.figures.characters x.s.now body.result second.result sender.result third.result 0 2 second.ensures.0 sender.ensures third.ensures in
     let fifth = c.element_after-fifth in
-    let reference = c.run_end-reference in
+    let reference = c.past_plain-reference in
     let to-fifth = element_past c.in_ok-figures.figures.characters x.s.now body.result third.result recipient.result fifth.result 1 3 to-third recipient.ensures fifth.ensures in
     (whole_from x.s.now t.0 t.1 body.ensures fifth.result 5 to-fifth, reference.ensures)
 
@@ -55,12 +55,12 @@ returns c =
     let t = told_accepted x.s.now c.judge.ensures c.in_ok-figures.was in
     let body = c.body_start in
     let second = c.element_after-second in
-    let sender = c.run_end-sender in
+    let sender = c.past_plain-sender in
     let third = c.next_element-third in
-    let recipient = c.run_end-recipient in
+    let recipient = c.past_plain-recipient in
     let to-third = element_past c.in_ok-figures.figures.characters x.s.now body.result second.result sender.result third.result 0 2 second.ensures.0 sender.ensures third.ensures in
     let fifth = c.element_after-fifth in
-    let reference = c.run_end-reference in
+    let reference = c.past_plain-reference in
     let to-fifth = element_past c.in_ok-figures.figures.characters x.s.now body.result third.result recipient.result fifth.result 1 3 to-third recipient.ensures fifth.ensures in
     parties_found x.s.now t.0 t.1 body.ensures
     (part_is x.s.now t.0 t.1 body.ensures second.result 1 second.ensures.0 c.first_value.ensures)

@@ -1,5 +1,4 @@
 -- `release_marks::is_marked_at` meets its contract: a byte before which no release character stands is not taken for released. Assumes nothing.
-use borrow.Author.Rules.{rules}
 use borrow.Author.Tests.{ne_eqb}
 use Rattle.release_marks.specs.Marks.{marked}
 use Rattle.release_marks.proofs.is_marked_at.Goals as goal

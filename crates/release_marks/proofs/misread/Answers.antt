@@ -2,7 +2,6 @@
 use mathlib.Core.Path.{ap}
 use mathlib.Core.Bool.{Bool, not, ◌&&◌, ◌||◌}
 use lib.Dec.{eqb}
-use borrow.Author.Rules.{rules}
 use Rattle.release_marks.specs.Marks.{misread}
 use Rattle.release_marks.proofs.misread.Goals as goal
 

@@ -26,7 +26,7 @@ pub returns-in-Err : goal.returns-in-Err
 returns-in-Err c =
     let s = c.args.s.now in
     let known = c.requires in
-    reported_found s known.1 17
+    reported_found s known.1 c.with_action.ensures
     ∙ control_refused s known.0 (failed_is (answering (stages_in s 10 12)) c.in-Err.field-0 (sym (control_answer s known.1 c.check.ensures) ∙ c.in-Err.is))
 
 pub returns-in-Ok : goal.returns-in-Ok

@@ -10,7 +10,7 @@ use borrow.Author.Tests.{eq-eqb, ne_eqb}
 use Rattle.characters.specs.declared.Characters.{Characters}
 use Rattle.characters.specs.declared.Role.TheVariants.{Separator, Release, Plain}
 use Rattle.characters.specs.Characters.{role, has_release, has_repetition}
-use Rattle.scanner.proofs.role_of.Goals.{then-c-ne32+else-b-c-3, else-c-ne32}
+use Rattle.scanner.proofs.role_of.Goals.{else-c-ne32-via-then-c-ne32+else-b-c-3, else-c-ne32-via-else-c-ne32, else-c-ne32-2-via-then-c-ne32-2+else-b-c-5, else-c-ne32-2-via-else-c-ne32-2}
 use Rattle.scanner.proofs.role_of.Goals as goal
 
 module _ (c : Characters) (b : ℕ) (no_terminator : b ≡ c.terminator → ⊥) (no_element : b ≡ c.element → ⊥) where
@@ -44,18 +44,11 @@ returns-then-b-c-4 c =
     let b = c.args.b in
     sym
     (within chars b c.if-b-c.false c.if-b-c-2.false
-    (elim c.if-c-ne32.branch [ then-c-ne32+else-b-c-3 w ↦ inr w.if-b-c-3.false | else-c-ne32 w ↦ inl w.if-c-ne32.false ])
+    (elim c.else-c-ne32.branch [
+      | else-c-ne32-via-then-c-ne32+else-b-c-3 w ↦ inr w.if-b-c-3.false
+      | else-c-ne32-via-else-c-ne32 w ↦ inl w.if-c-ne32.false
+    ])
     ∙ simp (eq-eqb _ _ c.if-b-c-4.true))
-
-pub returns-then-c-eq32 : goal.returns-then-c-eq32
-unfolding has_release
-returns-then-c-eq32 c =
-    let chars = c.args.c in
-    let b = c.args.b in
-    sym
-    (within chars b c.if-b-c.false c.if-b-c-2.false
-    (elim c.if-c-ne32.branch [ then-c-ne32+else-b-c-3 w ↦ inr w.if-b-c-3.false | else-c-ne32 w ↦ inl w.if-c-ne32.false ])
-    ∙ simp (ne_eqb _ _ c.if-b-c-4.false, eq-eqb _ _ c.if-c-eq32.true))
 
 pub returns-then-b-c-5 : goal.returns-then-b-c-5
 unfolding has_release
@@ -64,8 +57,11 @@ returns-then-b-c-5 c =
     let b = c.args.b in
     sym
     (within chars b c.if-b-c.false c.if-b-c-2.false
-    (elim c.if-c-ne32.branch [ then-c-ne32+else-b-c-3 w ↦ inr w.if-b-c-3.false | else-c-ne32 w ↦ inl w.if-c-ne32.false ])
-    ∙ simp (ne_eqb _ _ c.if-b-c-4.false, ne_eqb _ _ c.if-c-eq32.false, eq-eqb _ _ c.if-b-c-5.true))
+    (elim c.else-c-ne32.branch [
+      | else-c-ne32-via-then-c-ne32+else-b-c-3 w ↦ inr w.if-b-c-3.false
+      | else-c-ne32-via-else-c-ne32 w ↦ inl w.if-c-ne32.false
+    ])
+    ∙ simp (ne_eqb _ _ c.if-b-c-4.false, ne_eqb _ _ c.if-c-ne32-2.true, eq-eqb _ _ c.if-b-c-5.true))
 
 pub returns : goal.returns
 unfolding has_release
@@ -74,5 +70,11 @@ returns c =
     let b = c.args.b in
     sym
     (within chars b c.if-b-c.false c.if-b-c-2.false
-    (elim c.if-c-ne32.branch [ then-c-ne32+else-b-c-3 w ↦ inr w.if-b-c-3.false | else-c-ne32 w ↦ inl w.if-c-ne32.false ])
-    ∙ simp (ne_eqb _ _ c.if-b-c-4.false, ne_eqb _ _ c.if-c-eq32.false, ne_eqb _ _ c.if-b-c-5.false))
+    (elim c.else-c-ne32.branch [
+      | else-c-ne32-via-then-c-ne32+else-b-c-3 w ↦ inr w.if-b-c-3.false
+      | else-c-ne32-via-else-c-ne32 w ↦ inl w.if-c-ne32.false
+    ])
+    ∙ elim c.else-c-ne32-2.branch [
+      | else-c-ne32-2-via-then-c-ne32-2+else-b-c-5 w ↦ simp (ne_eqb _ _ c.if-b-c-4.false, ne_eqb _ _ w.if-c-ne32-2.true, ne_eqb _ _ w.if-b-c-5.false)
+      | else-c-ne32-2-via-else-c-ne32-2 w ↦ simp (ne_eqb _ _ c.if-b-c-4.false, eq-eqb _ _ w.if-c-ne32-2.false)
+    ])

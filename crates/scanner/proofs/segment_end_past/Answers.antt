@@ -1,5 +1,6 @@
 -- `scanner::segment_end_past` meets its contract. The loop's invariant: what follows the next terminator from the start is what follows
 -- the next one from `at`. What is left of the input falls. Assumes nothing.
+use mathlib.Core.Logic.{inl, inr}
 use mathlib.Core.Path.{refl, sym, ap, ◌∙◌}
 use native.Mathlib.Omega.{arith}
 use native.Mathlib.Nat.{le_of_eq, pos_of_ne-zero}
@@ -13,15 +14,6 @@ use Rattle.scanner.proofs.segment_end_past.Goals as goal
 pub loop-next-init : goal.loop-next-init
 loop-next-init c = (omega arith, refl, λ h. omega arith)
 
-pub loop-next-smaller-in-Byte : goal.loop-next-smaller-in-Byte
-loop-next-smaller-in-Byte c = let l = lexes_as _ _ _ c.lex.ensures c.in-Byte.is in omega arith
-
-pub loop-next-preserved-in-Byte : goal.loop-next-preserved-in-Byte
-unfolding ends
-loop-next-preserved-in-Byte c =
-    let l = lexes_as _ _ _ c.lex.ensures c.in-Byte.is in
-    (omega arith, c.loop-next.invariant.1 ∙ beyond_miss (ends 0) l.0 refl, λ h. omega arith)
-
 pub returns-then-rank-eq0 : goal.returns-then-rank-eq0
 returns-then-rank-eq0 c =
     let l = lexes_as _ _ _ c.lex.ensures c.in-Separator.is in (
@@ -31,22 +23,51 @@ returns-then-rank-eq0 c =
       λ h. omega arith,
     )
 
-pub loop-next-smaller-in-Separator : goal.loop-next-smaller-in-Separator
-loop-next-smaller-in-Separator c = let l = lexes_as _ _ _ c.lex.ensures c.in-Separator.is in omega arith
+pub loop-next-smaller-in-Separator-1 : goal.loop-next-smaller-in-Separator-1
+loop-next-smaller-in-Separator-1 c = let l = lexes_as _ _ _ c.lex.ensures c.in-Separator.is in omega arith
 
-pub loop-next-preserved-in-Separator : goal.loop-next-preserved-in-Separator
-loop-next-preserved-in-Separator c =
+pub loop-next-preserved-in-Separator-1 : goal.loop-next-preserved-in-Separator-1
+loop-next-preserved-in-Separator-1 c =
     let l = lexes_as _ _ _ c.lex.ensures c.in-Separator.is in
     (omega arith, c.loop-next.invariant.1 ∙ beyond_miss (ends 0) l.0 (ends_no 0 _ (pos_of_ne-zero c.if-rank-eq0.false)), λ h. omega arith)
 
+pub loop-next-smaller-in-Byte : goal.loop-next-smaller-in-Byte
+loop-next-smaller-in-Byte c =
+    elim c.in-Byte.is [
+      | inl e ↦ let l = lexes_as _ _ _ c.lex.ensures e.2 in omega arith
+      | inr e ↦ let l = lexes_as _ _ _ c.lex.ensures e in omega arith
+    ]
+
+pub loop-next-preserved-in-Byte : goal.loop-next-preserved-in-Byte
+unfolding ends
+loop-next-preserved-in-Byte c =
+    elim c.in-Byte.is [
+      | inl e ↦
+          let l = lexes_as _ _ _ c.lex.ensures e.2 in
+          (omega arith, c.loop-next.invariant.1 ∙ beyond_miss (ends 0) l.0 refl, λ h. omega arith)
+      | inr e ↦
+          let l = lexes_as _ _ _ c.lex.ensures e in
+          (omega arith, c.loop-next.invariant.1 ∙ beyond_miss (ends 0) l.0 refl, λ h. omega arith)
+    ]
+
 pub loop-next-smaller : goal.loop-next-smaller
-loop-next-smaller c = let l = lexes_as _ _ _ c.lex.ensures c.in-Stray.is in omega arith
+loop-next-smaller c =
+    elim c.in-Byte.is [
+      | inl e ↦ let l = lexes_as _ _ _ c.lex.ensures e.2 in omega arith
+      | inr e ↦ let l = lexes_as _ _ _ c.lex.ensures e in omega arith
+    ]
 
 pub loop-next-preserved : goal.loop-next-preserved
 unfolding ends
 loop-next-preserved c =
-    let l = lexes_as _ _ _ c.lex.ensures c.in-Stray.is in
-    (omega arith, c.loop-next.invariant.1 ∙ beyond_miss (ends 0) l.0 refl, λ h. omega arith)
+    elim c.in-Byte.is [
+      | inl e ↦
+          let l = lexes_as _ _ _ c.lex.ensures e.2 in
+          (omega arith, c.loop-next.invariant.1 ∙ beyond_miss (ends 0) l.0 refl, λ h. omega arith)
+      | inr e ↦
+          let l = lexes_as _ _ _ c.lex.ensures e in
+          (omega arith, c.loop-next.invariant.1 ∙ beyond_miss (ends 0) l.0 refl, λ h. omega arith)
+    ]
 
 pub returns-in-End : goal.returns-in-End
 unfolding beyond

@@ -6,7 +6,7 @@ use Rattle.scanner.proofs.separated.Goals as goal
 
 pub returns-then-rank-eq0 : goal.returns-then-rank-eq0
 returns-then-rank-eq0 c =
-    ap (Separator c.args.rank) c.after_breaks.ensures ∙ terminator_is _ _ c.args.rank c.if-rank-eq0.true
+    ap (Separator c.args.rank) c.after_breaks-next.ensures ∙ terminator_is _ _ c.args.rank c.if-rank-eq0.true
 
-pub returns : goal.returns
-returns c = separator_is _ _ c.args.rank c.if-rank-eq0.false
+pub returns-else-rank-eq0 : goal.returns-else-rank-eq0
+returns-else-rank-eq0 c = separator_is _ _ c.args.rank c.if-rank-eq0.false

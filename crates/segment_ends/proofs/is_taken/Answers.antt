@@ -1,11 +1,10 @@
 -- `segment_ends::is_taken` meets its contract. Assumes nothing.
-use mathlib.Core.Path.{sym}
-use mathlib.Core.List.{[]}
+use Rattle.std.proofs.Common.{sym, ◌∙◌, []}
+use borrow.Author.Tests.{eq-eqb}
 use Rattle.segment_ends.proofs.Passing.{release_serves}
 use Rattle.segment_ends.proofs.is_taken.Goals as goal
 
 pub returns-then-b-c : goal.returns-then-b-c
-returns-then-b-c c = sym (release_serves c.args.c [] c.requires c.if-b-c.true)
-
-pub returns : goal.returns
-returns c = c.is_service.ensures
+returns-then-b-c c =
+    let x = c.args in
+    eq-eqb x.b x.c.release c.if-b-c.true ∙ sym (release_serves x.c [] c.requires c.if-b-c.true)

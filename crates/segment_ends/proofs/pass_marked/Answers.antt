@@ -36,23 +36,23 @@ past_block-requires c =
       c.requires,
     )
 
-pub pass_token-requires-in-Stop : goal.pass_token-requires-in-Stop
-pass_token-requires-in-Stop c =
+pub pass_token-requires-in-Break : goal.pass_token-requires-in-Break
+pass_token-requires-in-Break c =
     sym (ap (releasing c.args.c) c.requires)
 
-pub returns-in-Stop : goal.returns-in-Stop
-returns-in-Stop c =
+pub returns-in-Break : goal.returns-in-Break
+returns-in-Break c =
     let x = c.args in
-    let told = told_more x.c x.s.now c.loop-at.invariant c.in-Stop.ensures in
-    moves_from x.c x.s.now x.from told.0 told.1 c.pass_token-in-Stop.result c.pass_token-in-Stop.ensures
+    let told = told_more x.c x.s.now c.loop-at.invariant c.in-Break.ensures in
+    moves_from x.c x.s.now x.from told.0 told.1 c.pass_token-in-Break.result c.pass_token-in-Break.ensures
 
 pub loop-at-smaller : goal.loop-at-smaller
-loop-at-smaller c = omega (arith, c.in-On.ensures.1)
+loop-at-smaller c = omega (arith, c.in-Continue.ensures.1)
 
 pub loop-at-preserved : goal.loop-at-preserved
 loop-at-preserved c =
     let x = c.args in
-    told_more x.c x.s.now c.loop-at.invariant c.in-On.ensures.0
+    told_more x.c x.s.now c.loop-at.invariant c.in-Continue.ensures.0
 
 pub returns : goal.returns
 returns c = tt

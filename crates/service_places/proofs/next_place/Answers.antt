@@ -1,25 +1,17 @@
--- `service_places::next_place` meets its contract. The loop's invariant: the next place is that from here on. Assumes nothing.
-use mathlib.Core.Path.{◌≡◌, sym, ◌∙◌}
-use native.Mathlib.Omega.{arith}
+-- `service_places::next_place` meets its contract: the place that is found is the next one. Assumes nothing.
+use Rattle.std.proofs.Common.{rules, ◌≡◌, true, false, ap, ◌∙◌}
+use Rattle.std.proofs.lemmas.Iterator.{first_from_Range}
+use Rattle.std.specs.Option.{unwrap_or}
+use lib.ListN.{get_or}
 use Rattle.characters.specs.Characters.{is_service}
-use Rattle.service_places.proofs.Places.{next_hit, next_miss, next_end}
+use Rattle.service_places.proofs.Places.{next_found}
 use Rattle.service_places.proofs.next_place.Goals as goal
-
-pub returns-then-is_service : goal.returns-then-is_service
-returns-then-is_service c =
-    let x = c.args in
-    let state = c.loop-at in
-    next_hit (is_service x.c) x.s.now state.at c.loop-at-test.true (sym c.is_service.ensures ∙ c.if-is_service.true) ∙ sym state.invariant.0
-
-pub loop-at-preserved : goal.loop-at-preserved
-loop-at-preserved c =
-    let x = c.args in
-    let state = c.loop-at in
-    (state.invariant.0 ∙ next_miss (is_service x.c) x.s.now state.at c.loop-at-test.true (sym c.is_service.ensures ∙ c.if-is_service.false), omega arith)
 
 pub returns : goal.returns
 returns c =
     let x = c.args in
-    let state = c.loop-at in
-    let all : c.max.result ≡ state.at = omega arith in
-    all ∙ next_end (is_service x.c) x.s.now state.at c.loop-at-test.false ∙ sym state.invariant.0
+    c.unwrap_or.ensures
+    ∙ ap (unwrap_or c.find.result) c.max.ensures
+    ∙ next_found (is_service x.c) x.s.now x.from c.find.result
+    (first_from_Range _ _ _ _ (λ k. is_service x.c (get_or x.s.now k 0) ≡ true) (λ k. is_service x.c (get_or x.s.now k 0) ≡ false) c.find.ensures.ran
+    (λ k q r. search rules) (λ k q r. search rules))

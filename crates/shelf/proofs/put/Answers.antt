@@ -1,32 +1,33 @@
 -- `shelf::put` meets its contract: 19, or the summary is read from the head and lent. Assumes nothing.
 use Rattle.refusals.specs.declared.Refusal.{Refusal}
-use Rattle.std.specs.Prelude.{Result}
+use Rattle.std.specs.Prelude.{Result, Err}
+use Rattle.std.proofs.Common.{rules}
 use native.Mathlib.Omega.{arith}
-use mathlib.Core.Path.{refl, sym, ap, subst}
-use borrow.Author.Tests.{not-true, not-false}
+use mathlib.Core.Path.{◌≡◌, sym, ap, subst, ◌∙◌}
 use Rattle.shelves.specs.Layout.{Layout, version_two}
 use Rattle.shelves.proofs.Sound.{says_sound}
 use Rattle.shelves.specs.declared.Shelved.{Shelved}
 use Rattle.shelf_contracts.specs.Promises.{Puts}
-use Rattle.shelf.proofs.Lent.{as_two}
+use Rattle.shelf_soundness.proofs.Asking.{passed_sound, failed_sound}
 use Rattle.shelf.proofs.Puts.{puts_unsound}
 use Rattle.shelf.proofs.put.Goals as goal
 
-pub is_sound-requires : goal.is_sound-requires
-is_sound-requires c = omega (arith, ap (λ (l : Layout). l.pairs) c.version_two.ensures)
+pub check_sound-requires : goal.check_sound-requires
+check_sound-requires c = omega (arith, ap (λ (l : Layout). l.pairs) c.version_two.ensures)
 
-pub returns-then-not-is_sound : goal.returns-then-not-is_sound
-returns-then-not-is_sound c =
+pub returns-in_err-check_sound : goal.returns-in_err-check_sound
+returns-in_err-check_sound c =
     let x = c.args in
     let s = x.s.now in
-    subst (λ (r : Result Shelved Refusal). Puts version_two s x.input.now r s) (sym c.failed.ensures)
-    (puts_unsound version_two s x.input.now refl (as_two s c.version_two.ensures c.is_sound.ensures (not-true c.is_sound.result c.if-not-is_sound.true-raw)))
+    let e : c.from_residual.result ≡ Err c.in_err-check_sound.field-0.0 = search rules in
+    let f = failed_sound version_two s c.version_two.ensures c.check_sound.ensures c.in_err-check_sound.was in
+    subst (λ (r : Result Shelved Refusal). Puts version_two s x.input.now r s) (sym (e ∙ ap Err f.1)) (puts_unsound version_two s x.input.now f.0)
 
 pub head_of-head-requires : goal.head_of-head-requires
-head_of-head-requires c = let s = c.args.s.now in omega (arith, ((says_sound version_two s).0 (as_two s c.version_two.ensures c.is_sound.ensures (not-false c.is_sound.result c.if-not-is_sound.false-raw))).least)
+head_of-head-requires c = let s = c.args.s.now in omega (arith, ((says_sound version_two s).0 (passed_sound version_two s c.version_two.ensures c.check_sound.ensures c.in_ok-check_sound.was)).least)
 
 pub put_on-requires : goal.put_on-requires
-put_on-requires c = let s = c.args.s.now in (as_two s c.version_two.ensures c.is_sound.ensures (not-false c.is_sound.result c.if-not-is_sound.false-raw), c.head_of-head.ensures)
+put_on-requires c = let s = c.args.s.now in (passed_sound version_two s c.version_two.ensures c.check_sound.ensures c.in_ok-check_sound.was, c.head_of-head.ensures)
 
 pub returns : goal.returns
 returns c =

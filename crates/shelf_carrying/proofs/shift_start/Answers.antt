@@ -32,9 +32,9 @@ returns-then-is_occupied c =
     size
     ∙ shifted_kept from to x.map s x.slot (sym c.is_occupied.ensures ∙ c.if-is_occupied.true))
 
-pub returns : goal.returns
-returns c =
+pub returns-else-is_occupied : goal.returns-else-is_occupied
+returns-else-is_occupied c =
     let x = c.args in
-    c.put_pair-2.ensures
+    c.put_pair-else-is_occupied.ensures
     ∙ ap (sets x.s.now (pair_place (laid x.to) x.slot))
     (shifted_free (laid x.from) (laid x.to) x.map x.s.now x.slot (sym c.is_occupied.ensures ∙ c.if-is_occupied.false))

@@ -7,14 +7,14 @@ use Rattle.shelf_summary.proofs.shelved_of.Goals as goal
 
 pub returns-in-New : goal.returns-in-New
 unfolding shelved_of
-returns-in-New c = sym (ap shelved_of (c.in_ok-done.was ∙ ap Ok c.in-New.is))
+returns-in-New c = sym (ap shelved_of (c.in_ok-slot.was ∙ ap Ok c.in-New.is))
 
 pub returns-in-Copy : goal.returns-in-Copy
 unfolding shelved_of
-returns-in-Copy c = sym (ap shelved_of (c.in_ok-done.was ∙ ap Ok c.in-Copy.is))
+returns-in-Copy c = sym (ap shelved_of (c.in_ok-slot.was ∙ ap Ok c.in-Copy.is))
 
-pub returns-in_err-done : goal.returns-in_err-done
+pub returns-in_err-slot : goal.returns-in_err-slot
 unfolding shelved_of
-returns-in_err-done c =
-    let e : c.from_residual.result ≡ Err c.in_err-done.field-0.0 = search rules in
-    e ∙ sym (ap shelved_of c.in_err-done.was)
+returns-in_err-slot c =
+    let e : c.from_residual.result ≡ Err c.in_err-slot.field-0.0 = search rules in
+    e ∙ sym (ap shelved_of c.in_err-slot.was)

@@ -6,13 +6,8 @@ use lib.ListN.{length-drop}
 use Rattle.stage_bytes.proofs.Tests.{few_orderly, first_four, window_next, window_end}
 use Rattle.stage_bytes.proofs.all_orderly.Goals as goal
 
-pub returns-then-s-start : goal.returns-then-s-start
-returns-then-s-start c =
-    few_orderly c.args.c c.args.level c.args.s.now c.args.start
-    (omega (arith, length-drop c.args.start c.args.s.now))
-
-pub returns-then-s-start-lt4 : goal.returns-then-s-start-lt4
-returns-then-s-start-lt4 c =
+pub returns-then-saturating_sub-lt4 : goal.returns-then-saturating_sub-lt4
+returns-then-saturating_sub-lt4 c =
     few_orderly c.args.c c.args.level c.args.s.now c.args.start
     (omega (arith, length-drop c.args.start c.args.s.now))
 

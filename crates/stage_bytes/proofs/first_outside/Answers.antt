@@ -1,5 +1,6 @@
 -- `stage_bytes::first_outside` meets its contract. The loop's invariant: what the walk answers from the start it answers from `at`.
 -- What is left of the input falls. Assumes nothing.
+use mathlib.Core.Logic.{inl, inr}
 use mathlib.Core.Path.{refl, sym, ap, ◌∙◌}
 use native.Mathlib.Omega.{arith}
 use borrow.Author.Tests.{not-true, not-false}
@@ -17,25 +18,43 @@ returns-then-not-is_in_level c =
     let l = lexes_as c.args.c c.args.s.now c.loop-byte.at c.lex.ensures c.in-Byte.is in
     c.failed.ensures ∙ ap outcome (sym (c.loop-byte.invariant ∙ level_byte _ l.0 (sym c.is_in_level.ensures ∙ not-true c.is_in_level.result c.if-not-is_in_level.true-raw)))
 
-pub loop-byte-smaller-in-Byte : goal.loop-byte-smaller-in-Byte
-loop-byte-smaller-in-Byte c = let l = lexes_as c.args.c c.args.s.now c.loop-byte.at c.lex.ensures c.in-Byte.is in omega arith
+pub loop-byte-smaller-in-Byte-1 : goal.loop-byte-smaller-in-Byte-1
+loop-byte-smaller-in-Byte-1 c = let l = lexes_as c.args.c c.args.s.now c.loop-byte.at c.lex.ensures c.in-Byte.is in omega arith
 
-pub loop-byte-preserved-in-Byte : goal.loop-byte-preserved-in-Byte
-loop-byte-preserved-in-Byte c =
+pub loop-byte-preserved-in-Byte-1 : goal.loop-byte-preserved-in-Byte-1
+loop-byte-preserved-in-Byte-1 c =
     let l = lexes_as c.args.c c.args.s.now c.loop-byte.at c.lex.ensures c.in-Byte.is in
     c.loop-byte.invariant ∙ level_byte _ l.0 (sym c.is_in_level.ensures ∙ not-false c.is_in_level.result c.if-not-is_in_level.false-raw)
 
 pub loop-byte-smaller-in-Separator : goal.loop-byte-smaller-in-Separator
-loop-byte-smaller-in-Separator c = let l = lexes_as c.args.c c.args.s.now c.loop-byte.at c.lex.ensures c.in-Separator.is in omega arith
+loop-byte-smaller-in-Separator c =
+    elim c.in-Separator.is [
+      | inl e ↦ let l = lexes_as c.args.c c.args.s.now c.loop-byte.at c.lex.ensures e.1 in omega arith
+      | inr e ↦ let l = lexes_as c.args.c c.args.s.now c.loop-byte.at c.lex.ensures e in omega arith
+    ]
 
 pub loop-byte-preserved-in-Separator : goal.loop-byte-preserved-in-Separator
-loop-byte-preserved-in-Separator c = let l = lexes_as c.args.c c.args.s.now c.loop-byte.at c.lex.ensures c.in-Separator.is in c.loop-byte.invariant ∙ level_separator _ l.0
+loop-byte-preserved-in-Separator c =
+    c.loop-byte.invariant
+    ∙ elim c.in-Separator.is [
+      | inl e ↦ let l = lexes_as c.args.c c.args.s.now c.loop-byte.at c.lex.ensures e.1 in level_separator _ l.0
+      | inr e ↦ let l = lexes_as c.args.c c.args.s.now c.loop-byte.at c.lex.ensures e in level_fault _ l.0
+    ]
 
 pub loop-byte-smaller : goal.loop-byte-smaller
-loop-byte-smaller c = let l = lexes_as c.args.c c.args.s.now c.loop-byte.at c.lex.ensures c.in-Stray.is in omega arith
+loop-byte-smaller c =
+    elim c.in-Separator.is [
+      | inl e ↦ let l = lexes_as c.args.c c.args.s.now c.loop-byte.at c.lex.ensures e.1 in omega arith
+      | inr e ↦ let l = lexes_as c.args.c c.args.s.now c.loop-byte.at c.lex.ensures e in omega arith
+    ]
 
 pub loop-byte-preserved : goal.loop-byte-preserved
-loop-byte-preserved c = let l = lexes_as c.args.c c.args.s.now c.loop-byte.at c.lex.ensures c.in-Stray.is in c.loop-byte.invariant ∙ level_fault _ l.0
+loop-byte-preserved c =
+    c.loop-byte.invariant
+    ∙ elim c.in-Separator.is [
+      | inl e ↦ let l = lexes_as c.args.c c.args.s.now c.loop-byte.at c.lex.ensures e.1 in level_separator _ l.0
+      | inr e ↦ let l = lexes_as c.args.c c.args.s.now c.loop-byte.at c.lex.ensures e in level_fault _ l.0
+    ]
 
 pub returns-in-End : goal.returns-in-End
 unfolding outcome

@@ -5,5 +5,5 @@ use Rattle.stage_control.proofs.groups_or_messages.Goals as goal
 pub returns-then-w-eq0 : goal.returns-then-w-eq0
 returns-then-w-eq0 c = simp (eq-eqb _ 0 c.if-w-eq0.true)
 
-pub returns : goal.returns
-returns c = simp (ne_eqb _ 0 c.if-w-eq0.false)
+pub returns-else-w-eq0 : goal.returns-else-w-eq0
+returns-else-w-eq0 c = simp (ne_eqb _ 0 c.if-w-eq0.false)

@@ -6,5 +6,5 @@ use Rattle.stage_opening.proofs.body_start.Goals as goal
 pub returns-then-is_advised : goal.returns-then-is_advised
 returns-then-is_advised c = start_advised _ (sym c.is_advised.ensures ∙ c.if-is_advised.true) c.after_breaks.ensures
 
-pub returns : goal.returns
-returns c = start_plain _ (sym c.is_advised.ensures ∙ c.if-is_advised.false)
+pub returns-else-is_advised : goal.returns-else-is_advised
+returns-else-is_advised c = start_plain _ (sym c.is_advised.ensures ∙ c.if-is_advised.false)

@@ -23,7 +23,7 @@ pub returns-then-not-fits : goal.returns-then-not-fits
 returns-then-not-fits c =
     let state = c.loop-at in
     let args = c.args in
-    c.misplaced.ensures
+    c.failed.ensures
     ∙ sym
     (goes_wrong args.c args.s.now state.walk state.at c.kind_at-kind.ensures c.section_at-section.ensures
     c.loop-at-test.true

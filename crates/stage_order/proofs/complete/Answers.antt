@@ -7,6 +7,6 @@ pub returns-then-is_complete : goal.returns-then-is_complete
 unfolding completed
 returns-then-is_complete c = rw (sym c.is_complete.ensures ∙ c.if-is_complete.true)
 
-pub returns : goal.returns
+pub returns-else-is_complete : goal.returns-else-is_complete
 unfolding completed
-returns c = rw (sym c.is_complete.ensures ∙ c.if-is_complete.false) c.misplaced.ensures
+returns-else-is_complete c = rw (sym c.is_complete.ensures ∙ c.if-is_complete.false) c.failed.ensures

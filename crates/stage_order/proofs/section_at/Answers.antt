@@ -10,5 +10,5 @@ returns-then-is_marker c =
     ∙ section_read x.c x.s.now x.at c.element_at.ensures
     ∙ simp (sym c.is_marker.ensures ∙ c.if-is_marker.true)
 
-pub returns : goal.returns
-returns c = simp (sym c.is_marker.ensures ∙ c.if-is_marker.false)
+pub returns-else-is_marker : goal.returns-else-is_marker
+returns-else-is_marker c = simp (sym c.is_marker.ensures ∙ c.if-is_marker.false)

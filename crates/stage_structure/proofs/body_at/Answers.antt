@@ -31,4 +31,4 @@ returns-else-is_trailer c =
     let x = c.args in
     let goes = sym (ap (told x.c x.s.now) c.in-Ok.is) ∙ c.through_table.ensures.is in
     let trailer = sym (trailer_here x.c x.s.now _) ∙ sym (ap (is Unt) c.kind_at.ensures) ∙ sym c.is_trailer.ensures ∙ c.if-is_trailer.false in
-    left_here x.table.now x.c x.s.now x.from c.failed-in-Ok.ensures (leaves_over goes trailer c.place_in-in-Ok.ensures)
+    left_here x.table.now x.c x.s.now x.from c.failed-else-is_trailer.ensures (leaves_over goes trailer c.place_in-else-is_trailer.ensures)

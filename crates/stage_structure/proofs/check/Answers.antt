@@ -28,15 +28,15 @@ returns-in_err-at c =
     (state.invariant ∙ stage_stops x.c x.s.now x.table.now state.at c.segment_end-next.result c.loop-at-test.true c.segment_end-next.ensures
     (sym (ap (is Unh) c.kind_at.ensures) ∙ sym c.is_header.ensures ∙ c.if-is_header.true) says.0))
 
-pub loop-at-smaller-then-is_header : goal.loop-at-smaller-then-is_header
-loop-at-smaller-then-is_header c =
+pub loop-at-smaller-in_ok-at : goal.loop-at-smaller-in_ok-at
+loop-at-smaller-in_ok-at c =
     let x = c.args in
     let state = c.loop-at in
     let says = subst (Says x.table.now x.c x.s.now c.segment_end-next.result) c.in_ok-at.was c.body_at.ensures in
     omega (arith, says.2, c.segment_end-next.ensures.2 c.loop-at-test.true, c.loop-at-test.true)
 
-pub loop-at-preserved-then-is_header : goal.loop-at-preserved-then-is_header
-loop-at-preserved-then-is_header c =
+pub loop-at-preserved-in_ok-at : goal.loop-at-preserved-in_ok-at
+loop-at-preserved-in_ok-at c =
     let x = c.args in
     let state = c.loop-at in
     let says = subst (Says x.table.now x.c x.s.now c.segment_end-next.result) c.in_ok-at.was c.body_at.ensures in

@@ -11,7 +11,7 @@ returns-then-is_marked_at c = let x = c.args in (omega arith, λ n v. stays {to 
 
 pub first_stop-count-requires : goal.first_stop-count-requires
 first_stop-count-requires c =
-    (omega arith, c.requires.2, sym c.is_marked_at.ensures ∙ c.if-is_marked_at.false)
+    (omega arith, sym c.is_marked_at.ensures ∙ c.if-is_marked_at.false)
 
 pub closed-requires : goal.closed-requires
 closed-requires c = (omega arith, sym c.is_marked_at.ensures ∙ c.if-is_marked_at.false)

@@ -12,10 +12,10 @@ pub loop-at-preserved : goal.loop-at-preserved
 loop-at-preserved c n v =
     let x = c.args in
     let state = c.loop-at in
-    passes_more x.c n x.s.now (state.invariant n v) ((subst (PassesBlock x.c x.s.now state.at) c.in-On.is c.past_block.ensures).0 n v)
+    passes_more x.c n x.s.now (state.invariant n v) ((subst (PassesBlock x.c x.s.now state.at) c.in-Continue.is c.past_block.ensures).0 n v)
 
-pub returns-in-Ended : goal.returns-in-Ended
-returns-in-Ended c n v =
+pub returns-in-Break : goal.returns-in-Break
+returns-in-Break c n v =
     let x = c.args in
     let state = c.loop-at in
-    passes_more x.c n x.s.now (state.invariant n v) (subst (PassesBlock x.c x.s.now state.at) c.in-Ended.is c.past_block.ensures n v)
+    passes_more x.c n x.s.now (state.invariant n v) (subst (PassesBlock x.c x.s.now state.at) c.in-Break.is c.past_block.ensures n v)

@@ -7,9 +7,6 @@ use Rattle.stretches.proofs.past_blocks.Goals as goal
 pub loop-at-init : goal.loop-at-init
 loop-at-init c = let x = c.args in (omega arith, goes_none x.c x.n x.s.now x.from)
 
-pub before_halt-count-requires : goal.before_halt-count-requires
-before_halt-count-requires c = (omega arith, c.requires)
-
 pub returns-then-count-lt32 : goal.returns-then-count-lt32
 returns-then-count-lt32 c =
     let x = c.args in

@@ -5,16 +5,10 @@ use native.Mathlib.Omega.{arith}
 use Rattle.stretches.proofs.Stretching.{goes_passes}
 use Rattle.stretches.proofs.past_most.Goals as goal
 
-pub past_alike-requires : goal.past_alike-requires
-past_alike-requires c = c.requires
-
 pub returns-then-are_alike : goal.returns-then-are_alike
 returns-then-are_alike c =
     let x = c.args in
     c.past_alike.ensures x.n (sym c.are_alike.ensures ∙ c.if-are_alike.true)
-
-pub past_blocks-requires : goal.past_blocks-requires
-past_blocks-requires c = c.requires
 
 pub returns : goal.returns
 returns c =

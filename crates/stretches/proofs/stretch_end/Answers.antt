@@ -5,12 +5,6 @@ use native.Mathlib.Omega.{arith}
 use Rattle.stretches.proofs.Stretching.{stretched, passes_least, passes_inside, passes_more, goes_passes}
 use Rattle.stretches.proofs.stretch_end.Goals as goal
 
-pub past_most-most-requires : goal.past_most-most-requires
-past_most-most-requires c = c.ends_repeat-r.ensures
-
-pub past_last-to-requires : goal.past_last-to-requires
-past_last-to-requires c = c.ends_repeat-r.ensures
-
 pub back_to_value-requires : goal.back_to_value-requires
 back_to_value-requires c =
     let x = c.args in

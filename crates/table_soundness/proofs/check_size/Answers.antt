@@ -12,6 +12,6 @@ pub returns-then-table-eq0 : goal.returns-then-table-eq0
 unfolding whole_entries
 returns-then-table-eq0 c = size_whole c.args.table.now c.if-whole-gt-MOST.false c.if-table-eq0.true
 
-pub returns : goal.returns
+pub returns-else-table-eq0 : goal.returns-else-table-eq0
 unfolding whole_entries
-returns c = c.failed-2.ensures ∙ size_part c.args.table.now c.if-whole-gt-MOST.false c.if-table-eq0.false
+returns-else-table-eq0 c = c.failed-else-table-eq0.ensures ∙ size_part c.args.table.now c.if-whole-gt-MOST.false c.if-table-eq0.false

@@ -9,7 +9,7 @@ returns-then-word-eq3 c =
     let x = c.args in
     tag_three x.c x.s.now x.at _ c.word_at-word.ensures c.if-word-eq3.true
 
-pub returns : goal.returns
-returns c =
+pub returns-else-word-eq3 : goal.returns-else-word-eq3
+returns-else-word-eq3 c =
     let x = c.args in
     ap tag_bytes c.no_tag.ensures ∙ tag_other x.c x.s.now x.at _ c.word_at-word.ensures c.if-word-eq3.false

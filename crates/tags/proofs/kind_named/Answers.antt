@@ -4,15 +4,16 @@ use borrow.Author.Tests.{eq-eqb, ne_eqb}
 use Rattle.lists.specs.Lists.{same}
 use Rattle.segments.specs.Kinds.{kind_named}
 use Rattle.tags.proofs.Tagging.{named_as}
+use Rattle.tags.proofs.kind_named.Goals.{then-first-ne85-via-then-first-ne85, then-first-ne85-via-else-first-ne85+then-second-ne78}
 use Rattle.tags.proofs.kind_named.Goals as goal
 
 pub returns-then-first-ne85 : goal.returns-then-first-ne85
 unfolding kind_named same
-returns-then-first-ne85 c = simp (ne_eqb _ _ c.if-first-ne85.true)
-
-pub returns-then-second-ne78 : goal.returns-then-second-ne78
-unfolding kind_named same
-returns-then-second-ne78 c = simp (eq-eqb _ _ c.if-first-ne85.false, ne_eqb _ _ c.if-second-ne78.true)
+returns-then-first-ne85 c =
+    elim c.then-first-ne85.branch [
+      | then-first-ne85-via-then-first-ne85 w ↦ simp (ne_eqb _ _ w.if-first-ne85.true)
+      | then-first-ne85-via-else-first-ne85+then-second-ne78 w ↦ simp (eq-eqb _ _ w.if-first-ne85.false, ne_eqb _ _ w.if-second-ne78.true)
+    ]
 
 pub returns-in-66 : goal.returns-in-66
 unfolding kind_named same

@@ -2,17 +2,21 @@
 use Prim.Native.Nat.{ℕ, ◌+◌, ◌*◌}
 use mathlib.Core.Path.{sym, ap, ◌∙◌}
 use native.Mathlib.Omega.{arith}
-use lib.ListN.{drop}
+use lib.Dec.{eqb}
+use lib.ListN.{length, drop}
+use Rattle.lists.proofs.Tests.{fails, says_eq}
 use Rattle.inputs.specs.Number.{number_from}
 use Rattle.inputs.proofs.Numbers.{no_more, too_low, too_high, too_many, one_more, from_none, none_empty}
 use Rattle.inputs.proofs.number.number_of.Goals.{then-b-lt48-via-then-b-lt48, then-b-lt48-via-else-b-lt48+then-b-gt-NINE, then-b-lt48-via-else-b-lt48+else-b-gt-NINE+then-n-gt99999999}
 use Rattle.inputs.proofs.number.number_of.Goals as goal
 
-pub returns-then-text-eq0 : goal.returns-then-text-eq0
-returns-then-text-eq0 c = sym (none_empty _ c.if-text-eq0.true)
+pub returns-then-is_empty : goal.returns-then-is_empty
+returns-then-is_empty c = sym (none_empty _ ((says_eq (length c.args.text.now) 0).0 (sym c.is_empty.ensures ∙ c.if-is_empty.true)))
 
 pub loop-b-init : goal.loop-b-init
-loop-b-init c = (omega arith, from_none _ (omega arith))
+loop-b-init c =
+    let n = length c.args.text.now in
+    (omega arith, from_none _ (omega (arith, (fails (eqb n 0) (says_eq n 0)).0 (sym c.is_empty.ensures ∙ c.if-is_empty.false))))
 
 pub returns-then-b-lt48 : goal.returns-then-b-lt48
 returns-then-b-lt48 c =

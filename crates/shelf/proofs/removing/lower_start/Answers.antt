@@ -32,14 +32,14 @@ returns-then-start-at c =
     (ap₂ (λ (i j : ℕ). pair_of (i - x.size) j) a n
     ∙ lowered_later x.removed x.start x.size x.slot (start_of l s x.slot) (length_of l s x.slot) c.if-slot-removed.false (omega (arith, a, c.if-start-at.true)))
 
-pub returns : goal.returns
-returns c =
+pub returns-else-start-at : goal.returns-else-start-at
+returns-else-start-at c =
     let x = c.args in
     let l = laid x.l in
     let s = x.s.now in
     let a = c.start_of-at.ensures.0 in
     let n = c.length_of-n.ensures.0 in
-    c.put_pair-2.ensures
+    c.put_pair-else-start-at.ensures
     ∙ ap (sets s (pair_place l x.slot))
     (ap₂ pair_of a n
     ∙ lowered_earlier x.removed x.start x.size x.slot (start_of l s x.slot) (length_of l s x.slot) c.if-slot-removed.false (omega (arith, a, c.if-start-at.false)))

@@ -11,8 +11,8 @@ returns-then-is_occupied c =
     let o = occupied_by x.s.now x.slot known.2 c.is_occupied.ensures c.if-is_occupied.true in
     placed_kept (laid x.l) x.s.now x.slot o c.base.ensures c.start_of-start.ensures.0 c.length_of-length.ensures.0 known.3
 
-pub returns : goal.returns
-returns c =
+pub returns-else-is_occupied : goal.returns-else-is_occupied
+returns-else-is_occupied c =
     let x = c.args in
     let o = occupied_by x.s.now x.slot c.requires.2 c.is_occupied.ensures c.if-is_occupied.false in
     placed_free (laid x.l) x.s.now x.slot o c.start_of-start.ensures.0 c.length_of-length.ensures.0

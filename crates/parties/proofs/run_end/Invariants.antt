@@ -1,8 +1,0 @@
--- `parties::run_end` meets its contract. The loop's invariant: the bytes before `at` are a run. Assumes nothing.
-use Prim.Native.Nat.{max, ◌≤◌}
-use lib.ListN.{length}
-use Rattle.plain_runs.specs.Runs.{PlainRun}
-use Rattle.parties.proofs.run_end.Given as goal
-
-abbrev pub invariant-loop-at : goal.invariant-loop-at
-invariant-loop-at l = PlainRun l.c l.s l.from l.at × (l.at ≤ max l.from (length l.s))

@@ -1,6 +1,0 @@
--- The measure is the number of arguments that are left. Assumes nothing.
-use Rattle.std.proofs.Common.{◌-◌}
-use Rattle.run_locate.proofs.locate_arguments.Given as goal
-
-abbrev pub decreases-loop-i : goal.decreases-loop-i
-decreases-loop-i l = l.count - l.i
